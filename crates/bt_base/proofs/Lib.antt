@@ -1,0 +1,4 @@
+pub mod Pairs
+pub mod SameIds
+pub mod Turns
+pub mod Utf8Texts

@@ -1,0 +1,5 @@
+pub mod CommandLines
+pub mod Fails
+pub mod Ids
+pub mod Moments
+pub mod Utf8

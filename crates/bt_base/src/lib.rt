@@ -1,0 +1,26 @@
+//! What every crate of the service stands on: texts, ids, moments and command lines, lists that contracts see as
+//! such, want of memory, and the streams of bytes that a program reads and writes. Beside it, in `proofs/Turns.antt`,
+//! the measure of a loop whose steps lower a list of numbers.
+#![tactic(auto)]
+
+mod command_line;
+mod fail;
+mod id;
+mod list;
+mod memory;
+mod moment;
+mod text;
+mod utf8;
+mod word;
+mod words;
+
+pub use command_line::CommandLine;
+pub use fail::Fail;
+pub use id::{Id, IdFault, is_same};
+pub use list::{Duplicate, List, duplicates};
+pub use memory::NoMemory;
+pub use moment::Moment;
+pub use text::Text;
+pub use utf8::text_of;
+pub use word::Word;
+pub use words::LineFault;
