@@ -1,0 +1,6 @@
+pub mod Lists
+pub mod Metrics
+pub mod Keys
+pub mod State
+pub mod Changes
+pub mod Room

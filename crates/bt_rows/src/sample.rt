@@ -1,0 +1,58 @@
+ghost use Rattle.bt_rows.specs.Keys.{sample_has_key, same_sample, same_sample_equiv};
+
+use crate::lists::Row;
+use bt_base::{Duplicate, Id, NoMemory};
+
+#[derive(Clone, Copy, Debug, PartialEq, Eq)]
+pub enum Metric {
+    CpuPercent,
+    ActiveTasks,
+    RunningTasks,
+    PendingTasks,
+    SucceededTasks,
+    FailedTasks,
+    TaskSlotsPerNode,
+    CurrentDedicatedNodes,
+    CurrentLowPriorityNodes,
+    PreemptedNodeCount,
+}
+
+/// A sample of a pool's metric.
+#[derive(Clone, Debug, Drop)]
+pub struct SampleRow {
+    pub pool: Id,
+    pub metric: Metric,
+    pub label: u64,
+    pub value: i64,
+}
+
+#[derive(Debug, Drop)]
+pub struct SampleKey {
+    pub pool: Id,
+    pub metric: Metric,
+    pub label: u64,
+}
+
+impl Duplicate for SampleRow {
+    fn copy(&self) -> Result<SampleRow, NoMemory> {
+        Ok(self.clone()?)
+    }
+}
+
+impl Row for SampleRow {
+    type Key = SampleKey;
+
+    ghost has_key = { sample_has_key };
+
+    ghost same_key = { same_sample };
+
+    ghost same_key_equiv = { same_sample_equiv };
+
+    fn has_key(&self, key: &SampleKey) -> bool {
+        self.pool.same(&key.pool) && self.label == key.label && self.metric == key.metric
+    }
+
+    fn same_key(&self, other: &SampleRow) -> bool {
+        self.pool.same(&other.pool) && self.label == other.label && self.metric == other.metric
+    }
+}
