@@ -4,3 +4,5 @@ pub mod Keys
 pub mod State
 pub mod Changes
 pub mod Room
+pub mod Names
+pub mod Ranges

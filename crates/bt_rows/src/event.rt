@@ -1,20 +1,23 @@
 //! Events, and what their bodies hold.
+ghost use Rattle.std.specs.Prelude.{◌≡◌, true};
+ghost use Rattle.bt_rows.specs.Ranges.{is_event_in_range};
 
 use crate::job::ReleaseTask;
 use crate::pool::{Dealloc, Fill, StartTask};
 use crate::run::Ending;
 use crate::task::{Given, Multi};
-use bt_base::{Id, List, Text};
+use bt_base::{CommandLine, Id, List, Num, Text};
+use std::marker::Model;
 
 /// A formula, and the milliseconds between its evaluations.
-#[derive(Debug, Drop)]
+#[derive(Drop)]
 pub struct Scaling {
     pub formula: Text,
     pub interval: u64,
 }
 
 /// The body of `add-pool`.
-#[derive(Debug, Drop)]
+#[derive(Drop)]
 pub struct PoolSpec {
     pub id: Id,
     pub dedicated: u32,
@@ -28,7 +31,7 @@ pub struct PoolSpec {
 }
 
 /// The body of `resize`.
-#[derive(Debug, Drop)]
+#[derive(Drop)]
 pub struct ResizeSpec {
     pub dedicated: Option<u32>,
     pub low: Option<u32>,
@@ -37,14 +40,14 @@ pub struct ResizeSpec {
 }
 
 /// The body of `enable-autoscale`.
-#[derive(Debug, Drop)]
+#[derive(Drop)]
 pub struct ScaleSpec {
     pub formula: Option<Text>,
     pub interval: Option<u64>,
 }
 
 /// The body of `add-job` beside its id.
-#[derive(Debug, Drop)]
+#[derive(Drop)]
 pub struct JobSpec {
     pub pool: Id,
     pub priority: i32,
@@ -59,14 +62,14 @@ pub struct JobSpec {
 }
 
 /// How often a job's tasks are tried again, and how long the job may last.
-#[derive(Debug, Drop)]
+#[derive(Drop)]
 pub struct Limits {
     pub retries: i32,
     pub wall: Option<u64>,
 }
 
 /// The body of `patch-job`.
-#[derive(Debug, Drop)]
+#[derive(Drop)]
 pub struct JobPatch {
     pub priority: Option<i32>,
     pub parallel: Option<i32>,
@@ -83,10 +86,10 @@ pub enum DisableTasks {
 }
 
 /// The body of `add-task`.
-#[derive(Debug, Drop)]
+#[derive(Drop)]
 pub struct TaskSpec {
     pub id: Id,
-    pub line: Text,
+    pub line: CommandLine,
     pub slots: u8,
     pub retries: Option<i32>,
     pub wall: Option<u64>,
@@ -100,9 +103,9 @@ pub struct TaskSpec {
     pub multi: Option<Multi>,
 }
 
-/// What comes to the service from outside.
-#[derive(Debug, Drop)]
-pub enum Event {
+/// What comes to the service from outside, by its kind.
+#[derive(Drop)]
+pub enum EventKind {
     AddPool(PoolSpec),
     DeletePool(Id),
     Resize(Id, ResizeSpec),
@@ -118,11 +121,51 @@ pub enum Event {
     DeleteJob(Id),
     AddTask(Id, TaskSpec),
     AddTasks(Id, List<TaskSpec>),
+    /// A task of a job.
     DeleteTask(Id, Id),
     TerminateTask(Id, Id),
     ReactivateTask(Id, Id),
+    /// The child program of this run is being started.
     Take(u64),
+    /// The child program of this run has ended so.
     End(u64, Ending),
-    Sample(Id, i64),
+    /// A pool's processor time, in percent.
+    Sample(Id, Num),
     Tick,
+}
+
+/// What comes to the service from outside. Its values are in their ranges, which its type keeps.
+#[derive(Drop)]
+pub struct Event {
+    kind: EventKind,
+}
+
+impl Model for Event {
+    ghost use Rattle.std.specs.Prelude.{◌≡◌, true};
+    ghost use Rattle.bt_rows.specs.declared.event.EventKind.{EventKind};
+    ghost use Rattle.bt_rows.specs.Ranges.{is_event_in_range};
+
+    ghost Value = { EventKind };
+
+    ghost view = { λ e. e.kind };
+
+    ghost invariant = { λ e. is_event_in_range e.kind ≡ true };
+}
+
+impl Event {
+    /// The event of this kind, whose values are in their ranges.
+    pub fn new(kind: EventKind) -> Event
+        requires { is_event_in_range kind ≡ true }
+        ensures { result ≡ kind }
+    {
+        Event { kind }
+    }
+
+    /// Its kind.
+    pub fn kind(&self) -> &EventKind
+        ensures kind { result.now ≡ self.now }
+        ensures ranges { is_event_in_range self.now ≡ true }
+    {
+        &self.kind
+    }
 }

@@ -2,7 +2,7 @@ ghost use Rattle.bt_rows.specs.Keys.{job_has_id, same_job, same_job_equiv};
 
 use crate::lists::Row;
 use crate::pool::StartTask;
-use bt_base::{Duplicate, Id, NoMemory, Text};
+use bt_base::{CommandLine, Duplicate, Id, NoMemory, Text};
 
 #[derive(Clone, Copy, Debug, PartialEq, Eq)]
 pub enum JobState {
@@ -15,14 +15,14 @@ pub enum JobState {
     Deleting,
 }
 
-#[derive(Clone, Debug, Drop)]
+#[derive(Clone, Drop)]
 pub struct ReleaseTask {
-    pub line: Text,
+    pub line: CommandLine,
     pub wall: u64,
 }
 
 /// A job.
-#[derive(Clone, Debug, Drop)]
+#[derive(Clone, Drop)]
 pub struct JobRow {
     pub id: Id,
     pub pool: Id,

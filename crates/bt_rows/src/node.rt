@@ -13,7 +13,7 @@ pub enum NodeStage {
 }
 
 /// A node of a pool, on a seat.
-#[derive(Clone, Debug, Drop)]
+#[derive(Clone, Drop)]
 pub struct NodeRow {
     pub number: u64,
     pub pool: Id,

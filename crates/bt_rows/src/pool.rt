@@ -1,7 +1,7 @@
 ghost use Rattle.bt_rows.specs.Keys.{pool_has_id, same_pool, same_pool_equiv};
 
 use crate::lists::Row;
-use bt_base::{Duplicate, Id, NoMemory, Text};
+use bt_base::{CommandLine, Duplicate, Id, NoMemory};
 
 #[derive(Clone, Copy, Debug, PartialEq, Eq)]
 pub enum Alloc {
@@ -30,15 +30,15 @@ pub enum ResizeError {
     ResizeStopped,
 }
 
-#[derive(Clone, Debug, Drop)]
+#[derive(Clone, Drop)]
 pub struct StartTask {
-    pub line: Text,
+    pub line: CommandLine,
     pub retries: i32,
     pub wait: bool,
 }
 
 /// A pool.
-#[derive(Clone, Debug, Drop)]
+#[derive(Clone, Drop)]
 pub struct PoolRow {
     pub id: Id,
     pub deleting: bool,

@@ -18,7 +18,7 @@ pub enum ReleaseState {
 }
 
 /// A job's preparation on a node.
-#[derive(Clone, Debug, Drop)]
+#[derive(Clone, Drop)]
 pub struct PrepRow {
     pub job: Id,
     pub node: u64,
@@ -28,7 +28,7 @@ pub struct PrepRow {
     pub release: ReleaseState,
 }
 
-#[derive(Debug, Drop)]
+#[derive(Drop)]
 pub struct PrepKey {
     pub job: Id,
     pub node: u64,

@@ -1,134 +1,121 @@
-//! Refusals, replies, and what a due step tells.
+//! Replies.
 
+use crate::due::Due;
 use crate::job::JobState;
-use bt_base::{Id, List, Text};
-
-/// A table with a limit on its rows.
-#[derive(Clone, Copy, Debug, PartialEq, Eq)]
-pub enum Table {
-    Pools,
-    Jobs,
-    Tasks,
-}
-
-/// Why an event is refused.
-#[derive(Debug, Drop)]
-pub enum Refusal {
-    UnreadableBody,
-    InvalidPropertyValue(Text),
-    PoolNotFound,
-    PoolExists,
-    PoolBeingDeleted,
-    PoolBeingResized,
-    PoolScalesAutomatically,
-    PoolDoesNotScale,
-    /// The moment of the last call.
-    AutoscaleTooSoon(u64),
-    /// The fault's name and its place.
-    FormulaRefused(Text, u64),
-    NodeNotFound,
-    PoolNotResizing,
-    JobNotFound,
-    JobExists,
-    JobStateRefuses(JobState),
-    TaskNotFound,
-    TaskExists,
-    TaskCompleted,
-    TaskNotReactivable,
-    DependenciesOff,
-    DependencyListTooLong,
-    JobActionOff,
-    InstanceSlots,
-    CollectionTooLong,
-    RunNotFound,
-    RunAlreadyEnded,
-    RunAlreadyTaken,
-    RunNotTaken,
-    RunWithdrawn,
-    RunWaiting,
-    /// The table and its limit.
-    TableFull(Table, u64),
-    /// The newest label.
-    SampleTooOld(u64),
-    TerminationEngaged,
-}
+use crate::node::NodeStage;
+use crate::pool::{Alloc, ResizeError};
+use crate::refusal::Refusal;
+use crate::task::How;
+use bt_base::{CommandLine, Id, List, Text, Word};
 
 /// The answer to one element of a collection.
-#[derive(Debug, Drop)]
+#[derive(Drop)]
 pub enum Element {
+    /// The task with this id was added.
     Added(Id),
+    /// The task with this id was not added.
     NotAdded(Id, Refusal),
 }
 
-/// How a placed task was settled.
+/// A pool as a reply shows it.
+#[derive(Drop)]
+pub struct PoolItem {
+    pub id: Id,
+    pub deleting: bool,
+    pub alloc: Alloc,
+    pub current_dedicated: u64,
+    pub current_low: u64,
+    pub dedicated: u32,
+    pub low: u32,
+    pub slots: u8,
+    pub scales: bool,
+    pub error: Option<ResizeError>,
+}
+
+/// A node as a reply shows it. A starting node's start task runs, or it does not yet; a usable node holds slots, or it is
+/// idle.
+#[derive(Drop)]
+pub struct NodeItem {
+    pub number: u64,
+    pub seat: u8,
+    pub stage: NodeStage,
+    pub busy: bool,
+}
+
+/// A job as a reply shows it.
+#[derive(Drop)]
+pub struct JobItem {
+    pub id: Id,
+    pub pool: Id,
+    pub state: JobState,
+    pub priority: i32,
+    pub parallel: i32,
+    pub reason: Option<Text>,
+}
+
+/// The state of a task as a reply shows it.
 #[derive(Clone, Copy, Debug, PartialEq, Eq)]
-pub enum Outcome {
-    Deleted,
-    Success,
-    Failure,
-    /// Active again, with so many failures.
-    Again(u64),
+pub enum TaskState {
+    Active,
+    Preparing,
+    Running,
+    Completed,
 }
 
-/// How a job ended.
+/// A task as a reply shows it.
+#[derive(Drop)]
+pub struct TaskItem {
+    pub id: Id,
+    pub line: CommandLine,
+    pub state: TaskState,
+    pub how: Option<How>,
+    pub success: Option<bool>,
+    pub failures: u64,
+}
+
+/// How many tasks of a job are in each state.
 #[derive(Clone, Copy, Debug, PartialEq, Eq)]
-pub enum JobEnd {
-    Kept,
-    Removed,
+pub struct TaskCounts {
+    pub active: u64,
+    pub running: u64,
+    pub completed: u64,
+    pub succeeded: u64,
+    pub failed: u64,
 }
 
-/// How a resize ended.
-#[derive(Clone, Copy, Debug, PartialEq, Eq)]
-pub enum ResizeEnd {
-    Removed,
-    Reached,
-    TimedOut,
-    Stopped,
+/// What a read shows.
+#[derive(Drop)]
+pub enum Item {
+    Pool(PoolItem),
+    Node(NodeItem),
+    Job(JobItem),
+    Task(TaskItem),
+    Counts(TaskCounts),
 }
 
-/// A due step, with the values that its line prints.
-#[derive(Debug, Drop)]
-pub enum Due {
-    /// `U1`: a pool and the label of its samples.
-    Sampled(Id, u64),
-    /// `U2`: a job and its task.
-    TaskTimedOut(Id, Id),
-    /// `U3`: a release run.
-    ReleaseTimedOut(u64),
-    /// `U4`
-    JobTimedOut(Id),
-    /// `U5`: a job, its task and what became of it.
-    TaskSettled(Id, Id, Outcome),
-    /// `U6`
-    JobEnabled(Id),
-    /// `U7`
-    TasksDone(Id),
-    /// `U8`
-    JobDisabled(Id),
-    /// `U9`: a job, a node and the release run there.
-    ReleaseMade(Id, u64, u64),
-    /// `U10`
-    JobEnded(Id, JobEnd),
-    /// `U11`
-    PoolResized(Id, ResizeEnd),
-    /// `U12`: a pool and its results text.
-    PoolScaled(Id, Text),
-    /// `U13`
-    NodeLeaves(u64),
-    /// `U14`
-    NodeDropped(u64),
-    /// `U15`: a pool, its new node and the node's seat.
-    NodeAdded(Id, u64, u8),
-    /// `U16`: a job, its task, the first node and the task's first run.
-    TaskPlaced(Id, Id, u64, u64),
+/// A queued run, and the words that its child program is given.
+#[derive(Drop)]
+pub struct QueuedRun {
+    pub number: u64,
+    pub words: List<Word>,
 }
 
-/// The answer to an event, or a due step's.
-#[derive(Debug, Drop)]
+/// The answer to an event, a read or a due step.
+#[derive(Drop)]
 pub enum Reply {
+    /// The status of HTTP alone.
     Status(u16),
     Refused(Refusal),
+    /// One for each element of a collection, in order.
     Elements(List<Element>),
+    /// The results text of a formula.
     Results(Text),
+    One(Item),
+    /// The items of a list, and the last id where more follow.
+    Page(List<Item>, Option<Id>),
+    /// The lowest queued run at a seat.
+    Queued(Option<QueuedRun>),
+    /// The runs that are asked to stop.
+    AskedRuns(List<u64>),
     Step(Due),
 }

@@ -1,7 +1,7 @@
 ghost use Rattle.bt_rows.specs.Keys.{run_has_number, same_run, same_run_equiv};
 
 use crate::lists::Row;
-use bt_base::{Duplicate, Id, NoMemory, Text};
+use bt_base::{CommandLine, Duplicate, Id, NoMemory};
 
 #[derive(Clone, Copy, Debug, PartialEq, Eq)]
 pub enum Ending {
@@ -29,7 +29,7 @@ pub enum RunState {
 }
 
 /// A run on a node.
-#[derive(Clone, Debug, Drop)]
+#[derive(Clone, Drop)]
 pub struct RunRow {
     pub number: u64,
     pub kind: RunKind,
@@ -38,7 +38,7 @@ pub struct RunRow {
     pub job: Option<Id>,
     pub task: Option<Id>,
     pub attempt: u64,
-    pub line: Text,
+    pub line: CommandLine,
     pub slots: u8,
     pub state: RunState,
     pub asked: bool,

@@ -1,7 +1,7 @@
 ghost use Rattle.bt_rows.specs.Keys.{sample_has_key, same_sample, same_sample_equiv};
 
 use crate::lists::Row;
-use bt_base::{Duplicate, Id, NoMemory};
+use bt_base::{Duplicate, Id, NoMemory, Num};
 
 #[derive(Clone, Copy, Debug, PartialEq, Eq)]
 pub enum Metric {
@@ -18,15 +18,15 @@ pub enum Metric {
 }
 
 /// A sample of a pool's metric.
-#[derive(Clone, Debug, Drop)]
+#[derive(Clone, Drop)]
 pub struct SampleRow {
     pub pool: Id,
     pub metric: Metric,
     pub label: u64,
-    pub value: i64,
+    pub value: Num,
 }
 
-#[derive(Debug, Drop)]
+#[derive(Drop)]
 pub struct SampleKey {
     pub pool: Id,
     pub metric: Metric,

@@ -4,7 +4,7 @@ use crate::lists::Row;
 use bt_base::{Duplicate, Id, NoMemory, Text};
 
 /// How a pool scales.
-#[derive(Clone, Debug, Drop)]
+#[derive(Clone, Drop)]
 pub struct ScaleRow {
     pub pool: Id,
     pub formula: Text,

@@ -53,7 +53,7 @@ impl Model for Tables {
 }
 
 /// One change of the tables.
-#[derive(Debug, Drop)]
+#[derive(Drop)]
 pub enum Change {
     PutPool(PoolRow),
     DropPool(Id),
@@ -181,11 +181,12 @@ impl Tables {
         })
     }
 
-    /// Takes room for so many changes.
-    pub fn reserve(&mut self, changes: usize) -> Result<(), NoMemory>
+    /// Takes room for these changes.
+    pub fn reserve(&mut self, changes: &[Change]) -> Result<(), NoMemory>
         ensures state { self.new.state ≡ self.old.state }
-        ensures room { OnOk result (changes ≤ self.new.room) }
+        ensures room { OnOk result (length changes.now ≤ self.new.room) }
     {
+        let changes = changes.len();
         self.pools.reserve(changes)?;
         self.nodes.reserve(changes)?;
         self.jobs.reserve(changes)?;

@@ -3,7 +3,7 @@ ghost use Rattle.std.specs.Prelude.{◌≡◌, IfOk};
 
 use crate::lists::Row;
 use crate::run::Ending;
-use bt_base::{Duplicate, Id, List, NoMemory, Text};
+use bt_base::{CommandLine, Duplicate, Id, List, NoMemory};
 
 #[derive(Clone, Copy, Debug, PartialEq, Eq)]
 pub enum JobAction {
@@ -25,10 +25,10 @@ pub struct Options {
     pub satisfies: bool,
 }
 
-#[derive(Debug, Drop)]
+#[derive(Drop)]
 pub struct Multi {
     pub count: u8,
-    pub line: Text,
+    pub line: CommandLine,
 }
 
 #[derive(Clone, Copy, Debug, PartialEq, Eq)]
@@ -62,11 +62,11 @@ pub struct Closed {
 }
 
 /// A task of a job.
-#[derive(Debug, Drop)]
+#[derive(Drop)]
 pub struct TaskRow {
     pub job: Id,
     pub id: Id,
-    pub line: Text,
+    pub line: CommandLine,
     pub slots: u8,
     pub retries: Option<i32>,
     pub wall: Option<u64>,
@@ -135,7 +135,7 @@ fn copy_multi(multi: &Option<Multi>) -> Result<Option<Multi>, NoMemory>
     }
 }
 
-#[derive(Debug, Drop)]
+#[derive(Drop)]
 pub struct TaskKey {
     pub job: Id,
     pub id: Id,
