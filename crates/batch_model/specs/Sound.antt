@@ -30,8 +30,9 @@ pub record KeysAreDistinct (s : State) : Type 0 where
 abbrev pub are_out_of_order : NodeRow → NodeRow → Bool
 are_out_of_order node later = nat_le later.number node.number
 
--- no number is given twice, and nodes stand in the order of their numbers
+-- no number is given twice, run numbers begin at 1, and nodes stand in the order of their numbers
 pub record NumbersAreNew (s : State) : Type 0 where
+  pub begun : 0 < s.next_run
   pub runs : Each (λ run. nat_lt run.number s.next_run) s.runs
   pub nodes : Each (λ node. nat_lt node.number s.next_node) s.nodes
   pub nodes_of_runs : Each (λ run. nat_lt run.node s.next_node) s.runs
