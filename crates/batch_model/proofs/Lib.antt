@@ -1,0 +1,10 @@
+pub mod Tests
+pub mod RowLists
+pub mod ChangedRows
+pub mod DistinctLists
+pub mod RowSums
+pub mod DueCases
+pub mod DueFalls
+pub mod KeyedLists
+pub mod NodeAdded
+pub mod PoolSteady
