@@ -1,2 +1,5 @@
 pub mod Tests
 pub mod RowLists
+pub mod ChangedRows
+pub mod DistinctLists
+pub mod RowSums

@@ -1,10 +1,9 @@
 -- Tests of lists of rows: each row passes, some row passes, the first that passes; where a row is added, and where rows
 -- change in place.
-use Rattle.std.proofs.Common.{◌≡◌, Bool, true, false, not, ◌&&◌, ◌||◌, List, [], ◌∷◌, ◌++◌, Option, Some, None, cond, is_some, refl, sym, ◌∙◌, ap, subst}
+use Rattle.std.proofs.Common.{◌≡◌, Bool, true, false, not, ◌&&◌, ◌||◌, List, [], ◌∷◌, ◌++◌, Option, Some, None, cond, refl, ◌∙◌, ap, subst}
 use Rattle.std.specs.List.{list_any, list_all, find}
-use Rattle.std.specs.Option.{option_map}
-use Rattle.batch_model.specs.Finding.{Each, change_where}
-use Rattle.batch_model.proofs.Tests.{and_true, and_first, and_second, or_first, or_second, or_cases, or_false, or_false_first, or_false_second, not_true, true_not, alike}
+use Rattle.batch_model.specs.Finding.{Each}
+use Rattle.batch_model.proofs.Tests.{and_true, and_first, and_second, or_first, or_second, or_false, or_false_first, or_false_second, not_true, true_not}
 
 module _ {R : Type 0} where
   -- each row
