@@ -3,3 +3,7 @@ pub mod RowLists
 pub mod ChangedRows
 pub mod DistinctLists
 pub mod RowSums
+pub mod SoundMoment
+pub mod PoolAdded
+pub mod JobAdded
+pub mod TaskAdded

@@ -1,7 +1,7 @@
 -- Tests of lists of rows: each row passes, some row passes, the first that passes; where a row is added, and where rows
 -- change in place.
 use Rattle.std.proofs.Common.{◌≡◌, Bool, true, false, not, ◌&&◌, ◌||◌, List, [], ◌∷◌, ◌++◌, Option, Some, None, cond, refl, ◌∙◌, ap, subst}
-use Rattle.std.specs.List.{list_any, list_all, find}
+use Rattle.std.specs.List.{list_any, list_all, find, filter}
 use Rattle.batch_model.specs.Finding.{Each}
 use Rattle.batch_model.proofs.Tests.{and_true, and_first, and_second, or_first, or_second, or_false, or_false_first, or_false_second, not_true, true_not}
 
@@ -192,3 +192,13 @@ module _ {R : Type 0} where
   pub find_append_same : (test : R → Bool) (xs : List R) (row : R) → test row ≡ false → find test (xs ++ row ∷ []) ≡ find test xs
   find_append_same test [] row h = rw h refl
   find_append_same test (y ∷ ys) row h = ap (λ o. cond (test y) (Some y) o) (find_append_same test ys row h)
+
+  -- the rows that pass, by tests that are alike on each row
+  pub filter_agree : (p q : R → Bool) → ((x : R) → p x ≡ q x) → (xs : List R) → filter p xs ≡ filter q xs
+  filter_agree p q agree [] = refl
+  filter_agree p q agree (x ∷ xs) = rw (agree x, filter_agree p q agree xs) refl
+
+  -- the rows that pass, by tests that are alike on each row of the list
+  pub filter_agree_where : (a p q : R → Bool) → ((x : R) → a x ≡ true → p x ≡ q x) → (xs : List R) → Each a xs → filter p xs ≡ filter q xs
+  filter_agree_where a p q agree [] h = refl
+  filter_agree_where a p q agree (x ∷ xs) h = rw (agree x (each_head a x xs h), filter_agree_where a p q agree xs (each_tail a x xs h)) refl
