@@ -8,3 +8,7 @@ pub mod DueFalls
 pub mod KeyedLists
 pub mod NodeAdded
 pub mod PoolSteady
+pub mod SoundMoment
+pub mod PoolAdded
+pub mod JobAdded
+pub mod TaskAdded
