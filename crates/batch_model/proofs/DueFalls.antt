@@ -99,11 +99,11 @@ completed_falls seats s task ending h f =
 -- a task that is placed
 
 -- a task that can be placed is active
-placeable_active : (job : JobRow) (task : TaskRow) → is_placeable job task ≡ true → is_active task.stage ≡ true
+pub placeable_active : (job : JobRow) (task : TaskRow) → is_placeable job task ≡ true → is_active task.stage ≡ true
 placeable_active job task h = and_first _ _ (and_first _ _ (and_first _ _ (and_first _ _ (and_first _ _ h))))
 
 -- an active task isn't completed
-active_counts : (stage : TaskStage) → is_active stage ≡ true → is_completed stage ≡ false
+pub active_counts : (stage : TaskStage) → is_active stage ≡ true → is_completed stage ≡ false
 active_counts Active h = refl
 active_counts Placed h = cc
 active_counts Completed h = cc
@@ -116,7 +116,7 @@ step_if_busy : (s : State) (task : TaskRow) → is_busy s (placed task) ≡ true
 step_if_busy s task h = rw h refl
 
 -- the new run is one of the placed task's present attempt
-new_run_present : (s : State) (node : NodeRow) (task : TaskRow) → is_busy (place s node task).state (placed task) ≡ true
+pub new_run_present : (s : State) (node : NodeRow) (task : TaskRow) → is_busy (place s node task).state (placed task) ≡ true
 new_run_present s node task =
     any_append_new (is_busy_for (placed task)) s.runs (work_run s node (placed task) TaskRun task.line task.slots Queued)
     (and_true (and_true (and_true (same_equiv.refl task.job) (same_equiv.refl task.id)) ((Decides-eqb (task.attempt + 1) (task.attempt + 1)).1 refl)) refl)

@@ -7,30 +7,8 @@ use Rattle.std.proofs.lemmas.List.Sums.{sum_by-cons}
 use Rattle.bt_rows.specs.Lists.{AreDistinct, put_row}
 use Rattle.bt_rows.proofs.DistinctRows.{sum_by-put}
 use Rattle.batch_model.specs.Finding.{Each, change_where}
-
-module _ {R : Type 0} where
-  -- tests that agree pass alike
-  any_agree : (p q : R → Bool) → ((x : R) → p x ≡ q x) → (xs : List R) → list_any p xs ≡ list_any q xs
-  any_agree p q agree [] = refl
-  any_agree p q agree (x ∷ xs) = rw (agree x, any_agree p q agree xs)
-
-  -- a change of rows of which there is none
-  unchanged_cons : (t : R → Bool) (c : R → R) (x : R) (rest : List R) (b : Bool) → (b || list_any t rest) ≡ false → (list_any t rest ≡ false → change_where t c rest ≡ rest) → cond b (c x) x ∷ change_where t c rest ≡ x ∷ rest
-  unchanged_cons t c x rest true h ih = cc
-  unchanged_cons t c x rest false h ih = ap (λ ys. x ∷ ys) (ih h)
-
-  pub unchanged : (t : R → Bool) (c : R → R) (xs : List R) → list_any t xs ≡ false → change_where t c xs ≡ xs
-  unchanged t c [] h = refl
-  unchanged t c (x ∷ xs) h = unchanged_cons t c x xs (t x) h (unchanged t c xs)
-
-  -- what no row passes no row is bound by
-  free_cons : (t q : R → Bool) (x : R) (rest : List R) (b : Bool) → (b || list_any t rest) ≡ false → (list_any t rest ≡ false → Each (λ y. not (t y) || q y) rest) → ((not b || q x) && list_all (λ y. not (t y) || q y) rest) ≡ true
-  free_cons t q x rest true h ih = cc
-  free_cons t q x rest false h ih = ih h
-
-  free : (t q : R → Bool) (xs : List R) → list_any t xs ≡ false → Each (λ y. not (t y) || q y) xs
-  free t q [] h = refl
-  free t q (x ∷ xs) h = free_cons t q x xs (t x) h (free t q xs)
+use Rattle.batch_model.proofs.RowLists.{any_agree}
+use Rattle.batch_model.proofs.ChangedRows.{change_none}
 
 module _ {R : Type 0} (same : R → R → Bool) (e : IsEquivalence same) where
   -- rows after the one with the key have other keys
@@ -41,7 +19,7 @@ module _ {R : Type 0} (same : R → R → Bool) (e : IsEquivalence same) where
   put_cons : (g : R → R) (a x : R) (rest : List R) (b : Bool) → cond b (Some x) (find (λ y. same y a) rest) ≡ Some a → (b ≡ true → list_any (λ y. same y a) rest ≡ false) → (find (λ y. same y a) rest ≡ Some a → change_where (λ y. same y a) (λ y. g a) rest ≡ change_where (λ y. same y a) g rest) → cond b (g a) x ∷ change_where (λ y. same y a) (λ y. g a) rest ≡ cond b (g x) x ∷ change_where (λ y. same y a) g rest
   put_cons g a x rest true f d ih =
       let i : x ≡ a = cc in
-      rw (i, unchanged (λ y. same y a) (λ y. g a) rest (d refl), unchanged (λ y. same y a) g rest (d refl)) refl
+      rw (i, change_none (λ y. same y a) (λ y. g a) rest (d refl), change_none (λ y. same y a) g rest (d refl)) refl
   put_cons g a x rest false f d ih = ap (λ ys. x ∷ ys) (ih f)
 
   pub put_is_change : (g : R → R) (a : R) (xs : List R) → AreDistinct same xs → find (λ y. same y a) xs ≡ Some a → change_where (λ y. same y a) (λ y. g a) xs ≡ change_where (λ y. same y a) g xs
@@ -50,7 +28,7 @@ module _ {R : Type 0} (same : R → R → Bool) (e : IsEquivalence same) where
 
   -- a row put in the place of the one with its key is put there alone
   alone_cons : (row a x : R) (rest : List R) (b : Bool) → cond b (Some x) (find (λ y. same y a) rest) ≡ Some a → (b ≡ true → list_any (λ y. same y a) rest ≡ false) → (find (λ y. same y a) rest ≡ Some a → change_where (λ y. same y a) (λ y. row) rest ≡ put_row (λ y. same y a) row rest) → cond b row x ∷ change_where (λ y. same y a) (λ y. row) rest ≡ cond b (row ∷ rest) (x ∷ put_row (λ y. same y a) row rest)
-  alone_cons row a x rest true f d ih = ap (λ ys. row ∷ ys) (unchanged (λ y. same y a) (λ y. row) rest (d refl))
+  alone_cons row a x rest true f d ih = ap (λ ys. row ∷ ys) (change_none (λ y. same y a) (λ y. row) rest (d refl))
   alone_cons row a x rest false f d ih = ap (λ ys. x ∷ ys) (ih f)
 
   pub put_is_alone : (row a : R) (xs : List R) → AreDistinct same xs → find (λ y. same y a) xs ≡ Some a → change_where (λ y. same y a) (λ y. row) xs ≡ put_row (λ y. same y a) row xs
@@ -60,17 +38,6 @@ module _ {R : Type 0} (same : R → R → Bool) (e : IsEquivalence same) where
   -- a sum loses what the row before gave, and gains what the new one gives
   pub sum_by-put_row : (f : R → ℕ) (row a : R) (xs : List R) → AreDistinct same xs → find (λ y. same y a) xs ≡ Some a → sum_by f (change_where (λ y. same y a) (λ y. row) xs) + f a ≡ sum_by f xs + f row
   sum_by-put_row f row a xs d h = rw (put_is_alone row a xs d h) (sum_by-put f (λ y. same y a) row a xs h)
-
-  -- what holds of a row holds of each with its key
-  key_cons : (q : R → Bool) (a x : R) (rest : List R) (b : Bool) → q a ≡ true → cond b (Some x) (find (λ y. same y a) rest) ≡ Some a → (b ≡ true → list_any (λ y. same y a) rest ≡ false) → (find (λ y. same y a) rest ≡ Some a → Each (λ y. not (same y a) || q y) rest) → ((not b || q x) && list_all (λ y. not (same y a) || q y) rest) ≡ true
-  key_cons q a x rest true k f d ih =
-      let i : x ≡ a = cc in
-      rw (i, k) (free (λ y. same y a) q rest (d refl))
-  key_cons q a x rest false k f d ih = ih f
-
-  pub each_of_key : (q : R → Bool) (a : R) (xs : List R) → AreDistinct same xs → find (λ y. same y a) xs ≡ Some a → q a ≡ true → Each (λ y. not (same y a) || q y) xs
-  each_of_key q a [] d f k = refl
-  each_of_key q a (x ∷ xs) d f k = key_cons q a x xs (same x a) k f (λ s. none_later a x xs s d.0) (λ g. each_of_key q a xs d.1 g k)
 
 module _ {R : Type 0} (f : R → ℕ) (p q : R → Bool) where
   -- fewer rows give no more

@@ -12,3 +12,4 @@ pub mod SoundMoment
 pub mod PoolAdded
 pub mod JobAdded
 pub mod TaskAdded
+pub mod TaskPlaced
