@@ -13,3 +13,4 @@ pub mod PoolAdded
 pub mod JobAdded
 pub mod TaskAdded
 pub mod TaskPlaced
+pub mod Putting
