@@ -77,7 +77,7 @@ module _ (seats : ℕ) (s : State) (step : DueStep) where
       let narrow = from_only_if (not pool.0.deleting && nat_eq pool.0.slots 1) (option_and_then (place_on s job.0) (find (fits s pool.0) s.nodes)) step pool.1 in
       let node = from_then (place_on s job.0) (find (fits s pool.0) s.nodes) step narrow.1 in
       let task = from_map (place s node.0) (find (is_placeable job.0) s.tasks) step node.1 in
-      subst (IsDue seats s) task.1
+      subst (IsDue seats s) {x = place s node.0 task.0} task.1
       (places job.0 pool.0 node.0 task.0 pool.2 (and_second (not pool.0.deleting) (nat_eq pool.0.slots 1) narrow.0) node.2 task.2)
 
   either : {A B : Type 0} → (A → IsDue seats s step) → (B → IsDue seats s step) → A ⊎ B → IsDue seats s step

@@ -43,7 +43,7 @@ reached_resizes s pool h = and_second (not pool.deleting) _ (and_first _ _ (and_
 steady_falls : (seats : ℕ) (s : State) (pool : PoolRow) → IsSound seats s → find (has_reached s) s.pools ≡ Some pool → lex_lt (rank (pool_steady s pool).state) (rank s) ≡ true
 steady_falls seats s pool h f =
     let first = found_first same_pool same_pool_equiv (has_reached s) pool s.pools h.keys.pools f in
-    let total = sum_by-put_row same_pool same_pool_equiv (steps_of_pool s) (steady pool) pool s.pools h.keys.pools first in
+    let total = sum_by-put_row same_pool same_pool_equiv pool s.pools h.keys.pools first (steps_of_pool s) (steady pool) (λ x. refl) in
     let one : one_unless (is_steady pool.alloc) ≡ 1 = resizing_counts pool.alloc (reached_resizes s pool (find-passes (has_reached s) pool s.pools f)) in
     lex_first _ _ _ _ (omega (arith, total, one)) refl
 
@@ -92,7 +92,7 @@ to_complete_placed s task h = and_first _ _ (and_first _ _ (and_first _ _ (and_f
 completed_falls : (seats : ℕ) (s : State) (task : TaskRow) (ending : Ending) → IsSound seats s → find (is_to_complete s) s.tasks ≡ Some task → lex_lt (rank (complete s task ending).state) (rank s) ≡ true
 completed_falls seats s task ending h f =
     let first = found_first same_task same_task_equiv (is_to_complete s) task s.tasks h.keys.tasks f in
-    let total = sum_by-put_row same_task same_task_equiv (λ (t : TaskRow). cond {A = ℕ} (not (is_completed t.stage)) 1 0) (completed (closed_by s.moment ending) task) task s.tasks h.keys.tasks first in
+    let total = sum_by-put_row same_task same_task_equiv task s.tasks h.keys.tasks first (λ (t : TaskRow). cond {A = ℕ} (not (is_completed t.stage)) 1 0) (completed (closed_by s.moment ending) task) (λ x. refl) in
     let one : cond {A = ℕ} (not (is_completed task.stage)) 1 0 ≡ 1 = ends_one (placed_counts task.stage (to_complete_placed s task (find-passes (is_to_complete s) task s.tasks f))) in
     lex_next _ _ _ _ (omega arith) (lex_first _ _ _ _ (omega (arith, total, one)) refl)
 
@@ -138,9 +138,9 @@ placed_falls : (seats : ℕ) (s : State) (job : JobRow) (node : NodeRow) (task :
 placed_falls seats s job node task h f =
     let active : is_active task.stage ≡ true = placeable_active job task (find-passes (is_placeable job) task s.tasks f) in
     let first = found_first same_task same_task_equiv (is_placeable job) task s.tasks h.keys.tasks f in
-    let ends = sum_by-put_row same_task same_task_equiv (λ (t : TaskRow). cond {A = ℕ} (not (is_completed t.stage)) 1 0) (placed task) task s.tasks h.keys.tasks first in
+    let ends = sum_by-put_row same_task same_task_equiv task s.tasks h.keys.tasks first (λ (t : TaskRow). cond {A = ℕ} (not (is_completed t.stage)) 1 0) (placed task) (λ x. refl) in
     let one : cond {A = ℕ} (not (is_completed task.stage)) 1 0 ≡ 1 = ends_one (active_counts task.stage active) in
-    let steps = sum_by-put_row same_task same_task_equiv (steps_of_task (place s node task).state) (placed task) task s.tasks h.keys.tasks first in
+    let steps = sum_by-put_row same_task same_task_equiv task s.tasks h.keys.tasks first (steps_of_task (place s node task).state) (placed task) (λ x. refl) in
     let before : steps_of_task (place s node task).state task ≡ 1 = step_if_active (place s node task).state task active in
     let after : steps_of_task (place s node task).state (placed task) ≡ 0 = step_if_busy (place s node task).state task (new_run_present s node task) in
     let others = sum_by-le-sum_by (steps_of_task (place s node task).state) (steps_of_task s) s.tasks (steps_at_most s node task) in

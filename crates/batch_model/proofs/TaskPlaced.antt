@@ -1,5 +1,5 @@
 -- Tables stay sound when a task is placed.
-use Rattle.std.proofs.Common.{◌≡◌, ℕ, ◌+◌, ◌<◌, ◌≤◌, Bool, true, false, not, ◌&&◌, ◌||◌, nat_eq, nat_lt, nat_le, List, [], ◌∷◌, ◌++◌, Option, Some, None, is_some, is_none, find, filter, sum_by, cond, option_and_then, refl, sym, ◌∙◌, ap, subst, arith}
+use Rattle.std.proofs.Common.{◌≡◌, ℕ, ◌+◌, ◌<◌, ◌≤◌, Bool, true, false, not, ◌&&◌, ◌||◌, nat_eq, nat_lt, nat_le, List, [], ◌∷◌, ◌++◌, Option, Some, None, is_some, is_none, find, filter, sum_by, cond, option_and_then, refl, sym, ◌∙◌, ap, subst, true≢false, arith}
 use Rattle.std.specs.List.{list_any, list_all}
 use Rattle.std.proofs.lemmas.Bool.Decides.{nat_tests}
 use Rattle.std.proofs.lemmas.List.Elements.{filter-append}
@@ -138,7 +138,7 @@ module _ (seats : ℕ) (s : State) (job : JobRow) (node : NodeRow) (task : TaskR
 
   -- the task is changed in its place
   tasks_changed : after.tasks ≡ change_where is_it placed s.tasks
-  tasks_changed = put_is_change same_task same_task_equiv placed task s.tasks h.keys.tasks first
+  tasks_changed = put_is_change same_task same_task_equiv task s.tasks h.keys.tasks first placed (λ x. refl)
 
   -- the placed task is there
   placed_there : (p : TaskRow → Bool) → p (placed task) ≡ true → list_any p after.tasks ≡ true
@@ -214,7 +214,7 @@ module _ (seats : ℕ) (s : State) (job : JobRow) (node : NodeRow) (task : TaskR
   belongs_still old k =
       under (is_work old.kind && is_unended old.state) (list_any (owns old) after.tasks) (λ e.
         any_change is_it (λ (other : TaskRow). placed task) (λ (other : TaskRow). owns old other && not (is_it other)) (owns old)
-        (λ x t m. let n : is_it x ≡ false = not_true (is_it x) (and_second _ _ m) in cc)
+        (λ x t m. absurd (true≢false (sym t ∙ not_true (is_it x) (and_second (owns old x) _ m))))
         (λ x t m. and_first _ _ m) s.tasks
         (owned_elsewhere old (asked (is_work old.kind && is_unended old.state) (list_any (owns old) s.tasks) k e)))
 
