@@ -1,1 +1,4 @@
 pub mod Putting
+pub mod Tests
+pub mod RowLists
+pub mod MappedRows
