@@ -1,13 +1,13 @@
 -- Rows that all change by a function: what holds of each, of some and of pairs, and what they sum to.
-use Rattle.std.proofs.Common.{◌≡◌, ℕ, ◌+◌, ◌≤◌, Bool, true, false, not, List, [], ◌∷◌, map, filter, Option, Some, None, cond, sum_by, refl, sym, ◌∙◌, ap, subst, arith}
-use Rattle.std.specs.List.{list_any, list_all, find}
+use Rattle.std.proofs.Common.{◌≡◌, ℕ, ◌+◌, ◌≤◌, Bool, true, false, List, [], ◌∷◌, map, filter, Some, cond, sum_by, refl, sym, ◌∙◌, ap, subst, arith}
+use Rattle.std.specs.List.{list_any, find}
 use Rattle.std.specs.Cmp.{IsEquivalence}
 use Rattle.std.proofs.lemmas.List.Folds.{list_all-map}
 use Rattle.std.proofs.lemmas.List.Sums.{sum_by-cons}
 use Rattle.bt_rows.specs.Lists.{AreDistinct}
 use Rattle.batch_model.specs.Finding.{Each}
 use Rattle.batch_model.proofs.Tests.{or_false, or_false_first, or_false_second}
-use Rattle.batch_model.proofs.RowLists.{each_weaker, any_found}
+use Rattle.batch_model.proofs.RowLists.{each_weaker, none_weaker, any_found}
 
 module _ {R : Type 0} (change : R → R) where
   -- each changed row passes
@@ -58,3 +58,28 @@ module _ {R : Type 0} where
   agree_none f g key give [] h = refl
   agree_none f g key give (x ∷ xs) h =
       rw (give x (or_false_first (key x) (list_any key xs) h), agree_none f g key give xs (or_false_second (key x) (list_any key xs) h)) refl
+
+module _ {R : Type 0} (same : R → R → Bool) (e : IsEquivalence same) where
+  -- the row that a search finds stands first
+  found_here : {Q : Type 0} (f g : R → Q) (key : R → Bool) (row x : R) (rest : List R) → ((y : R) → key y ≡ true → same y row ≡ true) → f row ≡ g row → ((y : R) → key y ≡ false → f y ≡ g y) → list_any (same x) rest ≡ false → x ≡ row → map f (x ∷ rest) ≡ map g (x ∷ rest)
+  found_here f g key row x rest give here other alone is =
+      let first : f x ≡ g x = subst (λ y. f y ≡ g y) (sym is) here in
+      let others : list_any key rest ≡ false = none_weaker (same x) key (λ y k. e.symm x y ∙ subst (λ z. same y z ≡ true) (sym is) (give y k)) rest alone in
+      rw (first, agree_none f g key other rest others) refl
+
+  -- it stands later
+  found_later : {Q : Type 0} (f g : R → Q) (key p : R → Bool) (row x : R) (rest : List R) (b : Bool) → key x ≡ b → (key x ≡ true → same x row ≡ true) → (key x ≡ false → f x ≡ g x) → list_any (same x) rest ≡ false → find p rest ≡ Some row → map f rest ≡ map g rest → map f (x ∷ rest) ≡ map g (x ∷ rest)
+  found_later f g key p row x rest true k give other alone found ih =
+      let some : list_any (same x) rest ≡ true = any_found (same x) p row rest found (give k) in cc
+  found_later f g key p row x rest false k give other alone found ih = rw (other k, ih) refl
+
+  found_cons : {Q : Type 0} (f g : R → Q) (key p : R → Bool) (row x : R) (rest : List R) (b : Bool) → ((y : R) → key y ≡ true → same y row ≡ true) → f row ≡ g row → ((y : R) → key y ≡ false → f y ≡ g y) → list_any (same x) rest ≡ false → cond b (Some x) (find p rest) ≡ Some row → (find p rest ≡ Some row → map f rest ≡ map g rest) → map f (x ∷ rest) ≡ map g (x ∷ rest)
+  found_cons f g key p row x rest true give here other alone found ih = let is : x ≡ row = cc in found_here f g key row x rest give here other alone is
+  found_cons f g key p row x rest false give here other alone found ih = found_later f g key p row x rest (key x) refl (give x) (other x) alone found (ih found)
+
+  -- two changes agree on rows with distinct keys where they agree on the one that a search finds, and on those with
+  -- another key
+  pub map_found : {Q : Type 0} (f g : R → Q) (key p : R → Bool) (row : R) (xs : List R) → ((y : R) → key y ≡ true → same y row ≡ true) → f row ≡ g row → ((y : R) → key y ≡ false → f y ≡ g y) → AreDistinct same xs → find p xs ≡ Some row → map f xs ≡ map g xs
+  map_found f g key p row [] give here other distinct found = refl
+  map_found f g key p row (x ∷ xs) give here other distinct found =
+      found_cons f g key p row x xs (p x) give here other distinct.0 found (map_found f g key p row xs give here other distinct.1)
