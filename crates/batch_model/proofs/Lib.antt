@@ -5,3 +5,4 @@ pub mod MappedRows
 pub mod RunsMove
 pub mod RunEnded
 pub mod TasksKept
+pub mod RunTaken

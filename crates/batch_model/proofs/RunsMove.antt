@@ -107,7 +107,7 @@ one_attempt task run other h main k other_main =
 abbrev is_main_or_over : RunRow → Bool
 is_main_or_over run = is_main run.kind || not (is_unended run.state)
 
-unended_main : (k u : Bool) → (k || not u) ≡ true → u ≡ true → k ≡ true
+pub unended_main : (k u : Bool) → (k || not u) ≡ true → u ≡ true → k ≡ true
 unended_main true u h e = refl
 unended_main false u h e = rw e at h
 
