@@ -6,3 +6,4 @@ pub mod RunsMove
 pub mod RunEnded
 pub mod TasksKept
 pub mod RunTaken
+pub mod Completed

@@ -41,7 +41,7 @@ module _ {R : Type 0} (change : R → R) where
       sum_first weight p x xs false h = h
 
 module _ {R : Type 0} where
-  -- fewer rows sum to no more
+  -- the first row and the others
   less_cons : (weight : R → ℕ) (p q : R → Bool) (x : R) (xs : List R) (a b : Bool) → (b ≡ true → a ≡ true) → sum_by weight (filter q xs) ≤ sum_by weight (filter p xs) → sum_by weight (cond b (x ∷ filter q xs) (filter q xs)) ≤ sum_by weight (cond a (x ∷ filter p xs) (filter p xs))
   less_cons weight p q x xs true true give h =
       rw (sum_by-cons weight x (filter q xs), sum_by-cons weight x (filter p xs)) (omega arith)
@@ -49,6 +49,7 @@ module _ {R : Type 0} where
   less_cons weight p q x xs false true give h = let e : false ≡ true = give refl in cc
   less_cons weight p q x xs false false give h = h
 
+  -- fewer rows sum to no more
   pub sum_fewer : (weight : R → ℕ) (p q : R → Bool) → ((x : R) → q x ≡ true → p x ≡ true) → (xs : List R) → sum_by weight (filter q xs) ≤ sum_by weight (filter p xs)
   sum_fewer weight p q give [] = omega arith
   sum_fewer weight p q give (x ∷ xs) = less_cons weight p q x xs (p x) (q x) (give x) (sum_fewer weight p q give xs)
@@ -73,6 +74,7 @@ module _ {R : Type 0} (same : R → R → Bool) (e : IsEquivalence same) where
       let some : list_any (same x) rest ≡ true = any_found (same x) p row rest found (give k) in cc
   found_later f g key p row x rest false k give other alone found ih = rw (other k, ih) refl
 
+  -- it stands first or later
   found_cons : {Q : Type 0} (f g : R → Q) (key p : R → Bool) (row x : R) (rest : List R) (b : Bool) → ((y : R) → key y ≡ true → same y row ≡ true) → f row ≡ g row → ((y : R) → key y ≡ false → f y ≡ g y) → list_any (same x) rest ≡ false → cond b (Some x) (find p rest) ≡ Some row → (find p rest ≡ Some row → map f rest ≡ map g rest) → map f (x ∷ rest) ≡ map g (x ∷ rest)
   found_cons f g key p row x rest true give here other alone found ih = let is : x ≡ row = cc in found_here f g key row x rest give here other alone is
   found_cons f g key p row x rest false give here other alone found ih = found_later f g key p row x rest (key x) refl (give x) (other x) alone found (ih found)

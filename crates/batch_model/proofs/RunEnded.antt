@@ -35,10 +35,11 @@ taken_ends ending (Ended earlier) h = cc
 taken_ends ending Withdrawn h = cc
 
 module _ (now : ℕ) (ending : Ending) (run : RunRow) where
-  -- the states and the moments after the event
+  -- the states after the event
   abbrev into : RunRow → RunState
   into row = cond (is_run run.number row) (ended_if_taken ending row.state) row.state
 
+  -- the moments at which runs ended
   abbrev ended_at : RunRow → Option ℕ
   ended_at row = cond (is_run run.number row) (Some now) row.ended
 

@@ -53,10 +53,11 @@ queued_unended (Ended ending) h = cc
 queued_unended Withdrawn h = cc
 
 module _ (now : ℕ) (run : RunRow) where
-  -- the states and the moments after the event
+  -- the states after the event
   abbrev into : RunRow → RunState
   into row = cond (is_run run.number row) (taken_if_queued row.state) row.state
 
+  -- the moments at which runs were taken
   abbrev taken_at : RunRow → Option ℕ
   taken_at row = cond (is_run run.number row) (Some now) row.taken
 
@@ -74,15 +75,15 @@ module _ (now : ℕ) (run : RunRow) where
 sound_queued : (seats : ℕ) (s : State) (run : RunRow) → IsSound seats s → find (is_run run.number) s.runs ≡ Some run → is_queued run.state ≡ true → IsSound seats (change_runs (is_run run.number) (taken_run s.moment) s)
 sound_queued seats s run h found queued =
     let runs : map (λ row. cond (is_run run.number row) (taken_run s.moment row) row) s.runs ≡ map after s.runs =
-      map_found same_run same_run_equiv (λ row. cond (is_run run.number row) (taken_run s.moment row) row) after (is_run run.number) (is_run run.number) run s.runs
-        (λ row k. k)
-        (alike_here s.moment run run (is_run run.number run) (queued_taken run.state queued))
-        (λ row. alike_elsewhere s.moment run row (is_run run.number row))
-        h.keys.runs found
+    map_found same_run same_run_equiv (λ row. cond (is_run run.number row) (taken_run s.moment row) row) after (is_run run.number) (is_run run.number) run s.runs
+    (λ row k. k)
+    (alike_here s.moment run run (is_run run.number run) (queued_taken run.state queued))
+    (λ row. alike_elsewhere s.moment run row (is_run run.number row))
+    h.keys.runs found
     in
     subst (λ (rows : List RunRow). IsSound seats (record s { runs = rows })) (sym runs)
     (sound_moved (into s.moment run) (taken_at s.moment run) (λ row. row.ended)
-      (λ row. moves_if (is_run run.number row) row.state (taken_if_queued row.state) (moves_taken row.state)) seats s h)
+    (λ row. moves_if (is_run run.number row) row.state (taken_if_queued row.state) (moves_taken row.state)) seats s h)
   where
     after : RunRow → RunRow
     after = moved (into s.moment run) (taken_at s.moment run) (λ row. row.ended)
@@ -136,22 +137,23 @@ sound_started : (seats : ℕ) (s : State) (now : ℕ) (run : RunRow) (owner : Ta
 sound_started seats s now run owner h found =
     let owned : owns run owner ≡ true = find-passes (owns run) owner s.tasks found in
     let tasks : map (λ task. cond (is_task_of_run run task) (started_task now task) task) s.tasks ≡ map after s.tasks =
-      map_found same_task same_task_equiv (λ task. cond (is_task_of_run run task) (started_task now task) task) after (is_task_of_run run) (owns run) owner s.tasks
-        (λ task k. same_of_run run task owner k (named_by_owner run owner owned))
-        (start_here now run owner (is_task_of_run run owner) (is_placed owner.stage) (and_first _ _ owned))
-        (λ task. start_elsewhere now run task (is_task_of_run run task) (is_placed task.stage))
-        h.keys.tasks found
+    map_found same_task same_task_equiv (λ task. cond (is_task_of_run run task) (started_task now task) task) after (is_task_of_run run) (owns run) owner s.tasks
+    (λ task k. same_of_run run task owner k (named_by_owner run owner owned))
+    (start_here now run owner (is_task_of_run run owner) (is_placed owner.stage) (and_first _ _ owned))
+    (λ task. start_elsewhere now run task (is_task_of_run run task) (is_placed task.stage))
+    h.keys.tasks found
     in
     subst (λ (rows : List TaskRow). IsSound seats (record s { tasks = rows })) (sym tasks)
     (sound_marked (with_start now run) (λ task k. k) seats s h
-      (each_map after has_fitting_marks has_fitting_marks
-        (λ task e. marks_after now run (is_task_of_run run task) (is_placed task.stage) (is_undisturbed task) (unwrap_or task.started now) task.started e) s.tasks h.fitting.marks)
-      (each_map after is_closed_if_completed is_closed_if_completed (λ task e. e) s.tasks h.fitting.closing)
-      (each_weaker (belongs s) (belongs (record s { tasks = map after s.tasks })) (λ row e. belongs_after row e) s.runs h.belonging)
-      (each_map after (can_be_settled s) (can_be_settled (record s { tasks = map after s.tasks })) (λ task e. e) s.tasks h.ending))
+    (each_map after has_fitting_marks has_fitting_marks
+    (λ task e. marks_after now run (is_task_of_run run task) (is_placed task.stage) (is_undisturbed task) (unwrap_or task.started now) task.started e) s.tasks h.fitting.marks)
+    (each_map after is_closed_if_completed is_closed_if_completed (λ task e. e) s.tasks h.fitting.closing)
+    (each_weaker (belongs s) (belongs (record s { tasks = map after s.tasks })) (λ row e. belongs_after row e) s.runs h.belonging)
+    (each_map after (can_be_settled s) (can_be_settled (record s { tasks = map after s.tasks })) (λ task e. e) s.tasks h.ending))
   where
     after : TaskRow → TaskRow
     after = marked (with_start now run)
+
     belongs_after : (row : RunRow) → belongs s row ≡ true → belongs (record s { tasks = map after s.tasks }) row ≡ true
     belongs_after row e = ap (λ b. not (is_work row.kind && is_unended row.state) || b) (any_map after (owns row) s.tasks) ∙ e
 
@@ -168,7 +170,7 @@ owned_while_queued : (seats : ℕ) (s : State) (run : RunRow) → IsSound seats 
 owned_while_queued seats s run h found queued =
     let unended : is_unended run.state ≡ true = queued_unended run.state queued in
     let main : is_main run.kind ≡ true =
-      unended_main (is_main run.kind) (is_unended run.state) (each_found (λ (row : RunRow). is_main row.kind || not (is_unended row.state)) (is_run run.number) run s.runs found h.built.runs) unended
+    unended_main (is_main run.kind) (is_unended run.state) (each_found (λ (row : RunRow). is_main row.kind || not (is_unended row.state)) (is_run run.number) run s.runs found h.built.runs) unended
     in
     asked (is_work run.kind && is_unended run.state) (list_any (owns run) s.tasks)
     (each_found (belongs s) (is_run run.number) run s.runs found h.belonging)

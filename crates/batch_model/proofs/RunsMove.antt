@@ -63,12 +63,13 @@ at_most : (test : Bool) (less held slots : ℕ) → less ≤ held → (not test 
 at_most true less held slots h k = grind (arith, nat_tests)
 at_most false less held slots h k = refl
 
--- each node's pool has the slots that it holds, where each node holds no more
+-- of pools with a key
 slots_of_pool : {P : Type 0} (key : P → Bool) (slots : P → ℕ) (less held : ℕ) → less ≤ held → (pools : List P) → Each (λ pool. not (key pool) || nat_le held (slots pool)) pools → Each (λ pool. not (key pool) || nat_le less (slots pool)) pools
 slots_of_pool key slots less held fewer pools h =
     each_weaker (λ pool. not (key pool) || nat_le held (slots pool)) (λ pool. not (key pool) || nat_le less (slots pool))
     (λ pool k. at_most (key pool) less held (slots pool) fewer k) pools h
 
+-- each node's pool has the slots that it holds, where each node holds no more
 pub slots_suffice : (less held : ℕ → ℕ) (pools : List PoolRow) → ((node : ℕ) → less node ≤ held node) → (nodes : List NodeRow) → Each (λ node. list_all (λ pool. not (is_pool node.pool pool) || nat_le (held node.number) pool.slots) pools) nodes → Each (λ node. list_all (λ pool. not (is_pool node.pool pool) || nat_le (less node.number) pool.slots) pools) nodes
 slots_suffice less held pools fewer nodes h =
     each_weaker (λ node. list_all (λ pool. not (is_pool node.pool pool) || nat_le (held node.number) pool.slots) pools)
@@ -107,6 +108,7 @@ one_attempt task run other h main k other_main =
 abbrev is_main_or_over : RunRow → Bool
 is_main_or_over run = is_main run.kind || not (is_unended run.state)
 
+-- such a run that has not ended is a main run
 pub unended_main : (k u : Bool) → (k || not u) ≡ true → u ≡ true → k ≡ true
 unended_main true u h e = refl
 unended_main false u h e = rw e at h
@@ -169,6 +171,7 @@ module _ (into : RunRow → RunState) (taken_at ended_at : RunRow → Option ℕ
       (busy_or_ends_after task rest distinct.1 (each_tail is_main_or_over run rest built))
       (rw (ends_of_first (is_present task run && is_main run.kind) run (find (λ r. is_present task r && is_main r.kind) rest)) at h))
 
+  -- beside what fails
   or_none : (a : Bool) → (a || false) ≡ a
   or_none true = refl
   or_none false = refl
@@ -180,9 +183,11 @@ module _ (into : RunRow → RunState) (taken_at ended_at : RunRow → Option ℕ
   settled_after true false true busy' ends ends' on h = rw or_none (on refl)
   settled_after true false false busy' ends ends' on h = rw or_none (on h)
 
+  -- the tables after runs have moved
   abbrev after : State → State
   after s = record s { runs = map (moved into taken_at ended_at) s.runs }
 
+  -- nodes hold the same slots
   slots_after : (s : State) (node : ℕ) → held_slots (after s) node ≡ held_slots s node
   slots_after s node = sum_map (moved into taken_at ended_at) (λ (run : RunRow). run.slots) (holds_on (after s) node) s.runs
 

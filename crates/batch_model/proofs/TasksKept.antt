@@ -36,9 +36,11 @@ first_under true b c h k = rw (h refl) k
 first_under false b c h k = cc
 
 module _ (marks : TaskRow → Marks) where
+  -- the tables after tasks have changed
   abbrev pub after : State → State
   after s = record s { tasks = map (marked marks) s.tasks }
 
+  -- runs name the same tasks
   named_after : (s : State) (run : RunRow) → has_named_task (after s) run ≡ has_named_task s run
   named_after s run = ap (λ b. is_none run.task || b) (any_map (marked marks) (is_task_of_attempt run) s.tasks)
 
@@ -50,6 +52,7 @@ module _ (marks : TaskRow → Marks) where
         (λ task k. first_under (is_placed (marks task).stage) (is_placed task.stage) (is_present task run) (falls task) k)
         s.tasks (sym (any_map (marked marks) (owns run) s.tasks) ∙ h)
 
+    -- nodes hold no more slots
     slots_after : (s : State) (node : ℕ) → held_slots (after s) node ≤ held_slots s node
     slots_after s node =
         sum_fewer (λ (run : RunRow). run.slots) (holds_on s node) (holds_on (after s) node)
