@@ -14,3 +14,9 @@ pub mod JobAdded
 pub mod TaskAdded
 pub mod TaskPlaced
 pub mod Putting
+pub mod MappedRows
+pub mod RunsMove
+pub mod RunEnded
+pub mod TasksKept
+pub mod RunTaken
+pub mod Completed
