@@ -24,6 +24,7 @@ module _ {A B : Type 0} where
   from_map f None y h = cc
   from_map f (Some x) y h = (x, cc, refl)
 
+  -- a value that another gives, where there is one
   from_then : (f : A → Option B) (o : Option A) (y : B) → option_and_then f o ≡ Some y → (x : A) × (f x ≡ Some y) × (o ≡ Some x)
   from_then f None y h = cc
   from_then f (Some x) y h = (x, h, refl)
@@ -50,17 +51,22 @@ module _ {A Q : Type 0} where
       either (inr e) ih = ih e
 
 module _ (seats : ℕ) (s : State) (step : DueStep) where
+  -- each rule
+
+  -- a task is completed
   from_settling : settle_first s ≡ Some step → IsDue seats s step
   from_settling h =
       let found = from_then (settle s) (find (is_to_complete s) s.tasks) step h in
       let made = from_map (complete s found.0) (main_ending s found.0) step found.1 in
       subst (IsDue seats s) made.1 (completes found.0 made.0 found.2 made.2)
 
+  -- a pool is steady
   from_resizing : end_resize s ≡ Some step → IsDue seats s step
   from_resizing h =
       let found = from_map (pool_steady s) (find (has_reached s) s.pools) step h in
       subst (IsDue seats s) found.1 (steadies found.0 found.2)
 
+  -- a pool gets a node
   from_adding : add_node seats s ≡ Some step → IsDue seats s step
   from_adding h =
       let left = from_only_if (has_number_left s.next_run && has_number_left s.next_node) (option_and_then (add_on s) (free_seat seats s)) step h in
@@ -68,6 +74,7 @@ module _ (seats : ℕ) (s : State) (step : DueStep) where
       let found = from_map (node_added s seated.0) (find (lacks_node s) s.pools) step seated.1 in
       subst (IsDue seats s) found.1 (adds seated.0 found.0 seated.2 found.2)
 
+  -- a task is placed
   from_placing : place_first s ≡ Some step → IsDue seats s step
   from_placing h =
       let left = from_only_if (has_number_left s.next_run) (find_map (place_of_job s) s.jobs) step h in
@@ -80,6 +87,7 @@ module _ (seats : ℕ) (s : State) (step : DueStep) where
       subst (IsDue seats s) {x = place s node.0 task.0} task.1
       (places job.0 pool.0 node.0 task.0 pool.2 (and_second (not pool.0.deleting) (nat_eq pool.0.slots 1) narrow.0) node.2 task.2)
 
+  -- one of two cases
   either : {A B : Type 0} → (A → IsDue seats s step) → (B → IsDue seats s step) → A ⊎ B → IsDue seats s step
   either f g (inl a) = f a
   either f g (inr b) = g b

@@ -40,6 +40,7 @@ resizing_counts Stopping h = cc
 reached_resizes : (s : State) (pool : PoolRow) → has_reached s pool ≡ true → is_resizing pool.alloc ≡ true
 reached_resizes s pool h = and_second (not pool.deleting) _ (and_first _ _ (and_first _ _ h))
 
+-- a pool less is to become steady
 steady_falls : (seats : ℕ) (s : State) (pool : PoolRow) → IsSound seats s → find (has_reached s) s.pools ≡ Some pool → lex_lt (rank (pool_steady s pool).state) (rank s) ≡ true
 steady_falls seats s pool h f =
     let first = found_first same_pool same_pool_equiv (has_reached s) pool s.pools h.keys.pools f in
@@ -57,6 +58,7 @@ lacks_less s pool h = (Decides-ltb (staying_count s pool.id) pool.dedicated).0 (
 stays_new : (s : State) (pool : PoolRow) (seat : ℕ) → stays pool.id (new_node s pool seat) ≡ true
 stays_new s pool seat = rw (same_equiv.refl pool.id) refl
 
+-- a row that passes counts one
 counts_one : {b : Bool} → b ≡ true → cond {A = ℕ} b 1 0 ≡ 1
 counts_one h = rw h refl
 
@@ -64,6 +66,7 @@ counts_one h = rw h refl
 one_more : (s : State) (pool : PoolRow) (seat : ℕ) (id : List ℕ) → staying_count (node_added s seat pool).state id ≡ staying_count s id + cond {A = ℕ} (stays id (new_node s pool seat)) 1 0
 one_more s pool seat id = sum_by_push (λ (node : NodeRow). cond (stays id node) 1 0) s.nodes (new_node s pool seat)
 
+-- that pool has a node less to get, and no pool has more
 node_falls : (s : State) (pool : PoolRow) (seat : ℕ) → find (lacks_node s) s.pools ≡ Some pool → lex_lt (rank (node_added s seat pool).state) (rank s) ≡ true
 node_falls s pool seat f =
     let one : cond {A = ℕ} (stays pool.id (new_node s pool seat)) 1 0 ≡ 1 = counts_one (stays_new s pool seat) in
@@ -82,6 +85,7 @@ placed_counts Active h = refl
 placed_counts Placed h = refl
 placed_counts Completed h = cc
 
+-- a row that doesn't pass counts one where others count none
 ends_one : {b : Bool} → b ≡ false → cond {A = ℕ} (not b) 1 0 ≡ 1
 ends_one h = rw h refl
 
@@ -89,6 +93,7 @@ ends_one h = rw h refl
 to_complete_placed : (s : State) (task : TaskRow) → is_to_complete s task ≡ true → is_placed task.stage ≡ true
 to_complete_placed s task h = and_first _ _ (and_first _ _ (and_first _ _ (and_first _ _ (and_first _ _ h))))
 
+-- a task less is to end, and pools are as they were
 completed_falls : (seats : ℕ) (s : State) (task : TaskRow) (ending : Ending) → IsSound seats s → find (is_to_complete s) s.tasks ≡ Some task → lex_lt (rank (complete s task ending).state) (rank s) ≡ true
 completed_falls seats s task ending h f =
     let first = found_first same_task same_task_equiv (is_to_complete s) task s.tasks h.keys.tasks f in
@@ -108,6 +113,7 @@ active_counts Active h = refl
 active_counts Placed h = cc
 active_counts Completed h = cc
 
+-- an active task is to be placed
 step_if_active : (s : State) (task : TaskRow) → is_active task.stage ≡ true → steps_of_task s task ≡ 1
 step_if_active s task h = rw h refl
 
@@ -129,11 +135,13 @@ step_at_most false true false true = omega arith
 step_at_most false true false false = omega arith
 step_at_most false false b c = omega arith
 
+-- so no other task has more to do
 steps_at_most : (s : State) (node : NodeRow) (task other : TaskRow) → steps_of_task (place s node task).state other ≤ steps_of_task s other
 steps_at_most s node task other =
     rw (any_append (is_busy_for other) s.runs (work_run s node (placed task) TaskRun task.line task.slots Queued))
     (step_at_most (is_active other.stage) (is_placed other.stage) (is_busy s other) _)
 
+-- a task less is to be placed, and pools and ends are as they were
 placed_falls : (seats : ℕ) (s : State) (job : JobRow) (node : NodeRow) (task : TaskRow) → IsSound seats s → find (is_placeable job) s.tasks ≡ Some task → lex_lt (rank (place s node task).state) (rank s) ≡ true
 placed_falls seats s job node task h f =
     let active : is_active task.stage ≡ true = placeable_active job task (find-passes (is_placeable job) task s.tasks f) in
@@ -146,12 +154,15 @@ placed_falls seats s job node task h f =
     let others = sum_by-le-sum_by (steps_of_task (place s node task).state) (steps_of_task s) s.tasks (steps_at_most s node task) in
     lex_next _ _ _ _ (omega arith) (lex_next _ _ _ _ (omega (arith, ends, one)) (lex_first _ _ _ _ (omega (arith, steps, before, after, others)) refl))
 
--- a due step lowers the rank
+-- the composition
+
+-- each rule lowers the rank
 falls : (seats : ℕ) (s : State) (step : DueStep) → IsSound seats s → IsDue seats s step → lex_lt (rank step.state) (rank s) ≡ true
 falls seats s step h (completes task ending f e) = completed_falls seats s task ending h f
 falls seats s step h (steadies pool f) = steady_falls seats s pool h f
 falls seats s step h (adds seat pool free f) = node_falls s pool seat f
 falls seats s step h (places job pool node task p narrow n f) = placed_falls seats s job node task h f
 
+-- a due step lowers the rank
 pub falls_by_due : (seats : ℕ) (s : State) (step : DueStep) → IsSound seats s → due_step seats s ≡ Some step → lex_lt (rank step.state) (rank s) ≡ true
 falls_by_due seats s step h e = falls seats s step h (due_cases seats s step e)

@@ -20,3 +20,4 @@ pub mod RunEnded
 pub mod TasksKept
 pub mod RunTaken
 pub mod Completed
+pub mod DueSound

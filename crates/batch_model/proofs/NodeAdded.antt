@@ -27,6 +27,7 @@ use Rattle.batch_model.proofs.DistinctLists.{distinct_append}
 pub below_other : (a b : ℕ) → nat_lt a b ≡ true → nat_eq a b ≡ false
 below_other a b h = grind (arith, nat_tests)
 
+-- the same, the other way round
 pub below_other_back : (a b : ℕ) → nat_lt a b ≡ true → nat_eq b a ≡ false
 below_other_back a b h = grind (arith, nat_tests)
 
@@ -105,7 +106,7 @@ module _ (seats : ℕ) (s : State) (pool : PoolRow) (seat : ℕ) (h : IsSound se
       either true m = refl
       either false m = any_append_old (is_node run.node) s.nodes (new_node s pool seat) m
 
--- U15 keeps tables sound
+-- a node that is added keeps tables sound
 pub sound_node_added : (seats : ℕ) (s : State) (pool : PoolRow) (seat : ℕ) → IsSound seats s → free_seat seats s ≡ Some seat → find (lacks_node s) s.pools ≡ Some pool → IsSound seats (node_added s seat pool).state
 sound_node_added seats s pool seat h free f = record {
   keys = record {

@@ -20,6 +20,7 @@ module _ (s : State) (pool : PoolRow) where
   has_key_left : (x y : PoolRow) → is_pool pool.id x ≡ true → same_pool (steady pool) y ≡ same_pool x y
   has_key_left x y t = sym (same_equiv.congr x.id pool.id y.id t)
 
+  -- the same, on the right
   has_key_right : (x y : PoolRow) → is_pool pool.id y ≡ true → same_pool x (steady pool) ≡ same_pool x y
   has_key_right x y t = same_equiv.symm x.id pool.id ∙ sym (same_equiv.congr y.id pool.id x.id t) ∙ same_equiv.symm y.id x.id
 
@@ -41,7 +42,7 @@ module _ (s : State) (pool : PoolRow) where
       has_slots : PoolRow → Bool
       has_slots other = not (is_pool node.pool other) || nat_le (held_slots s node.number) other.slots
 
--- U11 keeps tables sound
+-- a pool that becomes steady keeps tables sound
 pub sound_steady : (seats : ℕ) (s : State) (pool : PoolRow) → IsSound seats s → find (has_reached s) s.pools ≡ Some pool → IsSound seats (pool_steady s pool).state
 sound_steady seats s pool h f = record {
   keys = record {

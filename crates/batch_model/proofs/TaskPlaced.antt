@@ -50,15 +50,19 @@ module _ {R : Type 0} (test : R → Bool) (change : R → R) where
       either x true e k = give x e k
       either x false e k = keep x e k
 
+-- a number is equal to itself
 is_itself : (n : ℕ) → nat_eq n n ≡ true
 is_itself n = grind (arith, nat_tests)
 
+-- a number is at most itself
 is_at_most_itself : (n : ℕ) → nat_le n n ≡ true
 is_at_most_itself n = grind (arith, nat_tests)
 
+-- what is at most a number is at most the next one
 at_most_next : (a b : ℕ) → nat_le a b ≡ true → nat_le a (b + 1) ≡ true
 at_most_next a b h = grind (arith, nat_tests)
 
+-- the next numbers are in the same order
 next_below : (a b : ℕ) → nat_lt a b ≡ true → nat_lt (a + 1) (b + 1) ≡ true
 next_below a b h = grind (arith, nat_tests)
 
@@ -66,15 +70,19 @@ next_below a b h = grind (arith, nat_tests)
 not_next : (a b : ℕ) → nat_le a b ≡ true → nat_eq a (b + 1) ≡ true → ⊥
 not_next a b h k = grind (arith, nat_tests)
 
+-- what is at most a number is at most an equal one
 at_most_equal : (a b c : ℕ) → nat_eq b c ≡ true → nat_le a b ≡ true → nat_le a c ≡ true
 at_most_equal a b c e h = grind (arith, nat_tests)
 
+-- what is no more than a number is at most what that one is
 less_is_enough : (a b c : ℕ) → a ≤ b → nat_le b c ≡ true → nat_le a c ≡ true
 less_is_enough a b c h k = grind (arith, nat_tests)
 
+-- what is no more than one is at most one
 one_is_enough : (a b c : ℕ) → a ≤ b → nat_eq b 1 ≡ true → nat_eq c 1 ≡ true → nat_le a c ≡ true
 one_is_enough a b c h k l = grind (arith, nat_tests)
 
+-- numbers that pass the test are equal
 equal_numbers : (a b : ℕ) → nat_eq a b ≡ true → a ≡ b
 equal_numbers a b h = grind (arith, nat_tests)
 
@@ -95,6 +103,7 @@ names_some : (o : Option (List ℕ)) (id : List ℕ) → names o id ≡ true →
 names_some None id h = cc
 names_some (Some name) id h = refl
 
+-- one of two passes, and not the first
 or_other : (a b : Bool) → (a || b) ≡ true → a ≡ false → b ≡ true
 or_other true b h k = cc
 or_other false b h k = h
@@ -127,12 +136,15 @@ module _ (seats : ℕ) (s : State) (job : JobRow) (node : NodeRow) (task : TaskR
   abbrev run : RunRow
   run = work_run s node (placed task) TaskRun task.line task.slots Queued
 
+  -- a row with the task's key
   abbrev is_it : TaskRow → Bool
   is_it = is_task task.job task.id
 
+  -- the task is the one with its key
   first : find (λ (other : TaskRow). same_task other task) s.tasks ≡ Some task
   first = found_first same_task same_task_equiv (is_placeable job) task s.tasks h.keys.tasks f
 
+  -- it was active
   active : is_active task.stage ≡ true
   active = placeable_active job task (find_test (is_placeable job) task s.tasks f)
 
@@ -222,6 +234,7 @@ module _ (seats : ℕ) (s : State) (job : JobRow) (node : NodeRow) (task : TaskR
   is_of_task : is_run_of_task task.job task.id run ≡ true
   is_of_task = and_true (same_equiv.refl task.job) (same_equiv.refl task.id)
 
+  -- the placed task owns it
   is_owned : list_any (owns run) after.tasks ≡ true
   is_owned = placed_there (owns run) (and_true is_of_task (is_itself (task.attempt + 1)))
 
@@ -245,6 +258,7 @@ module _ (seats : ℕ) (s : State) (job : JobRow) (node : NodeRow) (task : TaskR
       (λ x t m. absurd (not_next old.attempt task.attempt (earlier old k (and_first _ _ (and_second true _ m))) (and_second _ _ (and_second true _ m))))
       (λ x t m. m) s.tasks
 
+  -- a run that holds slots held them before
   held_before : (number : ℕ) (old : RunRow) → has_named_task s old ≡ true → (not (holds_on after number old) || holds_on s number old) ≡ true
   held_before number old k =
       under (holds_on after number old) (holds_on s number old) (λ e.
@@ -271,6 +285,7 @@ module _ (seats : ℕ) (s : State) (job : JobRow) (node : NodeRow) (task : TaskR
   -- on the node
 
   module _ (pool : PoolRow) (in_pool : pool_of s job.pool ≡ Some pool) (narrow : nat_eq pool.slots 1 ≡ true) (on_node : find (fits s pool) s.nodes ≡ Some node) where
+    -- the node fits
     fitting_node : fits s pool node ≡ true
     fitting_node = find_test (fits s pool) node s.nodes on_node
 
@@ -278,9 +293,11 @@ module _ (seats : ℕ) (s : State) (job : JobRow) (node : NodeRow) (task : TaskR
     empty_node : held_slots s node.number ≡ 0
     empty_node = equal_numbers (held_slots s node.number) 0 (and_second _ _ fitting_node)
 
+    -- the node is the one with its number
     first_node : find (λ (other : NodeRow). same_node other node) s.nodes ≡ Some node
     first_node = found_first same_node same_node_equiv (fits s pool) node s.nodes h.keys.nodes on_node
 
+    -- the pool is the one with its key
     first_pool : find (λ (other : PoolRow). same_pool other pool) s.pools ≡ Some pool
     first_pool = found_first same_pool same_pool_equiv (is_pool job.pool) pool s.pools h.keys.pools in_pool
 
@@ -322,6 +339,7 @@ module _ (seats : ℕ) (s : State) (job : JobRow) (node : NodeRow) (task : TaskR
         at_most : held_slots after other.number ≤ held_slots s other.number
         at_most = let m : held_slots after other.number ≤ held_slots s other.number + 0 = subst (λ b. held_slots after other.number ≤ held_slots s other.number + cond b task.slots 0) e (held_after other.number) in omega (arith, m)
 
+    -- the slots of each node suffice
     slots_still : (other : NodeRow) → (not (same_node other node) || same other.pool pool.id) ≡ true → has_slots_for s other ≡ true → has_slots_for after other ≡ true
     slots_still other i k = either (nat_eq node.number other.number) refl
       where
@@ -329,7 +347,7 @@ module _ (seats : ℕ) (s : State) (job : JobRow) (node : NodeRow) (task : TaskR
         either true e = slots_on_node other e (asked (same_node other node) (same other.pool pool.id) i (same_node_equiv.symm other node ∙ e))
         either false e = slots_elsewhere other e k
 
-    -- U16 keeps tables sound
+    -- a task that is placed keeps tables sound
     pub sound_placed : IsSound seats (place s node task).state
     sound_placed = record {
       keys = record {
