@@ -1,5 +1,5 @@
 -- Which rows a due step comes from.
-use Rattle.std.proofs.Common.{◌≡◌, ℕ, Bool, true, false, not, ◌&&◌, nat_eq, List, [], ◌∷◌, Option, Some, None, find, map, option_map, option_and_then, ◌⊎◌, inl, inr, refl, sym, ◌∙◌, subst}
+use Rattle.std.proofs.Common.{◌≡◌, ℕ, Bool, true, false, not, ◌&&◌, nat_eq, List, [], ◌∷◌, Option, Some, None, find, option_map, option_and_then, ◌⊎◌, inl, inr, refl, subst}
 use Rattle.batch_model.specs.Finding.{or_else, first_of, find_map, only_if, has_number_left}
 use Rattle.batch_model.specs.Rows.{pool_of}
 use Rattle.batch_model.specs.Tasks.{main_ending}
@@ -9,7 +9,7 @@ use Rattle.batch_model.specs.Placing.{places_tasks, is_placeable, fits, place, p
 use Rattle.batch_model.specs.Dues.{settle_first, has_reached, pool_steady, end_resize, lacks_node, node_added, add_on, add_node, due_step}
 use Rattle.batch_model.specs.Steps.{DueStep}
 use Rattle.batch_model.specs.Variants.{State, PoolRow, NodeRow, JobRow, TaskRow, Ending}
-use Rattle.batch_model.proofs.Tests.{and_first, and_second}
+use Rattle.batch_model.proofs.Tests.{and_second}
 
 -- a case for each rule, with the rows that it found
 pub data IsDue (seats : ℕ) (s : State) : DueStep → Type 0 where
@@ -101,5 +101,6 @@ module _ (seats : ℕ) (s : State) (step : DueStep) where
     where
       absent : {A : Type 0} → None ≡ Some step → A
       absent e = cc
+
       from_last : first_of (place_first s ∷ []) ≡ Some step → IsDue seats s step
       from_last m = either from_placing absent (from_else (place_first s) None step m)

@@ -1,28 +1,23 @@
 -- Each due step lowers the rank.
-use Rattle.std.proofs.Common.{◌≡◌, ℕ, ◌+◌, ◌-◌, ◌<◌, ◌≤◌, Bool, true, false, not, ◌&&◌, ◌||◌, nat_lt, nat_eq, nat_le, List, [], ◌∷◌, ◌++◌, Option, Some, None, cond, find, count_by, sum_by, if◌then◌else◌, option_map, option_and_then, refl, sym, ◌∙◌, ap, subst, arith}
-use Rattle.std.specs.List.{list_any}
-use Rattle.std.proofs.lemmas.Grind.{common_steps}
+use Rattle.std.proofs.Common.{◌≡◌, ℕ, ◌+◌, ◌<◌, ◌≤◌, Bool, true, false, not, ◌&&◌, ◌||◌, List, Some, cond, find, refl, arith}
 use Rattle.std.proofs.lemmas.Bool.Decides.{Decides-ltb, Decides-eqb}
 use Rattle.std.proofs.lemmas.List.Sums.{sum_by_push, sum_by-le-sum_by}
-use Rattle.std.proofs.lemmas.List.Folds.{list_any-append}
-use Rattle.bt_base.specs.Ids.{same}
 use Rattle.bt_base.proofs.SameIds.{same_equiv}
 use Rattle.bt_base.proofs.Turns.{lex_lt, lex_first, lex_next}
 use Rattle.bt_rows.specs.Keys.{same_pool, same_pool_equiv, same_task, same_task_equiv}
 use Rattle.bt_rows.proofs.DistinctRows.{found_first, find-passes, sum_by-less}
-use Rattle.batch_model.specs.Rows.{is_task}
 use Rattle.batch_model.specs.Runs.{is_busy_for, work_run}
 use Rattle.batch_model.specs.Tasks.{is_active, is_placed, is_completed, is_busy, completed}
 use Rattle.batch_model.specs.Pools.{is_resizing, is_steady, staying_count}
 use Rattle.batch_model.specs.Nodes.{stays}
 use Rattle.batch_model.specs.Endings.{closed_by}
 use Rattle.batch_model.specs.Settling.{is_to_complete, complete}
-use Rattle.batch_model.specs.Placing.{is_placeable, placed, placed_run, place}
+use Rattle.batch_model.specs.Placing.{is_placeable, placed, place}
 use Rattle.batch_model.specs.Dues.{has_reached, steady, pool_steady, lacks_node, new_node, node_added, due_step}
 use Rattle.batch_model.specs.Steps.{DueStep}
-use Rattle.batch_model.specs.Measure.{one_unless, steps_of_pool, pools_left, ends_left, steps_of_task, tasks_left, rank}
+use Rattle.batch_model.specs.Measure.{one_unless, steps_of_pool, steps_of_task, rank}
 use Rattle.batch_model.specs.Sound.{IsSound}
-use Rattle.batch_model.specs.Variants.{State, PoolRow, NodeRow, JobRow, TaskRow, RunRow, Alloc, Steady, Resizing, Stopping, TaskStage, Active, Placed, Completed, Ending, TaskRun, Queued}
+use Rattle.batch_model.specs.Variants.{State, PoolRow, NodeRow, JobRow, TaskRow, Alloc, Steady, Resizing, Stopping, TaskStage, Active, Placed, Completed, Ending, TaskRun, Queued}
 use Rattle.batch_model.proofs.KeyedLists.{sum_by-put_row}
 use Rattle.batch_model.proofs.DueCases.{IsDue, completes, steadies, adds, places, due_cases}
 use Rattle.batch_model.proofs.Tests.{and_first, and_second, and_true}

@@ -1,11 +1,9 @@
 -- Tables stay sound when a pool gets a node.
-use Rattle.std.proofs.Common.{◌≡◌, ℕ, zero, suc, ◌+◌, ◌≤◌, ◌<◌, Bool, true, false, not, ◌&&◌, ◌||◌, nat_eq, nat_lt, nat_le, List, [], ◌∷◌, ◌++◌, Option, Some, find, filter, sum_by, cond, refl, sym, ◌∙◌, ap, subst, arith}
+use Rattle.std.proofs.Common.{◌≡◌, ℕ, zero, suc, ◌+◌, ◌≤◌, Bool, true, false, not, ◌&&◌, ◌||◌, nat_eq, nat_lt, nat_le, List, [], ◌∷◌, Some, find, filter, sum_by, cond, refl, ap, arith}
 use Rattle.std.specs.List.{list_any, list_all, range_with_len}
 use Rattle.std.proofs.lemmas.Bool.Decides.{nat_tests}
-use Rattle.bt_base.specs.Ids.{same}
 use Rattle.bt_base.proofs.SameIds.{same_equiv}
 use Rattle.bt_rows.specs.Keys.{same_node}
-use Rattle.bt_rows.specs.Lists.{AreDistinct}
 use Rattle.bt_rows.specs.Ranges.{is_from_to}
 use Rattle.batch_model.specs.Finding.{Each}
 use Rattle.batch_model.specs.Rows.{is_pool, is_node}
@@ -14,10 +12,9 @@ use Rattle.batch_model.specs.Runs.{is_unended}
 use Rattle.batch_model.specs.Pools.{free_seat}
 use Rattle.batch_model.specs.Slots.{holds_on, held_slots}
 use Rattle.batch_model.specs.Dues.{lacks_node, new_node, node_added}
-use Rattle.batch_model.specs.Steps.{DueStep}
 use Rattle.batch_model.specs.Sound.{IsSound, are_out_of_order, has_pool_row, has_node_row, share_seat, has_node_while_unended, is_of_pool, fits_nodes, has_slots_for}
 use Rattle.batch_model.specs.Variants.{State, PoolRow, NodeRow, RunRow}
-use Rattle.batch_model.proofs.Tests.{or_cases, or_first, or_second, and_true, not_true, true_not}
+use Rattle.batch_model.proofs.Tests.{or_first, or_second, and_true, not_true, true_not}
 use Rattle.batch_model.proofs.RowLists.{each_append, each_any, each_weaker, each_of_two, each_found, find_test, any_append_old, any_found, none_any}
 use Rattle.batch_model.proofs.DistinctLists.{distinct_append}
 
@@ -123,13 +120,13 @@ sound_node_added seats s pool seat h free f = record {
     begun = h.numbers.begun;
     runs = h.numbers.runs;
     nodes =
-      each_append (λ (node : NodeRow). nat_lt node.number (s.next_node + 1)) s.nodes (new_node s pool seat)
-      (each_weaker (λ (node : NodeRow). nat_lt node.number s.next_node) (λ (node : NodeRow). nat_lt node.number (s.next_node + 1))
-      (λ node. below_next node.number s.next_node) s.nodes h.numbers.nodes)
-      (below_own_next s.next_node);
+        each_append (λ (node : NodeRow). nat_lt node.number (s.next_node + 1)) s.nodes (new_node s pool seat)
+        (each_weaker (λ (node : NodeRow). nat_lt node.number s.next_node) (λ (node : NodeRow). nat_lt node.number (s.next_node + 1))
+        (λ node. below_next node.number s.next_node) s.nodes h.numbers.nodes)
+        (below_own_next s.next_node);
     nodes_of_runs =
-      each_weaker (λ (run : RunRow). nat_lt run.node s.next_node) (λ (run : RunRow). nat_lt run.node (s.next_node + 1))
-      (λ run. below_next run.node s.next_node) s.runs h.numbers.nodes_of_runs;
+        each_weaker (λ (run : RunRow). nat_lt run.node s.next_node) (λ (run : RunRow). nat_lt run.node (s.next_node + 1))
+        (λ run. below_next run.node s.next_node) s.runs h.numbers.nodes_of_runs;
     order = distinct_append are_out_of_order s.nodes (new_node s pool seat) h.numbers.order (number_is_last seats s pool seat h);
   };
   fitting = record { marks = h.fitting.marks; closing = h.fitting.closing; attempts = h.fitting.attempts };
@@ -141,25 +138,25 @@ sound_node_added seats s pool seat h free f = record {
   };
   seated = record {
     distinct =
-      distinct_append share_seat s.nodes (new_node s pool seat) h.seated.distinct
-      (not_true _ (find_test (λ (place : ℕ). not (list_any (λ (node : NodeRow). nat_eq node.seat place) s.nodes)) seat (range_with_len 1 seats) free));
+        distinct_append share_seat s.nodes (new_node s pool seat) h.seated.distinct
+        (not_true _ (find_test (λ (place : ℕ). not (list_any (λ (node : NodeRow). nat_eq node.seat place) s.nodes)) seat (range_with_len 1 seats) free));
     in_range =
-      each_append (λ (node : NodeRow). is_from_to 1 seats node.seat) s.nodes (new_node s pool seat) h.seated.in_range
-      (each_found (is_from_to 1 seats) (λ (place : ℕ). not (list_any (λ (node : NodeRow). nat_eq node.seat place) s.nodes)) seat (range_with_len 1 seats) free
-      (range_within 1 seats 1 seats (omega arith) (omega arith)));
+        each_append (λ (node : NodeRow). is_from_to 1 seats node.seat) s.nodes (new_node s pool seat) h.seated.in_range
+        (each_found (is_from_to 1 seats) (λ (place : ℕ). not (list_any (λ (node : NodeRow). nat_eq node.seat place) s.nodes)) seat (range_with_len 1 seats) free
+        (range_within 1 seats 1 seats (omega arith) (omega arith)));
     pools_of_nodes =
-      each_append (λ (node : NodeRow). has_pool_row s node.pool) s.nodes (new_node s pool seat) h.seated.pools_of_nodes
-      (any_found (is_pool pool.id) (lacks_node s) pool s.pools f (same_equiv.refl pool.id));
+        each_append (λ (node : NodeRow). has_pool_row s node.pool) s.nodes (new_node s pool seat) h.seated.pools_of_nodes
+        (any_found (is_pool pool.id) (lacks_node s) pool s.pools f (same_equiv.refl pool.id));
     nodes_of_runs =
-      each_weaker (has_node_while_unended s) (has_node_while_unended (node_added s seat pool).state) (node_there seats s pool seat h)
-      s.runs h.seated.nodes_of_runs;
+        each_weaker (has_node_while_unended s) (has_node_while_unended (node_added s seat pool).state) (node_there seats s pool seat h)
+        s.runs h.seated.nodes_of_runs;
   };
   belonging = h.belonging;
   ending = h.ending;
   naming = record {
     on_nodes =
-      each_of_two (λ (run : RunRow). nat_lt run.node s.next_node) (fits_nodes s) (fits_nodes (node_added s seat pool).state)
-      (run_fits seats s pool seat h) s.runs h.numbers.nodes_of_runs h.naming.on_nodes;
+        each_of_two (λ (run : RunRow). nat_lt run.node s.next_node) (fits_nodes s) (fits_nodes (node_added s seat pool).state)
+        (run_fits seats s pool seat h) s.runs h.numbers.nodes_of_runs h.naming.on_nodes;
     of_jobs = h.naming.of_jobs;
   };
   slots = each_append (has_slots_for s) s.nodes (new_node s pool seat) h.slots (slots_suffice seats s pool seat h);

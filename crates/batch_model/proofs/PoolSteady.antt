@@ -1,14 +1,11 @@
 -- Tables stay sound when a pool becomes steady.
-use Rattle.std.proofs.Common.{◌≡◌, ℕ, Bool, true, false, not, ◌||◌, nat_le, List, Option, Some, find, refl, sym, ◌∙◌}
-use Rattle.bt_base.specs.Ids.{same}
+use Rattle.std.proofs.Common.{◌≡◌, ℕ, Bool, true, not, ◌||◌, nat_le, List, Some, find, sym, ◌∙◌}
 use Rattle.bt_base.proofs.SameIds.{same_equiv}
 use Rattle.bt_rows.specs.Keys.{same_pool}
 use Rattle.bt_rows.specs.Lists.{AreDistinct}
-use Rattle.batch_model.specs.Finding.{Each}
 use Rattle.batch_model.specs.Rows.{is_pool}
 use Rattle.batch_model.specs.Slots.{held_slots}
 use Rattle.batch_model.specs.Dues.{has_reached, steady, pool_steady}
-use Rattle.batch_model.specs.Steps.{DueStep}
 use Rattle.batch_model.specs.Sound.{IsSound, has_pool_row, has_slots_for}
 use Rattle.batch_model.specs.Variants.{State, PoolRow, NodeRow}
 use Rattle.batch_model.proofs.RowLists.{each_weaker, each_found}
@@ -73,8 +70,8 @@ sound_steady seats s pool h f = record {
     distinct = h.seated.distinct;
     in_range = h.seated.in_range;
     pools_of_nodes =
-      each_weaker (λ (node : NodeRow). has_pool_row s node.pool) (λ (node : NodeRow). has_pool_row (pool_steady s pool).state node.pool)
-      (λ node. pool_row_kept s pool node.pool) s.nodes h.seated.pools_of_nodes;
+        each_weaker (λ (node : NodeRow). has_pool_row s node.pool) (λ (node : NodeRow). has_pool_row (pool_steady s pool).state node.pool)
+        (λ node. pool_row_kept s pool node.pool) s.nodes h.seated.pools_of_nodes;
     nodes_of_runs = h.seated.nodes_of_runs;
   };
   belonging = h.belonging;

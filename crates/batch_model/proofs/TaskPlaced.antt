@@ -1,6 +1,6 @@
 -- Tables stay sound when a task is placed.
 use Rattle.std.proofs.Common.{◌≡◌, ℕ, ◌+◌, ◌<◌, ◌≤◌, Bool, true, false, not, ◌&&◌, ◌||◌, nat_eq, nat_lt, nat_le, List, [], ◌∷◌, ◌++◌, Option, Some, None, is_some, is_none, find, filter, sum_by, cond, option_and_then, refl, sym, ◌∙◌, ap, subst, true≢false, arith}
-use Rattle.std.specs.List.{list_any, list_all}
+use Rattle.std.specs.List.{list_any}
 use Rattle.std.proofs.lemmas.Bool.Decides.{nat_tests}
 use Rattle.std.proofs.lemmas.List.Elements.{filter-append}
 use Rattle.std.proofs.lemmas.List.Sums.{sum_by-append}
@@ -9,17 +9,15 @@ use Rattle.bt_base.proofs.SameIds.{same_equiv}
 use Rattle.bt_rows.specs.Keys.{same_pool, same_pool_equiv, same_node, same_node_equiv, same_task, same_task_equiv, same_run}
 use Rattle.bt_rows.specs.Lists.{AreDistinct}
 use Rattle.bt_rows.proofs.DistinctRows.{found_first}
-use Rattle.batch_model.specs.Finding.{Each, names, change_where}
+use Rattle.batch_model.specs.Finding.{names, change_where}
 use Rattle.batch_model.specs.Rows.{is_pool, is_node, is_task, pool_of}
-use Rattle.batch_model.specs.Runs.{is_main, is_work, is_unended, is_run_of_task, is_present, ending_of, work_run}
+use Rattle.batch_model.specs.Runs.{is_main, is_work, is_unended, is_run_of_task, ending_of, work_run}
 use Rattle.batch_model.specs.Tasks.{is_active, is_placed, is_completed, is_undisturbed, is_busy, main_ending}
-use Rattle.batch_model.specs.Nodes.{is_in_pool}
 use Rattle.batch_model.specs.Slots.{owns, holds_on, held_slots}
 use Rattle.batch_model.specs.Placing.{is_placeable, fits, placed, place}
-use Rattle.batch_model.specs.Steps.{DueStep}
-use Rattle.batch_model.specs.Sound.{IsSound, has_fitting_marks, is_closed_if_completed, has_job_row, has_named_job, is_task_of_attempt, has_named_task, are_one_attempt, has_node_while_unended, belongs, can_be_settled, is_of_pool, fits_nodes, names_no_task, has_slots_for}
-use Rattle.batch_model.specs.Variants.{State, PoolRow, NodeRow, JobRow, TaskRow, RunRow, Ending, TaskStage, Active, Placed, Completed, TaskRun, Queued}
-use Rattle.batch_model.proofs.Tests.{and_true, and_first, and_second, or_first, or_second, true_not, not_true, asked, under}
+use Rattle.batch_model.specs.Sound.{IsSound, has_fitting_marks, is_closed_if_completed, has_job_row, has_named_job, is_task_of_attempt, has_named_task, are_one_attempt, has_node_while_unended, belongs, can_be_settled, fits_nodes, names_no_task, has_slots_for}
+use Rattle.batch_model.specs.Variants.{State, PoolRow, NodeRow, JobRow, TaskRow, RunRow, TaskStage, Active, Placed, Completed, TaskRun, Queued}
+use Rattle.batch_model.proofs.Tests.{and_true, and_first, and_second, or_first, true_not, not_true, asked, under}
 use Rattle.batch_model.proofs.RowLists.{each_append, each_weaker, each_of_two, each_found, find_test, find_append_old, any_append_old, any_found, any_weaker, any_weaker_where, none_any}
 use Rattle.batch_model.proofs.ChangedRows.{changed, each_change, each_change_same, any_change}
 use Rattle.batch_model.proofs.DistinctLists.{distinct_append, distinct_change, each_with_key}
@@ -190,9 +188,9 @@ module _ (seats : ℕ) (s : State) (job : JobRow) (node : NodeRow) (task : TaskR
       any_alike (nat_le old.attempt task.attempt) s.tasks
       (any_weaker_where (λ (other : TaskRow). not (is_it other) || nat_eq other.attempt task.attempt) (is_task_of_attempt old) (λ (other : TaskRow). nat_le old.attempt task.attempt)
       (λ other a e.
-        at_most_equal old.attempt other.attempt task.attempt
-        (asked (is_it other) (nat_eq other.attempt task.attempt) a (of_one_task old task other (and_first _ _ e) r))
-        (and_second _ _ e))
+      at_most_equal old.attempt other.attempt task.attempt
+      (asked (is_it other) (nat_eq other.attempt task.attempt) a (of_one_task old task other (and_first _ _ e) r))
+      (and_second _ _ e))
       s.tasks
       (each_with_key same_task same_task_equiv (λ (other : TaskRow). nat_eq other.attempt task.attempt) task task s.tasks h.keys.tasks first (is_itself task.attempt))
       (or_other (is_none old.task) (list_any (is_task_of_attempt old) s.tasks) k (names_some old.task task.id (and_second _ _ r))))
@@ -225,10 +223,10 @@ module _ (seats : ℕ) (s : State) (job : JobRow) (node : NodeRow) (task : TaskR
   belongs_still : (old : RunRow) → belongs s old ≡ true → belongs after old ≡ true
   belongs_still old k =
       under (is_work old.kind && is_unended old.state) (list_any (owns old) after.tasks) (λ e.
-        any_change is_it (λ (other : TaskRow). placed task) (λ (other : TaskRow). owns old other && not (is_it other)) (owns old)
-        (λ x t m. absurd (true≢false (sym t ∙ not_true (is_it x) (and_second (owns old x) _ m))))
-        (λ x t m. and_first _ _ m) s.tasks
-        (owned_elsewhere old (asked (is_work old.kind && is_unended old.state) (list_any (owns old) s.tasks) k e)))
+      any_change is_it (λ (other : TaskRow). placed task) (λ (other : TaskRow). owns old other && not (is_it other)) (owns old)
+      (λ x t m. absurd (true≢false (sym t ∙ not_true (is_it x) (and_second (owns old x) _ m))))
+      (λ x t m. and_first _ _ m) s.tasks
+      (owned_elsewhere old (asked (is_work old.kind && is_unended old.state) (list_any (owns old) s.tasks) k e)))
 
   -- the new run is of the placed task
   is_of_task : is_run_of_task task.job task.id run ≡ true
@@ -262,19 +260,19 @@ module _ (seats : ℕ) (s : State) (job : JobRow) (node : NodeRow) (task : TaskR
   held_before : (number : ℕ) (old : RunRow) → has_named_task s old ≡ true → (not (holds_on after number old) || holds_on s number old) ≡ true
   held_before number old k =
       under (holds_on after number old) (holds_on s number old) (λ e.
-        and_true (and_first (nat_eq old.node number) (list_any (owns old) after.tasks) e)
-        (owned_before old k (and_second (nat_eq old.node number) (list_any (owns old) after.tasks) e)))
+      and_true (and_first (nat_eq old.node number) (list_any (owns old) after.tasks) e)
+      (owned_before old k (and_second (nat_eq old.node number) (list_any (owns old) after.tasks) e)))
 
   -- the new run holds the task's slots on its node, and no other holds more than before
   held_after : (number : ℕ) → held_slots after number ≤ held_slots s number + cond (nat_eq node.number number) task.slots 0
   held_after number =
       rw (filter-append (holds_on after number) s.runs (run ∷ []), sum_by-append (λ (old : RunRow). old.slots) (filter (holds_on after number) s.runs) (filter (holds_on after number) (run ∷ [])))
       (let others : sum_by (λ (old : RunRow). old.slots) (filter (holds_on after number) s.runs) ≤ held_slots s number =
-        sum_by-fewer (λ (old : RunRow). old.slots) (holds_on after number) (holds_on s number) s.runs
-        (each_weaker (has_named_task s) (λ (old : RunRow). not (holds_on after number old) || holds_on s number old) (held_before number) s.runs h.named.tasks_of_runs)
+      sum_by-fewer (λ (old : RunRow). old.slots) (holds_on after number) (holds_on s number) s.runs
+      (each_weaker (has_named_task s) (λ (old : RunRow). not (holds_on after number old) || holds_on s number old) (held_before number) s.runs h.named.tasks_of_runs)
       in
       let new : sum_by (λ (old : RunRow). old.slots) (filter (holds_on after number) (run ∷ [])) ≤ cond (nat_eq node.number number) task.slots 0 =
-        at_most (nat_eq node.number number) (list_any (owns run) after.tasks)
+      at_most (nat_eq node.number number) (list_any (owns run) after.tasks)
       in omega arith)
     where
       at_most : (b c : Bool) → sum_by (λ (old : RunRow). old.slots) (cond (b && c) (run ∷ []) []) ≤ cond b task.slots 0
@@ -312,9 +310,9 @@ module _ (seats : ℕ) (s : State) (job : JobRow) (node : NodeRow) (task : TaskR
     slots_on_node other e i =
         each_weaker (λ (each : PoolRow). not (same_pool each pool) || nat_eq each.slots 1) (λ (each : PoolRow). not (is_pool other.pool each) || nat_le (held_slots after other.number) each.slots)
         (λ each k.
-          under (is_pool other.pool each) (nat_le (held_slots after other.number) each.slots) (λ t.
-            one_is_enough (held_slots after other.number) task.slots each.slots at_most one
-            (asked (same_pool each pool) (nat_eq each.slots 1) k (same_equiv.congr each.id other.pool pool.id t ∙ i))))
+        under (is_pool other.pool each) (nat_le (held_slots after other.number) each.slots) (λ t.
+        one_is_enough (held_slots after other.number) task.slots each.slots at_most one
+        (asked (same_pool each pool) (nat_eq each.slots 1) k (same_equiv.congr each.id other.pool pool.id t ∙ i))))
         s.pools (each_with_key same_pool same_pool_equiv (λ (each : PoolRow). nat_eq each.slots 1) pool pool s.pools h.keys.pools first_pool narrow)
       where
         one : nat_eq task.slots 1 ≡ true
@@ -331,9 +329,9 @@ module _ (seats : ℕ) (s : State) (job : JobRow) (node : NodeRow) (task : TaskR
     slots_elsewhere other e =
         each_weaker (λ (each : PoolRow). not (is_pool other.pool each) || nat_le (held_slots s other.number) each.slots) (λ (each : PoolRow). not (is_pool other.pool each) || nat_le (held_slots after other.number) each.slots)
         (λ each k.
-          under (is_pool other.pool each) (nat_le (held_slots after other.number) each.slots) (λ t.
-            less_is_enough (held_slots after other.number) (held_slots s other.number) each.slots at_most
-            (asked (is_pool other.pool each) (nat_le (held_slots s other.number) each.slots) k t)))
+        under (is_pool other.pool each) (nat_le (held_slots after other.number) each.slots) (λ t.
+        less_is_enough (held_slots after other.number) (held_slots s other.number) each.slots at_most
+        (asked (is_pool other.pool each) (nat_le (held_slots s other.number) each.slots) k t)))
         s.pools
       where
         at_most : held_slots after other.number ≤ held_slots s other.number
@@ -363,32 +361,32 @@ module _ (seats : ℕ) (s : State) (job : JobRow) (node : NodeRow) (task : TaskR
       numbers = record {
         begun = let b : 0 < s.next_run = h.numbers.begun in omega arith;
         runs =
-          each_append (λ (each : RunRow). nat_lt each.number (s.next_run + 1)) s.runs run
-          (each_weaker (λ (each : RunRow). nat_lt each.number s.next_run) (λ (each : RunRow). nat_lt each.number (s.next_run + 1))
-          (λ each. below_next each.number s.next_run) s.runs h.numbers.runs)
-          (below_own_next s.next_run);
+            each_append (λ (each : RunRow). nat_lt each.number (s.next_run + 1)) s.runs run
+            (each_weaker (λ (each : RunRow). nat_lt each.number s.next_run) (λ (each : RunRow). nat_lt each.number (s.next_run + 1))
+            (λ each. below_next each.number s.next_run) s.runs h.numbers.runs)
+            (below_own_next s.next_run);
         nodes = h.numbers.nodes;
         nodes_of_runs =
-          each_append (λ (each : RunRow). nat_lt each.node s.next_node) s.runs run h.numbers.nodes_of_runs
-          (each_found (λ (each : NodeRow). nat_lt each.number s.next_node) (fits s pool) node s.nodes on_node h.numbers.nodes);
+            each_append (λ (each : RunRow). nat_lt each.node s.next_node) s.runs run h.numbers.nodes_of_runs
+            (each_found (λ (each : NodeRow). nat_lt each.number s.next_node) (fits s pool) node s.nodes on_node h.numbers.nodes);
         order = h.numbers.order;
       };
       fitting = record {
         marks = each_change_same is_it (λ (old : TaskRow). placed task) has_fitting_marks (λ x t p. refl) s.tasks h.fitting.marks;
         closing = each_change_same is_it (λ (old : TaskRow). placed task) is_closed_if_completed (λ x t p. placed_unclosed) s.tasks h.fitting.closing;
         attempts =
-          each_change is_it (λ (old : TaskRow). placed task)
-          (λ (each : TaskRow). nat_lt each.attempt s.next_run) (λ (each : TaskRow). nat_lt each.attempt (s.next_run + 1))
-          (λ x t p. next_below task.attempt s.next_run (each_found (λ (each : TaskRow). nat_lt each.attempt s.next_run) (is_placeable job) task s.tasks f h.fitting.attempts))
-          (λ x t. below_next x.attempt s.next_run) s.tasks h.fitting.attempts;
+            each_change is_it (λ (old : TaskRow). placed task)
+            (λ (each : TaskRow). nat_lt each.attempt s.next_run) (λ (each : TaskRow). nat_lt each.attempt (s.next_run + 1))
+            (λ x t p. next_below task.attempt s.next_run (each_found (λ (each : TaskRow). nat_lt each.attempt s.next_run) (is_placeable job) task s.tasks f h.fitting.attempts))
+            (λ x t. below_next x.attempt s.next_run) s.tasks h.fitting.attempts;
       };
       named = record {
         jobs_of_tasks =
-          each_change_same is_it (λ (old : TaskRow). placed task) (λ (each : TaskRow). has_job_row s each.job) (λ x t p. has_job) s.tasks h.named.jobs_of_tasks;
+            each_change_same is_it (λ (old : TaskRow). placed task) (λ (each : TaskRow). has_job_row s each.job) (λ x t p. has_job) s.tasks h.named.jobs_of_tasks;
         jobs_of_runs = each_append (has_named_job s) s.runs run h.named.jobs_of_runs has_job;
         tasks_of_runs =
-          each_append (has_named_task after) s.runs run (each_weaker (has_named_task s) (has_named_task after) named_kept s.runs h.named.tasks_of_runs)
-          (placed_there (is_task_of_attempt run) (and_true is_of_task (is_at_most_itself (task.attempt + 1))));
+            each_append (has_named_task after) s.runs run (each_weaker (has_named_task s) (has_named_task after) named_kept s.runs h.named.tasks_of_runs)
+            (placed_there (is_task_of_attempt run) (and_true is_of_task (is_at_most_itself (task.attempt + 1))));
         main_runs = distinct_append are_one_attempt s.runs run h.named.main_runs is_first_run;
       };
       seated = record {
@@ -396,21 +394,21 @@ module _ (seats : ℕ) (s : State) (job : JobRow) (node : NodeRow) (task : TaskR
         in_range = h.seated.in_range;
         pools_of_nodes = h.seated.pools_of_nodes;
         nodes_of_runs =
-          each_append (has_node_while_unended s) s.runs run h.seated.nodes_of_runs
-          (any_found (is_node node.number) (fits s pool) node s.nodes on_node (is_itself node.number));
+            each_append (has_node_while_unended s) s.runs run h.seated.nodes_of_runs
+            (any_found (is_node node.number) (fits s pool) node s.nodes on_node (is_itself node.number));
       };
       belonging = each_append (belongs after) s.runs run (each_weaker (belongs s) (belongs after) belongs_still s.runs h.belonging) is_owned;
       ending =
-        each_change is_it (λ (old : TaskRow). placed task) (can_be_settled s) (can_be_settled after)
-        (λ x t p. or_first _ (or_first _ (new_run_present s node task))) (λ x t. settled_still x) s.tasks h.ending;
+          each_change is_it (λ (old : TaskRow). placed task) (can_be_settled s) (can_be_settled after)
+          (λ x t p. or_first _ (or_first _ (new_run_present s node task))) (λ x t. settled_still x) s.tasks h.ending;
       naming = record {
         on_nodes = each_append (fits_nodes s) s.runs run h.naming.on_nodes run_fits;
         of_jobs = each_append names_no_task s.runs run h.naming.of_jobs refl;
       };
       slots =
-        each_of_two (λ (other : NodeRow). not (same_node other node) || same other.pool pool.id) (has_slots_for s) (has_slots_for after) slots_still s.nodes
-        (each_with_key same_node same_node_equiv (λ (other : NodeRow). same other.pool pool.id) node node s.nodes h.keys.nodes first_node (and_second _ _ (and_first _ _ fitting_node)))
-        h.slots;
+          each_of_two (λ (other : NodeRow). not (same_node other node) || same other.pool pool.id) (has_slots_for s) (has_slots_for after) slots_still s.nodes
+          (each_with_key same_node same_node_equiv (λ (other : NodeRow). same other.pool pool.id) node node s.nodes h.keys.nodes first_node (and_second _ _ (and_first _ _ fitting_node)))
+          h.slots;
       built = record {
         runs = each_append (λ (each : RunRow). is_main each.kind || not (is_unended each.state)) s.runs run h.built.runs refl;
         nodes = h.built.nodes;
