@@ -1,3 +1,4 @@
+pub mod Putting
 pub mod Tests
 pub mod RowLists
 pub mod ChangedRows
@@ -7,3 +8,9 @@ pub mod SoundMoment
 pub mod PoolAdded
 pub mod JobAdded
 pub mod TaskAdded
+pub mod MappedRows
+pub mod RunsMove
+pub mod RunEnded
+pub mod TasksKept
+pub mod RunTaken
+pub mod EventSound
