@@ -1,5 +1,5 @@
 -- Each event leaves sound tables sound.
-use Rattle.std.proofs.Common.{◌≡◌, ℕ, Bool, true, false, nat_le, List, length, Option, Some, None, is_some, ◌⊎◌, inl, inr, refl, sym, subst}
+use Rattle.std.proofs.Common.{◌≡◌, ℕ, true, false, nat_le, List, length, Option, Some, None, is_some, inl, inr, refl, sym, subst}
 use Rattle.std.specs.List.{find}
 use Rattle.std.proofs.lemmas.Bool.Decides.{Decides-eqb}
 use Rattle.bt_base.proofs.SameIds.{same_equiv}
@@ -17,7 +17,7 @@ use Rattle.batch_model.specs.Pools.{new_pool}
 use Rattle.batch_model.specs.Jobs.{is_past, new_job}
 use Rattle.batch_model.specs.Limits.{pool_limit, job_limit, task_limit}
 use Rattle.batch_model.specs.Sound.{IsSound, has_job_row}
-use Rattle.batch_model.specs.Variants.{State, PoolRow, JobRow, TaskRow, RunRow, RunState, Waiting, Queued, Taken, Ended, Withdrawn, Ending}
+use Rattle.batch_model.specs.Variants.{State, PoolRow, JobRow, RunRow, RunState, Waiting, Queued, Taken, Ended, Withdrawn, Ending}
 use Rattle.batch_model.proofs.Tests.{passes_or_not}
 use Rattle.batch_model.proofs.RowLists.{find_none, find_test, any_found}
 use Rattle.batch_model.proofs.SoundMoment.{sound_moment}
