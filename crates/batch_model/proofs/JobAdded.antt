@@ -1,11 +1,10 @@
 -- Sound tables stay sound when a job with a new id is added.
-use Rattle.std.proofs.Common.{◌≡◌, ℕ, Bool, true, false, List, Option, Some, None, refl}
+use Rattle.std.proofs.Common.{◌≡◌, ℕ, true, false, List, Option, Some, None, refl}
 use Rattle.std.specs.Option.{option_map_or}
-use Rattle.std.specs.List.{list_any}
 use Rattle.bt_rows.specs.Keys.{same_job}
 use Rattle.batch_model.specs.Rows.{is_job, add_job_row}
-use Rattle.batch_model.specs.Sound.{KeysAreDistinct, NumbersAreNew, TasksAreFitting, NamedRowsAreThere, SeatsAreDistinct, RunsNameTheirs, OnlyTasksRun, IsSound, has_job_row, has_named_job}
-use Rattle.batch_model.specs.Variants.{State, JobRow, TaskRow, RunRow}
+use Rattle.batch_model.specs.Sound.{IsSound, has_job_row, has_named_job}
+use Rattle.batch_model.specs.Variants.{State, JobRow, TaskRow}
 use Rattle.batch_model.proofs.RowLists.{each_weaker, any_append_old}
 use Rattle.batch_model.proofs.DistinctLists.{distinct_append}
 

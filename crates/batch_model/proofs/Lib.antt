@@ -21,3 +21,4 @@ pub mod TasksKept
 pub mod RunTaken
 pub mod Completed
 pub mod DueSound
+pub mod EventSound

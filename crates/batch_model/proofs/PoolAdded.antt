@@ -1,12 +1,11 @@
 -- Sound tables stay sound when a pool with a new id is added.
-use Rattle.std.proofs.Common.{◌≡◌, ℕ, Bool, true, false, not, ◌&&◌, ◌||◌, nat_le, List, [], ◌∷◌, refl, sym, ◌∙◌}
-use Rattle.std.specs.List.{list_any, list_all}
+use Rattle.std.proofs.Common.{◌≡◌, ℕ, true, false, not, ◌||◌, nat_le, List, sym, ◌∙◌}
 use Rattle.bt_base.specs.Ids.{same}
 use Rattle.bt_base.proofs.SameIds.{same_equiv}
 use Rattle.bt_rows.specs.Keys.{same_pool}
 use Rattle.batch_model.specs.Rows.{is_pool, add_pool_row}
 use Rattle.batch_model.specs.Slots.{held_slots}
-use Rattle.batch_model.specs.Sound.{KeysAreDistinct, NumbersAreNew, TasksAreFitting, NamedRowsAreThere, SeatsAreDistinct, RunsNameTheirs, OnlyTasksRun, IsSound, has_pool_row, has_slots_for}
+use Rattle.batch_model.specs.Sound.{IsSound, has_pool_row, has_slots_for}
 use Rattle.batch_model.specs.Variants.{State, PoolRow, NodeRow}
 use Rattle.batch_model.proofs.Tests.{under}
 use Rattle.batch_model.proofs.RowLists.{each_append, each_weaker, each_of_two, any_append_old, any_agree}

@@ -1,7 +1,7 @@
 -- The first tables are sound, and tables stay sound when the last moment rises, of which no part of soundness speaks.
 use Rattle.std.proofs.Common.{ℕ, refl, arith}
 use Rattle.batch_model.specs.Events.{at_moment}
-use Rattle.batch_model.specs.Sound.{KeysAreDistinct, NumbersAreNew, TasksAreFitting, NamedRowsAreThere, SeatsAreDistinct, RunsNameTheirs, OnlyTasksRun, IsSound}
+use Rattle.batch_model.specs.Sound.{IsSound}
 use Rattle.batch_model.specs.Variants.{State, empty_state}
 
 -- empty tables are sound

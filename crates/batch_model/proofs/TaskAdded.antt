@@ -1,6 +1,6 @@
 -- Sound tables stay sound when a task with a new key is added to a job that has a row.
 use Rattle.std.proofs.Common.{◌≡◌, ℕ, ◌<◌, Bool, true, false, not, ◌&&◌, ◌||◌, nat_eq, nat_lt, nat_le, List, sum_by, is_none, refl, sym, ap, subst}
-use Rattle.std.specs.List.{list_any, list_all, filter}
+use Rattle.std.specs.List.{list_any, list_all}
 use Rattle.std.proofs.lemmas.Bool.Decides.{Decides-ltb}
 use Rattle.bt_rows.specs.declared.event.TaskSpec.{TaskSpec}
 use Rattle.bt_rows.specs.Keys.{same_task}
@@ -8,7 +8,7 @@ use Rattle.batch_model.specs.Rows.{is_pool, is_task, add_task_row}
 use Rattle.batch_model.specs.Runs.{is_work, is_unended}
 use Rattle.batch_model.specs.Tasks.{new_task}
 use Rattle.batch_model.specs.Slots.{owns, holds_on, held_slots}
-use Rattle.batch_model.specs.Sound.{KeysAreDistinct, NumbersAreNew, TasksAreFitting, NamedRowsAreThere, SeatsAreDistinct, RunsNameTheirs, OnlyTasksRun, IsSound, has_job_row, has_named_task, is_task_of_attempt, has_fitting_marks, is_closed_if_completed, belongs, can_be_settled, has_slots_for}
+use Rattle.batch_model.specs.Sound.{IsSound, has_job_row, has_named_task, is_task_of_attempt, has_fitting_marks, is_closed_if_completed, belongs, can_be_settled, has_slots_for}
 use Rattle.batch_model.specs.Variants.{State, PoolRow, NodeRow, TaskRow, RunRow}
 use Rattle.batch_model.proofs.Tests.{asked, under}
 use Rattle.batch_model.proofs.RowLists.{each_append, each_weaker, any_append_old, any_append_same, filter_agree}
