@@ -1,3 +1,4 @@
+pub mod Gaining
 pub mod Pairs
 pub mod SameIds
 pub mod Turns
