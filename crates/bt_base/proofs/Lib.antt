@@ -3,3 +3,4 @@ pub mod Pairs
 pub mod SameIds
 pub mod Turns
 pub mod Utf8Texts
+pub mod WordMeanings

@@ -6,3 +6,4 @@ pub mod Ids
 pub mod Moments
 pub mod SureLeft
 pub mod Utf8
+pub mod WordSteps
