@@ -1,4 +1,5 @@
 pub mod Gaining
+pub mod IdNumbers
 pub mod Pairs
 pub mod SameIds
 pub mod Turns
