@@ -29,3 +29,6 @@ pub use source::{Failed, MemorySource, ReadFault, Source, StdSource, SureSource,
 pub use text::Text;
 pub use utf8::text_of;
 pub use word::Word;
+
+#[cfg(test)]
+mod tests;
