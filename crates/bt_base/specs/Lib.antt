@@ -7,3 +7,4 @@ pub mod Moments
 pub mod SureLeft
 pub mod Utf8
 pub mod WordSteps
+pub mod WordsSoFar
