@@ -1,9 +1,10 @@
 //! Members of a part. Where a member is of a wrong kind or out of range, or a required one is absent, the readers
-//! answer `InvalidPropertyValue` with its name.
+//! answer `InvalidPropertyValue` with its name. Only those that are passed an allocator take memory.
 ghost use Rattle.std.specs.Prelude.{◌≡◌, ◌≤◌, option_map, IfOk};
 ghost use Rattle.std.specs.Prelude.{◌≤ℤ◌};
 ghost use Rattle.serde_json.specs.View.{view, items_view};
-ghost use Rattle.bt_base.specs.Fails.{Gives, IsAs};
+ghost use Rattle.bt_base.specs.Fails.{Gives, GivesAs};
+ghost use Rattle.bt_base.specs.declared.fail.Fail.TheVariants.{Why};
 ghost use Rattle.bt_rows.specs.declared.refusal.Refusal.TheVariants.{InvalidPropertyValue};
 ghost use Rattle.wire_members.specs.Members.{member_of, or_bad, count_in, signed_in, id_in, command_in};
 ghost use Rattle.wire_members.specs.Members.{count_member, required_count, signed_member, required_signed, flag_member, text_member, id_member, command_member, object_member, required_object, list_member, unbuilt_member};
@@ -15,10 +16,10 @@ use serde_json::Value;
 use std::alloc::Global;
 
 /// The refusal that names the member.
-pub fn bad(name: Member) -> Refusal
-    ensures { result ≡ InvalidPropertyValue name }
+pub fn bad(name: Member) -> Fail<Refusal>
+    ensures { result ≡ Why (InvalidPropertyValue name) }
 {
-    Refusal::InvalidPropertyValue(name)
+    Fail::Why(Refusal::InvalidPropertyValue(name))
 }
 
 /// The member of that name, where it is there and not null.
@@ -31,8 +32,8 @@ pub fn member<'v>(part: Option<&'v Value>, name: Member) -> Option<&'v Value>
 }
 
 /// Nothing, where the member is absent: one that the service does not take yet.
-pub fn unbuilt_member(part: Option<&Value>, name: Member) -> Result<(), Refusal>
-    ensures { result ≡ unbuilt_member (option_map (λ v. view v.now) part.entry) name }
+pub fn unbuilt_member(part: Option<&Value>, name: Member) -> Result<(), Fail<Refusal>>
+    ensures { Gives result (unbuilt_member (option_map (λ v. view v.now) part.entry) name) }
 {
     match member(part, name) {
         None => Ok(()),
@@ -56,8 +57,8 @@ pub fn count_member(
     low: u64,
     high: u64,
     default: u64,
-) -> Result<u64, Refusal>
-    ensures value { result ≡ count_member (option_map (λ v. view v.now) part.entry) name low high default }
+) -> Result<u64, Fail<Refusal>>
+    ensures value { Gives result (count_member (option_map (λ v. view v.now) part.entry) name low high default) }
     ensures bound { low ≤ default → default ≤ high → IfOk result (λ n. (low ≤ n) × (n ≤ high)) }
 {
     match member(part, name) {
@@ -72,8 +73,8 @@ pub fn required_count(
     name: Member,
     low: u64,
     high: u64,
-) -> Result<u64, Refusal>
-    ensures value { result ≡ required_count (option_map (λ v. view v.now) part.entry) name low high }
+) -> Result<u64, Fail<Refusal>>
+    ensures value { Gives result (required_count (option_map (λ v. view v.now) part.entry) name low high) }
     ensures bound { IfOk result (λ n. (low ≤ n) × (n ≤ high)) }
 {
     match member(part, name) {
@@ -98,8 +99,8 @@ pub fn signed_member(
     low: i64,
     high: i64,
     default: i64,
-) -> Result<i64, Refusal>
-    ensures value { result ≡ signed_member (option_map (λ v. view v.now) part.entry) name low high default }
+) -> Result<i64, Fail<Refusal>>
+    ensures value { Gives result (signed_member (option_map (λ v. view v.now) part.entry) name low high default) }
     ensures bound { low ≤ℤ default → default ≤ℤ high → IfOk result (λ n. (low ≤ℤ n) × (n ≤ℤ high)) }
 {
     match member(part, name) {
@@ -114,8 +115,8 @@ pub fn required_signed(
     name: Member,
     low: i64,
     high: i64,
-) -> Result<i64, Refusal>
-    ensures value { result ≡ required_signed (option_map (λ v. view v.now) part.entry) name low high }
+) -> Result<i64, Fail<Refusal>>
+    ensures value { Gives result (required_signed (option_map (λ v. view v.now) part.entry) name low high) }
     ensures bound { IfOk result (λ n. (low ≤ℤ n) × (n ≤ℤ high)) }
 {
     match member(part, name) {
@@ -125,8 +126,8 @@ pub fn required_signed(
 }
 
 /// A truth value, or the default.
-pub fn flag_member(part: Option<&Value>, name: Member, default: bool) -> Result<bool, Refusal>
-    ensures { result ≡ flag_member (option_map (λ v. view v.now) part.entry) name default }
+pub fn flag_member(part: Option<&Value>, name: Member, default: bool) -> Result<bool, Fail<Refusal>>
+    ensures { Gives result (flag_member (option_map (λ v. view v.now) part.entry) name default) }
 {
     match member(part, name) {
         None => Ok(default),
@@ -146,7 +147,7 @@ pub fn text_member(
         None => Ok(None),
         Some(value) => match value.as_str() {
             Some(text) => Ok(Some(Text::of_string(String::from_str(alloc, text)?))),
-            None => Err(Fail::Why(bad(name))),
+            None => Err(bad(name)),
         },
     }
 }
@@ -155,11 +156,11 @@ fn id_of_value(alloc: Global, value: &Value, name: Member) -> Result<Id, Fail<Re
     ensures { Gives result (or_bad name (id_in (view value.now))) }
 {
     let Some(text) = value.as_str() else {
-        return Err(Fail::Why(bad(name)));
+        return Err(bad(name));
     };
     match Id::read(alloc, text) {
         Ok(id) => Ok(id),
-        Err(Fail::Why(_)) => Err(Fail::Why(bad(name))),
+        Err(Fail::Why(_)) => Err(bad(name)),
         Err(Fail::Memory) => Err(Fail::Memory),
     }
 }
@@ -169,7 +170,7 @@ pub fn id_member(alloc: Global, part: Option<&Value>, name: Member) -> Result<Id
     ensures { Gives result (id_member (option_map (λ v. view v.now) part.entry) name) }
 {
     match member(part, name) {
-        None => Err(Fail::Why(bad(name))),
+        None => Err(bad(name)),
         Some(value) => id_of_value(alloc, value, name),
     }
 }
@@ -182,11 +183,11 @@ fn command_of_value(
     ensures { Gives result (or_bad name (command_in (view value.now))) }
 {
     let Some(text) = value.as_str() else {
-        return Err(Fail::Why(bad(name)));
+        return Err(bad(name));
     };
     match CommandLine::read(alloc, text)? {
         Some(line) => Ok(line),
-        None => Err(Fail::Why(bad(name))),
+        None => Err(bad(name)),
     }
 }
 
@@ -199,7 +200,7 @@ pub fn command_member(
     ensures { Gives result (command_member (option_map (λ v. view v.now) part.entry) name) }
 {
     match member(part, name) {
-        None => Err(Fail::Why(bad(name))),
+        None => Err(bad(name)),
         Some(value) => command_of_value(alloc, value, name),
     }
 }
@@ -208,8 +209,8 @@ pub fn command_member(
 pub fn object_member<'v>(
     part: Option<&'v Value>,
     name: Member,
-) -> Result<Option<&'v Value>, Refusal>
-    ensures { IsAs (option_map (λ v. view v.now)) result (object_member (option_map (λ v. view v.now) part.entry) name) }
+) -> Result<Option<&'v Value>, Fail<Refusal>>
+    ensures { GivesAs (option_map (λ v. view v.now)) result (object_member (option_map (λ v. view v.now) part.entry) name) }
 {
     match member(part, name) {
         None => Ok(None),
@@ -222,8 +223,11 @@ pub fn object_member<'v>(
 }
 
 /// An object in the part, which has to be there.
-pub fn required_object<'v>(part: Option<&'v Value>, name: Member) -> Result<&'v Value, Refusal>
-    ensures { IsAs (λ v. view v.now) result (required_object (option_map (λ v. view v.now) part.entry) name) }
+pub fn required_object<'v>(
+    part: Option<&'v Value>,
+    name: Member,
+) -> Result<&'v Value, Fail<Refusal>>
+    ensures { GivesAs (λ v. view v.now) result (required_object (option_map (λ v. view v.now) part.entry) name) }
 {
     match member(part, name) {
         None => Err(bad(name)),
@@ -236,8 +240,8 @@ pub fn required_object<'v>(part: Option<&'v Value>, name: Member) -> Result<&'v 
 }
 
 /// The items of a list, none where it is absent.
-pub fn list_member<'v>(part: Option<&'v Value>, name: Member) -> Result<&'v [Value], Refusal>
-    ensures { IsAs (λ vs. items_view vs.now) result (list_member (option_map (λ v. view v.now) part.entry) name) }
+pub fn list_member<'v>(part: Option<&'v Value>, name: Member) -> Result<&'v [Value], Fail<Refusal>>
+    ensures { GivesAs (λ vs. items_view vs.now) result (list_member (option_map (λ v. view v.now) part.entry) name) }
 {
     match member(part, name) {
         None => Ok(&[]),

@@ -1,9 +1,11 @@
 //! Members that are words, in any case.
 ghost use Rattle.std.specs.Prelude.{◌≡◌, ℕ, List, Option, option_map};
 ghost use Rattle.serde_json.specs.View.{view};
+ghost use Rattle.bt_base.specs.Fails.{Gives};
 ghost use Rattle.wire_members.specs.Members.{word_member, required_word, word_if};
 
 use crate::member::{bad, member};
+use bt_base::Fail;
 use bt_rows::member::Member;
 use bt_rows::refusal::Refusal;
 use serde_json::Value;
@@ -22,8 +24,8 @@ pub fn word_member<W: WordKind>(
     part: Option<&Value>,
     name: Member,
     default: W,
-) -> Result<W, Refusal>
-    ensures { result ≡ word_member W.of_text (option_map (λ v. view v.now) part.entry) name default }
+) -> Result<W, Fail<Refusal>>
+    ensures { Gives result (word_member W.of_text (option_map (λ v. view v.now) part.entry) name default) }
 {
     match member(part, name) {
         None => Ok(default),
@@ -32,8 +34,8 @@ pub fn word_member<W: WordKind>(
 }
 
 /// A word that has to be there; else, or where there is another value, `InvalidPropertyValue(name)`.
-pub fn required_word<W: WordKind>(part: Option<&Value>, name: Member) -> Result<W, Refusal>
-    ensures { result ≡ required_word W.of_text (option_map (λ v. view v.now) part.entry) name }
+pub fn required_word<W: WordKind>(part: Option<&Value>, name: Member) -> Result<W, Fail<Refusal>>
+    ensures { Gives result (required_word W.of_text (option_map (λ v. view v.now) part.entry) name) }
 {
     match member(part, name) {
         None => Err(bad(name)),
@@ -42,8 +44,8 @@ pub fn required_word<W: WordKind>(part: Option<&Value>, name: Member) -> Result<
 }
 
 /// A word, or none where it is absent. Another value is `InvalidPropertyValue(name)`.
-pub fn word_if<W: WordKind>(part: Option<&Value>, name: Member) -> Result<Option<W>, Refusal>
-    ensures { result ≡ word_if W.of_text (option_map (λ v. view v.now) part.entry) name }
+pub fn word_if<W: WordKind>(part: Option<&Value>, name: Member) -> Result<Option<W>, Fail<Refusal>>
+    ensures { Gives result (word_if W.of_text (option_map (λ v. view v.now) part.entry) name) }
 {
     match member(part, name) {
         None => Ok(None),
