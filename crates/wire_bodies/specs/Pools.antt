@@ -1,0 +1,31 @@
+-- The body of `add-pool`.
+use Rattle.std.specs.Prelude.{ℕ, List, Some, None, Result, Ok, false}
+use Rattle.serde_json.specs.Data.{Data}
+use Rattle.bt_base.specs.Fails.{◌>>=◌}
+use Rattle.bt_rows.specs.declared.member.Member.TheVariants as names
+use Rattle.bt_rows.specs.declared.event.PoolSpec.{PoolSpec}
+use Rattle.bt_rows.specs.declared.pool.Fill.TheVariants.{Spread}
+use Rattle.bt_rows.specs.declared.refusal.Refusal.{Refusal}
+use Rattle.wire_members.specs.Body.{object_of}
+use Rattle.wire_members.specs.Members.{count_member, id_member, unbuilt_member}
+
+-- one slot, nodes filled evenly, and 15 minutes for a resize
+unfoldable pub pool_in : Data → Result PoolSpec Refusal
+pool_in d = do
+  id ← id_member (Some d) names.Id
+  dedicated ← count_member (Some d) names.TargetDedicatedNodes 0 1000 0
+  _ ← unbuilt_member (Some d) names.TargetLowPriorityNodes
+  _ ← unbuilt_member (Some d) names.TaskSlotsPerNode
+  _ ← unbuilt_member (Some d) names.TaskSchedulingPolicy
+  _ ← unbuilt_member (Some d) names.EnableInterNodeCommunication
+  _ ← unbuilt_member (Some d) names.ResizeTimeout
+  _ ← unbuilt_member (Some d) names.StartTask
+  _ ← unbuilt_member (Some d) names.EnableAutoScale
+  _ ← unbuilt_member (Some d) names.AutoScaleFormula
+  _ ← unbuilt_member (Some d) names.AutoScaleEvaluationInterval
+  Ok (record { id = id; dedicated = dedicated; low = 0; slots = 1; fill = Spread; inter = false; timeout = 900000; start = None; scale = None })
+
+unfoldable pub pool_of : List ℕ → Result PoolSpec Refusal
+pool_of bytes = do
+  d ← object_of bytes
+  pool_in d

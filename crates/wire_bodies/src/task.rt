@@ -1,0 +1,56 @@
+//! The body of `add-task`.
+ghost use Rattle.std.specs.Prelude.{◌≡◌, true, IfOk};
+ghost use Rattle.serde_json.specs.View.{view};
+ghost use Rattle.bt_base.specs.Fails.{Gives};
+ghost use Rattle.bt_rows.specs.Ranges.{is_task_spec_in_range};
+ghost use Rattle.wire_bodies.specs.Tasks.{task_in, task_of};
+
+use bt_base::{Fail, List};
+use bt_rows::event::TaskSpec;
+use bt_rows::member::Member;
+use bt_rows::refusal::Refusal;
+use serde_json::Value;
+use std::alloc::Global;
+use wire_members::{command_member, id_member, read_object, unbuilt_member};
+
+#[tactic(auto, unfolding(crate::specs::Tasks::task_in))]
+fn task(alloc: Global, body: &Value) -> Result<TaskSpec, Fail<Refusal>>
+    ensures value { Gives result (task_in (view body.now)) }
+    ensures kept { IfOk result (λ spec. is_task_spec_in_range spec ≡ true) }
+{
+    let id = id_member(alloc, Some(body), Member::Id)?;
+    let line = command_member(alloc, Some(body), Member::CommandLine)?;
+    unbuilt_member(Some(body), Member::RequiredSlots)?;
+    unbuilt_member(Some(body), Member::Constraints)?;
+    unbuilt_member(Some(body), Member::ExitConditions)?;
+    unbuilt_member(Some(body), Member::DependsOn)?;
+    unbuilt_member(Some(body), Member::MultiInstanceSettings)?;
+    Ok(TaskSpec {
+        id,
+        line,
+        slots: 1,
+        retries: None,
+        wall: None,
+        retention: Some(604_800_000),
+        codes: List::empty(alloc),
+        ranges: List::empty(alloc),
+        launch: None,
+        other: None,
+        needs: List::empty(alloc),
+        spans: List::empty(alloc),
+        multi: None,
+    })
+}
+
+/// The body of `add-task`: `id` and `commandLine`.
+///
+/// Bytes that are no JSON object are `UnreadableBody`. A member that is of a wrong kind or absent and a member that the
+/// service does not take yet are `InvalidPropertyValue` with its name.
+#[tactic(auto, unfolding(crate::specs::Tasks::task_of))]
+pub fn read_task(alloc: Global, bytes: &[u8]) -> Result<TaskSpec, Fail<Refusal>>
+    ensures value { Gives result (task_of bytes.now) }
+    ensures kept { IfOk result (λ spec. is_task_spec_in_range spec ≡ true) }
+{
+    let body = read_object(alloc, bytes)?;
+    task(alloc, &body)
+}

@@ -1,0 +1,82 @@
+-- What a line of a script asks.
+use Rattle.std.specs.Prelude.{ℕ, Bool, true, List, [], ◌∷◌, length, Option, Some, None, Result, Ok, Err, nat_lt, ◌==◌, if◌then◌else◌}
+use Rattle.std.specs.Result.{result_ok}
+use Rattle.bt_base.specs.Fails.{◌>>=◌}
+use Rattle.bt_base.specs.Utf8.{utf8_text}
+use Rattle.bt_base.specs.Ids.{read_id}
+use Rattle.bt_rows.specs.declared.member.Member.TheVariants as names
+use Rattle.bt_rows.specs.declared.event.EventKind.{EventKind}
+use Rattle.bt_rows.specs.declared.event.EventKind.TheVariants as events
+use Rattle.bt_rows.specs.declared.refusal.Refusal.{Refusal}
+use Rattle.bt_rows.specs.declared.refusal.Refusal.TheVariants.{UnreadableBody}
+use Rattle.wire_members.specs.Members.{or_bad}
+use Rattle.wire_bodies.specs.Pools.{pool_of}
+use Rattle.wire_bodies.specs.Jobs.{job_of}
+use Rattle.wire_bodies.specs.Tasks.{task_of}
+use Rattle.wire_lines.specs.declared.line.LineRequest.{LineRequest}
+use Rattle.wire_lines.specs.declared.line.LineRequest.TheVariants.{Skip, Call}
+use Rattle.wire_lines.specs.declared.line_word.LineWord.{LineWord}
+use Rattle.wire_lines.specs.declared.line_word.LineWord.TheVariants as words
+use Rattle.wire_lines.specs.Words.{word_in}
+use Rattle.wire_lines.specs.Parts.{two_parts, just_two}
+use Rattle.wire_lines.specs.Numbers.{number_in, moment_in, ending_in}
+
+-- the value; where there is none, the line asks nothing that is known
+abbrev pub or_unreadable : {A : Type 0} → Option A → Result A Refusal
+or_unreadable (Some a) = Ok a
+or_unreadable None = Err UnreadableBody
+
+-- an id among a line's arguments
+unfoldable pub id_argument : List ℕ → Result (List ℕ) Refusal
+id_argument bytes = do
+  text ← or_unreadable (utf8_text bytes)
+  or_bad names.Id (result_ok (read_id text))
+
+-- what a word asks with the text behind it
+unfoldable pub event_with : LineWord → List ℕ → Result EventKind Refusal
+event_with words.AddPool text = do
+  pool ← pool_of text
+  Ok (events.AddPool pool)
+event_with words.AddJob text = do
+  job ← job_of text
+  Ok (events.AddJob job.0 job.1)
+event_with words.AddTask text = do
+  parts ← or_unreadable (two_parts text)
+  job ← id_argument parts.0
+  task ← task_of parts.1
+  Ok (events.AddTask job task)
+event_with words.Take text = do
+  run ← or_unreadable (number_in text)
+  Ok (events.Take run)
+event_with words.End text = do
+  parts ← or_unreadable (just_two text)
+  run ← or_unreadable (number_in parts.0)
+  ending ← or_unreadable (ending_in parts.1)
+  Ok (events.End run ending)
+
+-- a word, a space and its arguments
+unfoldable pub event_in : List ℕ → Result EventKind Refusal
+event_in text = do
+  parts ← or_unreadable (two_parts text)
+  word ← or_unreadable (word_in parts.0)
+  event_with word parts.1
+
+-- a moment, a space and an event
+unfoldable pub call_in : List ℕ → Result LineRequest Refusal
+call_in text = do
+  parts ← or_unreadable (two_parts text)
+  moment ← or_unreadable (moment_in parts.0)
+  event ← event_in parts.1
+  Ok (Call moment event)
+
+-- an empty line, or one that begins with `#`
+abbrev pub is_skipped : List ℕ → Bool
+is_skipped [] = true
+is_skipped (b ∷ line) = b == 35
+
+-- a line that is not skipped has at most 1,048,576 bytes
+unfoldable pub line_of : List ℕ → Result LineRequest Refusal
+line_of line =
+    if is_skipped line then Ok Skip
+    else if nat_lt 1048576 (length line) then Err UnreadableBody
+    else call_in line

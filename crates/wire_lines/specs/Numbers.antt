@@ -1,0 +1,40 @@
+-- Numbers, moments and endings in a line.
+use Rattle.std.specs.Prelude.{ℕ, ◌^◌, ℤ, pos, neg_ℤ, List, drop, length, slice_index, Option, Some, None, option_map, option_and_then, nat_lt, nat_le, ◌&&◌, ◌==◌, codes, if◌then◌else◌}
+use Rattle.std.specs.List.{list_all}
+use Rattle.std.specs.Char.{is_ascii_digit}
+use Rattle.std.specs.Str.{bytes_eq}
+use Rattle.std.specs.Str.Parse.{digits_value}
+use Rattle.bt_base.specs.Moments.{moment_of}
+use Rattle.bt_rows.specs.declared.run.Ending.{Ending}
+use Rattle.bt_rows.specs.declared.run.Ending.TheVariants.{Code, NoCode, NotStarted}
+
+-- one digit or more, with a value of 64 bits
+unfoldable pub number_in : List ℕ → Option ℕ
+number_in text =
+    if list_all is_ascii_digit text && nat_lt 0 (length text) && nat_lt (digits_value 10 text) (2 ^ 64) then Some (digits_value 10 text)
+    else None
+
+-- digits, up to the last moment
+abbrev pub moment_in : List ℕ → Option ℕ
+moment_in text = option_and_then moment_of (number_in text)
+
+-- the code, behind a minus
+abbrev pub code_below : ℕ → Option ℤ
+code_below n = if nat_le n (2 ^ 31) then Some (neg_ℤ (pos n)) else None
+
+-- the code, without a minus
+abbrev pub code_above : ℕ → Option ℤ
+code_above n = if nat_lt n (2 ^ 31) then Some (pos n) else None
+
+-- digits, which may have one minus before them, with a value of 32 bits
+abbrev pub code_in : List ℕ → Option ℤ
+code_in text =
+    if slice_index text 0 == 45 then option_and_then code_below (number_in (drop 1 text))
+    else option_and_then code_above (number_in text)
+
+-- `none`, `notstarted` or a code
+unfoldable pub ending_in : List ℕ → Option Ending
+ending_in text =
+    if bytes_eq text (codes "none") then Some NoCode
+    else if bytes_eq text (codes "notstarted") then Some NotStarted
+    else option_map (λ code. Code code) (code_in text)

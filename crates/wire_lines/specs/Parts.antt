@@ -1,0 +1,18 @@
+-- The parts of a line: what stands between its spaces.
+use Rattle.std.specs.Prelude.{ℕ, suc, Bool, List, take, drop, Option, Some, None, option_map, option_and_then, ◌==◌, if◌then◌else◌}
+use Rattle.std.specs.List.{position, list_any}
+
+abbrev pub is_space : ℕ → Bool
+is_space b = b == 32
+
+-- what stands before the first space, and what stands after it
+abbrev pub two_parts : List ℕ → Option (List ℕ × List ℕ)
+two_parts text = option_map (λ i. (take i text, drop (suc i) text)) (position is_space text)
+
+-- a text without a space
+abbrev pub one_part : List ℕ → Option (List ℕ)
+one_part text = if list_any is_space text then None else Some text
+
+-- two texts without a space, parted by one
+abbrev pub just_two : List ℕ → Option (List ℕ × List ℕ)
+just_two text = option_and_then (λ parts. option_map (λ last. (parts.0, last)) (one_part parts.1)) (two_parts text)

@@ -1,0 +1,118 @@
+//! Lines, and what they ask.
+ghost use Rattle.std.specs.Prelude.{◌≡◌, true, IfOk};
+ghost use Rattle.bt_base.specs.Fails.{Gives};
+ghost use Rattle.bt_rows.specs.Ranges.{is_event_in_range};
+ghost use Rattle.wire_lines.specs.Lines.{or_unreadable, id_argument, event_with, event_in, call_in, line_of, is_skipped};
+
+use crate::line_word::LineWord;
+use crate::number::{read_ending, read_moment, read_number};
+use crate::parts::{split_just_two, split_two};
+use bt_base::{Fail, Id, Moment, text_of};
+use bt_rows::event::{Event, EventKind};
+use bt_rows::member::Member;
+use bt_rows::refusal::Refusal;
+use std::alloc::Global;
+use wire_bodies::{read_job, read_pool, read_task};
+use wire_members::bad;
+
+/// What a line asks.
+#[derive(Drop)]
+pub enum LineRequest {
+    /// Nothing: the line is empty or a comment.
+    Skip,
+    /// This event at this moment.
+    Call(Moment, Event),
+}
+
+/// The failure of a line that asks nothing that is known.
+const UNREADABLE: Fail<Refusal> = Fail::Why(Refusal::UnreadableBody);
+
+#[tactic(auto, unfolding(crate::specs::Lines::id_argument))]
+fn id_argument(alloc: Global, bytes: &[u8]) -> Result<Id, Fail<Refusal>>
+    ensures { Gives result (id_argument bytes.now) }
+{
+    let text = text_of(bytes).ok_or(UNREADABLE)?;
+    match Id::read(alloc, text) {
+        Ok(id) => Ok(id),
+        Err(Fail::Why(_)) => Err(bad(Member::Id)),
+        Err(Fail::Memory) => Err(Fail::Memory),
+    }
+}
+
+#[tactic(auto, unfolding(crate::specs::Lines::event_with))]
+fn event_with(alloc: Global, word: LineWord, text: &[u8]) -> Result<EventKind, Fail<Refusal>>
+    ensures value { Gives result (event_with word text.now) }
+    ensures kept { IfOk result (λ kind. is_event_in_range kind ≡ true) }
+{
+    match word {
+        LineWord::AddPool => Ok(EventKind::AddPool(read_pool(alloc, text)?)),
+        LineWord::AddJob => {
+            let (id, job) = read_job(alloc, text)?;
+            Ok(EventKind::AddJob(id, job))
+        }
+        LineWord::AddTask => {
+            let (job, body) = split_two(text).ok_or(UNREADABLE)?;
+            let job = id_argument(alloc, job)?;
+            Ok(EventKind::AddTask(job, read_task(alloc, body)?))
+        }
+        LineWord::Take => Ok(EventKind::Take(read_number(text).ok_or(UNREADABLE)?)),
+        LineWord::End => {
+            let (run, ending) = split_just_two(text).ok_or(UNREADABLE)?;
+            let run = read_number(run).ok_or(UNREADABLE)?;
+            let ending = read_ending(ending).ok_or(UNREADABLE)?;
+            Ok(EventKind::End(run, ending))
+        }
+    }
+}
+
+#[tactic(auto, unfolding(crate::specs::Lines::event_in))]
+fn event(alloc: Global, text: &[u8]) -> Result<Event, Fail<Refusal>>
+    ensures { Gives result (event_in text.now) }
+{
+    let (word, rest) = split_two(text).ok_or(UNREADABLE)?;
+    let word = LineWord::read(word).ok_or(UNREADABLE)?;
+    let kind = event_with(alloc, word, rest)?;
+    Ok(Event::new(kind))
+}
+
+#[tactic(auto, unfolding(crate::specs::Lines::call_in))]
+fn call(alloc: Global, text: &[u8]) -> Result<LineRequest, Fail<Refusal>>
+    ensures { Gives result (call_in text.now) }
+{
+    let (moment, rest) = split_two(text).ok_or(UNREADABLE)?;
+    let moment = read_moment(moment).ok_or(UNREADABLE)?;
+    let event = event(alloc, rest)?;
+    Ok(LineRequest::Call(moment, event))
+}
+
+fn is_skipped(line: &[u8]) -> bool
+    ensures { result ≡ is_skipped line.now }
+{
+    match line {
+        [] => true,
+        [b, ..] => *b == b'#',
+    }
+}
+
+/// What the line asks; the line stands without the LF that ends it.
+///
+/// An empty line and one that begins with `#` are skipped. Another line is a moment (digits, at most the last millisecond
+/// of the year 9999), a space and one of
+///
+/// - `add-pool BODY`, `add-job BODY`, `add-task JOB BODY`, where a body is a JSON object up to the end of the line;
+/// - `take RUN` and `end RUN ENDING`, where an ending is a code of 32 bits, `none` or `notstarted`.
+///
+/// A line that is not so, or that has over 1,048,576 bytes, is `UnreadableBody`; a job's id that is none is
+/// `InvalidPropertyValue(Id)`, before the faults of the body behind it.
+#[tactic(auto, unfolding(crate::specs::Lines::line_of))]
+pub fn read_line(alloc: Global, line: &[u8]) -> Result<LineRequest, Fail<Refusal>>
+    ensures { Gives result (line_of line.now) }
+{
+    if is_skipped(line) {
+        Ok(LineRequest::Skip)
+    } else if line.len() > 1_048_576 {
+        Err(UNREADABLE)
+    } else {
+        call(alloc, line)
+    }
+}

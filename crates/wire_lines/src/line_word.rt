@@ -1,0 +1,46 @@
+//! The words of lines.
+ghost use Rattle.std.specs.Prelude.{◌≡◌};
+ghost use Rattle.wire_lines.specs.Words.{word_text, word_in};
+
+/// The word of a line, which says what the line asks.
+#[derive(Clone, Copy, Debug, PartialEq, Eq)]
+pub enum LineWord {
+    AddPool,
+    AddJob,
+    AddTask,
+    Take,
+    End,
+}
+
+impl LineWord {
+    /// As a line spells it.
+    #[tactic(auto, unfolding(crate::specs::Words::word_text))]
+    pub fn text(self) -> &'static str
+        ensures { result.now ≡ word_text self }
+    {
+        match self {
+            LineWord::AddPool => "add-pool",
+            LineWord::AddJob => "add-job",
+            LineWord::AddTask => "add-task",
+            LineWord::Take => "take",
+            LineWord::End => "end",
+        }
+    }
+
+    /// The word that is spelled so.
+    #[tactic(auto, unfolding(crate::specs::Words::word_in))]
+    pub fn read(text: &[u8]) -> Option<LineWord>
+        ensures { result ≡ word_in text.now }
+    {
+        let all = [
+            LineWord::AddPool,
+            LineWord::AddJob,
+            LineWord::AddTask,
+            LineWord::Take,
+            LineWord::End,
+        ];
+        all.iter()
+            .copied()
+            .find(|word| text == word.text().as_bytes())
+    }
+}

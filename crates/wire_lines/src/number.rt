@@ -1,0 +1,73 @@
+//! Numbers, moments and endings in a line.
+ghost use Rattle.std.specs.Prelude.{◌≡◌};
+ghost use Rattle.std.specs.List.{list_all};
+ghost use Rattle.std.specs.Char.{is_ascii_digit};
+ghost use Rattle.wire_lines.specs.Numbers.{number_in, moment_in, code_in, ending_in, code_below, code_above};
+
+use bt_base::{Moment, text_of};
+use bt_rows::run::Ending;
+
+fn has_digits(text: &[u8]) -> bool
+    ensures { result ≡ list_all is_ascii_digit text.now }
+{
+    text.iter().all(|b| b.is_ascii_digit())
+}
+
+/// A number of 64 bits: one digit or more, and nothing else.
+pub fn read_number(text: &[u8]) -> Option<u64>
+    ensures { result ≡ number_in text.now }
+{
+    if !has_digits(text) {
+        return None;
+    }
+    match text_of(text) {
+        Some(text) => text.parse::<u64>().ok(),
+        None => None,
+    }
+}
+
+/// A moment, as the digits of its milliseconds.
+pub fn read_moment(text: &[u8]) -> Option<Moment>
+    ensures { result ≡ moment_in text.now }
+{
+    Moment::of_ms(read_number(text)?)
+}
+
+fn code_below(n: u64) -> Option<i32>
+    ensures { result ≡ code_below n }
+{
+    if n <= 1 << 31 {
+        Some((-(n as i64)) as i32)
+    } else {
+        None
+    }
+}
+
+fn code_above(n: u64) -> Option<i32>
+    ensures { result ≡ code_above n }
+{
+    if n < 1 << 31 { Some(n as i32) } else { None }
+}
+
+fn read_code(text: &[u8]) -> Option<i32>
+    ensures { result ≡ code_in text.now }
+{
+    match text {
+        [b'-', digits @ ..] => code_below(read_number(digits)?),
+        _ => code_above(read_number(text)?),
+    }
+}
+
+/// How a run ended: `none`, `notstarted`, or a code, which is digits with at most one minus before them.
+#[tactic(auto, unfolding(crate::specs::Numbers::ending_in))]
+pub fn read_ending(text: &[u8]) -> Option<Ending>
+    ensures { result ≡ ending_in text.now }
+{
+    if text == b"none".as_slice() {
+        Some(Ending::NoCode)
+    } else if text == b"notstarted".as_slice() {
+        Some(Ending::NotStarted)
+    } else {
+        Some(Ending::Code(read_code(text)?))
+    }
+}

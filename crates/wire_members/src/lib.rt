@@ -1,0 +1,16 @@
+//! Readers of the members of a body. A body is a JSON object; each reader takes a part of it, which is the body or an
+//! object in it, and answers the value of one member, or the refusal that names it. A member that is `null` counts as
+//! absent, and an absent part has no members.
+#![tactic(auto)]
+
+mod body;
+mod member;
+mod word;
+mod words;
+
+pub use body::read_object;
+pub use member::{
+    bad, command_member, count_member, flag_member, id_member, list_member, object_member,
+    required_count, required_object, required_signed, signed_member, text_member, unbuilt_member,
+};
+pub use word::{WordKind, required_word, word_if, word_member};

@@ -1,0 +1,253 @@
+//! Members of a part. Where a member is of a wrong kind or out of range, or a required one is absent, the readers
+//! answer `InvalidPropertyValue` with its name. Only those that are passed an allocator take memory.
+ghost use Rattle.std.specs.Prelude.{◌≡◌, ◌≤◌, option_map, IfOk};
+ghost use Rattle.std.specs.Prelude.{◌≤ℤ◌};
+ghost use Rattle.serde_json.specs.View.{view, items_view};
+ghost use Rattle.bt_base.specs.Fails.{Gives, GivesAs};
+ghost use Rattle.bt_base.specs.declared.fail.Fail.TheVariants.{Why};
+ghost use Rattle.bt_rows.specs.declared.refusal.Refusal.TheVariants.{InvalidPropertyValue};
+ghost use Rattle.wire_members.specs.Members.{member_of, or_bad, count_in, signed_in, id_in, command_in};
+ghost use Rattle.wire_members.specs.Members.{count_member, required_count, signed_member, required_signed, flag_member, text_member, id_member, command_member, object_member, required_object, list_member, unbuilt_member};
+
+use bt_base::{CommandLine, Fail, Id, Text};
+use bt_rows::member::Member;
+use bt_rows::refusal::Refusal;
+use serde_json::Value;
+use std::alloc::Global;
+
+/// The refusal that names the member.
+pub fn bad(name: Member) -> Fail<Refusal>
+    ensures { result ≡ Why (InvalidPropertyValue name) }
+{
+    Fail::Why(Refusal::InvalidPropertyValue(name))
+}
+
+/// The member of that name, where it is there and not null.
+pub fn member<'v>(part: Option<&'v Value>, name: Member) -> Option<&'v Value>
+    ensures { option_map (λ v. view v.now) result ≡ member_of (option_map (λ v. view v.now) part.entry) name }
+{
+    let part = part?;
+    let value = part.get(name.text())?;
+    if value.is_null() { None } else { Some(value) }
+}
+
+/// Nothing, where the member is absent: one that the service does not take yet.
+pub fn unbuilt_member(part: Option<&Value>, name: Member) -> Result<(), Fail<Refusal>>
+    ensures { Gives result (unbuilt_member (option_map (λ v. view v.now) part.entry) name) }
+{
+    match member(part, name) {
+        None => Ok(()),
+        Some(_) => Err(bad(name)),
+    }
+}
+
+fn count_of(value: &Value, low: u64, high: u64) -> Option<u64>
+    ensures { result ≡ count_in low high (view value.now) }
+{
+    match value.as_u64() {
+        Some(n) => if low <= n && n <= high { Some(n) } else { None },
+        None => None,
+    }
+}
+
+/// A whole number from low to high, or the default.
+pub fn count_member(
+    part: Option<&Value>,
+    name: Member,
+    low: u64,
+    high: u64,
+    default: u64,
+) -> Result<u64, Fail<Refusal>>
+    ensures value { Gives result (count_member (option_map (λ v. view v.now) part.entry) name low high default) }
+    ensures bound { low ≤ default → default ≤ high → IfOk result (λ n. (low ≤ n) × (n ≤ high)) }
+{
+    match member(part, name) {
+        None => Ok(default),
+        Some(value) => count_of(value, low, high).ok_or(bad(name)),
+    }
+}
+
+/// A whole number from low to high, which has to be there.
+pub fn required_count(
+    part: Option<&Value>,
+    name: Member,
+    low: u64,
+    high: u64,
+) -> Result<u64, Fail<Refusal>>
+    ensures value { Gives result (required_count (option_map (λ v. view v.now) part.entry) name low high) }
+    ensures bound { IfOk result (λ n. (low ≤ n) × (n ≤ high)) }
+{
+    match member(part, name) {
+        None => Err(bad(name)),
+        Some(value) => count_of(value, low, high).ok_or(bad(name)),
+    }
+}
+
+fn signed_of(value: &Value, low: i64, high: i64) -> Option<i64>
+    ensures { result ≡ signed_in low high (view value.now) }
+{
+    match value.as_i64() {
+        Some(n) => if low <= n && n <= high { Some(n) } else { None },
+        None => None,
+    }
+}
+
+/// A whole number from low to high, which may be below 0, or the default.
+pub fn signed_member(
+    part: Option<&Value>,
+    name: Member,
+    low: i64,
+    high: i64,
+    default: i64,
+) -> Result<i64, Fail<Refusal>>
+    ensures value { Gives result (signed_member (option_map (λ v. view v.now) part.entry) name low high default) }
+    ensures bound { low ≤ℤ default → default ≤ℤ high → IfOk result (λ n. (low ≤ℤ n) × (n ≤ℤ high)) }
+{
+    match member(part, name) {
+        None => Ok(default),
+        Some(value) => signed_of(value, low, high).ok_or(bad(name)),
+    }
+}
+
+/// A whole number from low to high, which may be below 0 and has to be there.
+pub fn required_signed(
+    part: Option<&Value>,
+    name: Member,
+    low: i64,
+    high: i64,
+) -> Result<i64, Fail<Refusal>>
+    ensures value { Gives result (required_signed (option_map (λ v. view v.now) part.entry) name low high) }
+    ensures bound { IfOk result (λ n. (low ≤ℤ n) × (n ≤ℤ high)) }
+{
+    match member(part, name) {
+        None => Err(bad(name)),
+        Some(value) => signed_of(value, low, high).ok_or(bad(name)),
+    }
+}
+
+/// A truth value, or the default.
+pub fn flag_member(part: Option<&Value>, name: Member, default: bool) -> Result<bool, Fail<Refusal>>
+    ensures { Gives result (flag_member (option_map (λ v. view v.now) part.entry) name default) }
+{
+    match member(part, name) {
+        None => Ok(default),
+        Some(value) => value.as_bool().ok_or(bad(name)),
+    }
+}
+
+/// A text, or none.
+pub fn text_member(
+    alloc: Global,
+    part: Option<&Value>,
+    name: Member,
+) -> Result<Option<Text>, Fail<Refusal>>
+    ensures { Gives result (text_member (option_map (λ v. view v.now) part.entry) name) }
+{
+    match member(part, name) {
+        None => Ok(None),
+        Some(value) => match value.as_str() {
+            Some(text) => Ok(Some(Text::of_string(String::from_str(alloc, text)?))),
+            None => Err(bad(name)),
+        },
+    }
+}
+
+fn id_of_value(alloc: Global, value: &Value, name: Member) -> Result<Id, Fail<Refusal>>
+    ensures { Gives result (or_bad name (id_in (view value.now))) }
+{
+    let Some(text) = value.as_str() else {
+        return Err(bad(name));
+    };
+    match Id::read(alloc, text) {
+        Ok(id) => Ok(id),
+        Err(Fail::Why(_)) => Err(bad(name)),
+        Err(Fail::Memory) => Err(Fail::Memory),
+    }
+}
+
+/// An id, which has to be there.
+pub fn id_member(alloc: Global, part: Option<&Value>, name: Member) -> Result<Id, Fail<Refusal>>
+    ensures { Gives result (id_member (option_map (λ v. view v.now) part.entry) name) }
+{
+    match member(part, name) {
+        None => Err(bad(name)),
+        Some(value) => id_of_value(alloc, value, name),
+    }
+}
+
+fn command_of_value(
+    alloc: Global,
+    value: &Value,
+    name: Member,
+) -> Result<CommandLine, Fail<Refusal>>
+    ensures { Gives result (or_bad name (command_in (view value.now))) }
+{
+    let Some(text) = value.as_str() else {
+        return Err(bad(name));
+    };
+    match CommandLine::read(alloc, text)? {
+        Some(line) => Ok(line),
+        None => Err(bad(name)),
+    }
+}
+
+/// A command line, which has to be there.
+pub fn command_member(
+    alloc: Global,
+    part: Option<&Value>,
+    name: Member,
+) -> Result<CommandLine, Fail<Refusal>>
+    ensures { Gives result (command_member (option_map (λ v. view v.now) part.entry) name) }
+{
+    match member(part, name) {
+        None => Err(bad(name)),
+        Some(value) => command_of_value(alloc, value, name),
+    }
+}
+
+/// An object in the part, or none.
+pub fn object_member<'v>(
+    part: Option<&'v Value>,
+    name: Member,
+) -> Result<Option<&'v Value>, Fail<Refusal>>
+    ensures { GivesAs (option_map (λ v. view v.now)) result (object_member (option_map (λ v. view v.now) part.entry) name) }
+{
+    match member(part, name) {
+        None => Ok(None),
+        Some(value) => if value.is_object() {
+            Ok(Some(value))
+        } else {
+            Err(bad(name))
+        },
+    }
+}
+
+/// An object in the part, which has to be there.
+pub fn required_object<'v>(
+    part: Option<&'v Value>,
+    name: Member,
+) -> Result<&'v Value, Fail<Refusal>>
+    ensures { GivesAs (λ v. view v.now) result (required_object (option_map (λ v. view v.now) part.entry) name) }
+{
+    match member(part, name) {
+        None => Err(bad(name)),
+        Some(value) => if value.is_object() {
+            Ok(value)
+        } else {
+            Err(bad(name))
+        },
+    }
+}
+
+/// The items of a list, none where it is absent.
+pub fn list_member<'v>(part: Option<&'v Value>, name: Member) -> Result<&'v [Value], Fail<Refusal>>
+    ensures { GivesAs (λ vs. items_view vs.now) result (list_member (option_map (λ v. view v.now) part.entry) name) }
+{
+    match member(part, name) {
+        None => Ok(&[]),
+        Some(value) => match value.as_array() {
+            Some(list) => Ok(list.as_slice()),
+            None => Err(bad(name)),
+        },
+    }
+}
