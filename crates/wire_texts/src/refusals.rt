@@ -183,32 +183,6 @@ pub fn push_refusal(out: &mut String, refusal: &Refusal) -> Result<(), AllocErro
             write!(out, "{status} {name} {table} {limit}")
         }
         Refusal::SampleTooOld(label) => write!(out, "{status} {name} {label}"),
-        Refusal::UnreadableBody
-        | Refusal::PoolNotFound
-        | Refusal::PoolExists
-        | Refusal::PoolBeingDeleted
-        | Refusal::PoolBeingResized
-        | Refusal::PoolScalesAutomatically
-        | Refusal::PoolDoesNotScale
-        | Refusal::NodeNotFound
-        | Refusal::PoolNotResizing
-        | Refusal::JobNotFound
-        | Refusal::JobExists
-        | Refusal::TaskNotFound
-        | Refusal::TaskExists
-        | Refusal::TaskCompleted
-        | Refusal::TaskNotReactivable
-        | Refusal::DependenciesOff
-        | Refusal::DependencyListTooLong
-        | Refusal::JobActionOff
-        | Refusal::InstanceSlots
-        | Refusal::CollectionTooLong
-        | Refusal::RunNotFound
-        | Refusal::RunAlreadyEnded
-        | Refusal::RunAlreadyTaken
-        | Refusal::RunNotTaken
-        | Refusal::RunWithdrawn
-        | Refusal::RunWaiting
-        | Refusal::TerminationEngaged => write!(out, "{status} {name}"),
+        _ => write!(out, "{status} {name}"),
     }
 }
