@@ -1,13 +1,4 @@
-// A library with one function.
+//! What the service does, as definitions alone: the tables before and after each event and each due step, which tables
+//! are sound, and the numbers that due steps lower. Every machine, the program and its texts cite these. Lemmas on them
+//! stand in `proofs/`.
 #![tactic(auto)]
-
-ghost use Rattle.std.specs.Prelude.{◌≡◌};
-ghost use Rattle.batch_model.specs.Echo.{echo_of};
-
-// The `ensures` clause is the contract: what `echo` returns is `echo_of` of its argument, a definition
-// in `specs/Echo.antt`, which a caller's clause can cite too.
-pub fn echo(x: usize) -> usize
-    ensures { result ≡ echo_of x }
-{
-    x
-}

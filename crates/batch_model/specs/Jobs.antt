@@ -1,0 +1,35 @@
+-- Jobs: their states, and new ones.
+use Rattle.std.specs.Prelude.{ℕ, Bool, true, false, List, None}
+use Rattle.bt_rows.specs.declared.event.JobSpec.{JobSpec}
+use Rattle.batch_model.specs.Variants.{JobRow, JobState, JobActive, Terminating, JobCompleted, Deleting}
+
+-- tests of one state
+abbrev pub is_job_active : JobState → Bool
+is_job_active JobActive = true
+is_job_active _ = false
+
+-- terminating, completed or deleting
+abbrev pub is_past : JobState → Bool
+is_past Terminating = true
+is_past JobCompleted = true
+is_past Deleting = true
+is_past _ = false
+
+-- a job is added active
+abbrev pub new_job : ℕ → List ℕ → List ℕ → JobSpec → JobRow
+new_job now named in_pool spec = record {
+  id = named;
+  pool = in_pool;
+  state = JobActive;
+  priority = spec.priority;
+  parallel = spec.parallel;
+  retries = spec.retries;
+  wall = spec.wall;
+  deps = spec.deps;
+  on_all = spec.on_all;
+  on_fail = spec.on_fail;
+  prep = spec.prep;
+  release = spec.release;
+  created = now;
+  reason = None;
+}

@@ -1,0 +1,11 @@
+-- How many rows the tables take.
+use Rattle.std.specs.Prelude.{ℕ}
+
+abbrev pub pool_limit : ℕ
+pool_limit = 64
+
+abbrev pub job_limit : ℕ
+job_limit = 10000
+
+abbrev pub task_limit : ℕ
+task_limit = 1000000

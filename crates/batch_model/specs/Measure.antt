@@ -1,0 +1,37 @@
+-- The numbers that due steps lower, compared from the first one on.
+use Rattle.std.specs.Prelude.{ℕ, ◌+◌, ◌-◌, Bool, true, false, not, ◌&&◌, List, [], ◌∷◌, count_by, sum_by, if◌then◌else◌}
+use Rattle.batch_model.specs.Tasks.{is_active, is_placed, is_completed, is_busy}
+use Rattle.batch_model.specs.Pools.{is_steady, staying_count}
+use Rattle.batch_model.specs.Variants.{State, PoolRow, TaskRow}
+
+-- one more where it does not hold
+abbrev pub one_unless : Bool → ℕ
+one_unless true = 0
+one_unless false = 1
+
+-- a node to add counts one, and so does a pool that is not steady
+abbrev pub steps_of_pool : State → PoolRow → ℕ
+steps_of_pool s pool = (pool.dedicated - staying_count s pool.id) + one_unless (is_steady pool.alloc)
+
+-- over all pools
+abbrev pub pools_left : State → ℕ
+pools_left s = sum_by (steps_of_pool s) s.pools
+
+-- tasks that are not completed
+abbrev pub ends_left : State → ℕ
+ends_left s = count_by (λ (task : TaskRow). not (is_completed task.stage)) s.tasks
+
+-- a task to place counts one, and one to settle two
+abbrev pub steps_of_task : State → TaskRow → ℕ
+steps_of_task s task =
+    if is_active task.stage then 1
+    else if is_placed task.stage && not (is_busy s task) then 2
+    else 0
+
+-- over all tasks
+abbrev pub tasks_left : State → ℕ
+tasks_left s = sum_by (steps_of_task s) s.tasks
+
+-- the numbers in order
+abbrev pub rank : State → List ℕ
+rank s = pools_left s ∷ ends_left s ∷ tasks_left s ∷ []

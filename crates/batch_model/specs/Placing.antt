@@ -1,0 +1,74 @@
+-- Placing of tasks, as far as it is built: tasks of one slot without dependencies and instances, in jobs of the usual
+-- priority without preparation and without a limit on placed tasks, on nodes of pools with one slot a node.
+use Rattle.std.specs.Prelude.{zero, ◌+◌, Bool, true, false, not, ◌&&◌, nat_eq, List, [], ◌∷◌, find, ℤ, pos, negsuc, Option, is_none}
+use Rattle.std.specs.Option.{option_map, option_and_then}
+use Rattle.bt_rows.specs.declared.due.Due.TheVariants.{TaskPlaced}
+use Rattle.batch_model.specs.Finding.{find_map, only_if, has_number_left}
+use Rattle.batch_model.specs.Rows.{pool_of, put_task, add_run_row}
+use Rattle.batch_model.specs.Runs.{work_run}
+use Rattle.batch_model.specs.Tasks.{is_active, is_in_job}
+use Rattle.batch_model.specs.Jobs.{is_job_active}
+use Rattle.batch_model.specs.Nodes.{is_in_pool, is_usable}
+use Rattle.batch_model.specs.Slots.{held_slots}
+use Rattle.batch_model.specs.Steps.{DueStep}
+use Rattle.batch_model.specs.Variants.{State, PoolRow, NodeRow, JobRow, TaskRow, Placed, TaskRun, Queued}
+
+-- no items
+abbrev pub is_empty : {A : Type 0} → List A → Bool
+is_empty [] = true
+is_empty (item ∷ items) = false
+
+-- 0, the priority of a job that names none
+abbrev pub is_usual_priority : ℤ → Bool
+is_usual_priority (pos zero) = true
+is_usual_priority _ = false
+
+-- -1, for any number of placed tasks
+abbrev pub is_no_limit : ℤ → Bool
+is_no_limit (negsuc zero) = true
+is_no_limit _ = false
+
+-- an active job whose tasks are placed in the order of adding
+abbrev pub places_tasks : JobRow → Bool
+places_tasks job = is_job_active job.state && is_usual_priority job.priority && is_no_limit job.parallel && is_none job.prep
+
+-- a ready task of the job: active, and depending on nothing
+abbrev pub is_placeable : JobRow → TaskRow → Bool
+is_placeable job task =
+    is_active task.stage && is_in_job job.id task && nat_eq task.slots 1 && is_empty task.needs && is_empty task.spans && is_none task.multi
+
+-- a usable node of the pool that holds no slots
+abbrev pub fits : State → PoolRow → NodeRow → Bool
+fits s pool node = is_usable node.stage && is_in_pool pool.id node && nat_eq (held_slots s node.number) 0
+
+-- placed, in a new attempt
+abbrev pub placed : TaskRow → TaskRow
+placed task = record task { stage = Placed; attempt = task.attempt + 1 }
+
+-- the task's run on the node is queued
+abbrev pub placed_run : State → NodeRow → TaskRow → State
+placed_run s node task = add_run_row (work_run s node task TaskRun task.line task.slots Queued) s
+
+-- the line names the node and the run
+abbrev pub place : State → NodeRow → TaskRow → DueStep
+place s node task = record {
+  due = TaskPlaced task.job task.id node.number s.next_run;
+  state = placed_run (put_task (placed task) s) node (placed task);
+}
+
+-- the first task of the job that can be placed, on the node
+abbrev pub place_on : State → JobRow → NodeRow → Option DueStep
+place_on s job node = option_map (place s node) (find (is_placeable job) s.tasks)
+
+-- on the first node that fits, which is the one with the lowest number, since nodes stand in the order of their numbers
+abbrev pub place_in : State → JobRow → PoolRow → Option DueStep
+place_in s job pool =
+    only_if (not pool.deleting && nat_eq pool.slots 1) (option_and_then (place_on s job) (find (fits s pool) s.nodes))
+
+-- a task of the job, in the job's pool
+abbrev pub place_of_job : State → JobRow → Option DueStep
+place_of_job s job = only_if (places_tasks job) (option_and_then (place_in s job) (pool_of s job.pool))
+
+-- the earlier job first, while run numbers last
+abbrev pub place_first : State → Option DueStep
+place_first s = only_if (has_number_left s.next_run) (find_map (place_of_job s) s.jobs)
