@@ -1,10 +1,13 @@
 //! Command lines.
-ghost use Rattle.std.specs.Prelude.{◌≡◌, ℕ, List, IfOk};
+ghost use Rattle.std.specs.Prelude.{◌≡◌, ℕ, List, Option, IfOk, is_ok};
+ghost use Rattle.bt_base.specs.CommandLines.{Piece, read_words, is_command_line, command_line_of};
+ghost use Rattle.bt_base.specs.WordSteps.{adds, is_line_behind};
 
 use crate::list::Duplicate;
 use crate::memory::NoMemory;
+use crate::quoting::{Found, Stand, step};
 use crate::text::Text;
-use std::alloc::AllocError;
+use std::alloc::{AllocError, Global};
 use std::marker::Model;
 
 /// A command line: at most 8,192 bytes, with at least one word and no open quote (this project's profile). Contracts see
@@ -26,6 +29,18 @@ impl Model for CommandLine {
 }
 
 impl CommandLine {
+    /// The command line that the text is; none where it has over 8,192 bytes, no word, or a quote that is not closed.
+    pub fn read(alloc: Global, text: &str) -> Result<Option<CommandLine>, NoMemory>
+        ensures { IfOk result (λ line. line ≡ command_line_of text.now) }
+    {
+        if !is_command_line(text) {
+            return Ok(None);
+        }
+        Ok(Some(CommandLine {
+            text: Text::of_string(String::from_str(alloc, text)?),
+        }))
+    }
+
     /// The command line as a text. It takes no memory.
     pub fn as_str(&self) -> &str
         ensures { result.now ≡ self.now }
@@ -47,5 +62,38 @@ impl Clone for CommandLine {
 impl Duplicate for CommandLine {
     fn copy(&self) -> Result<CommandLine, NoMemory> {
         Ok(self.clone()?)
+    }
+}
+
+/// Whether a text is a command line: at most 8,192 bytes, with at least one word and no open quote. It takes no memory.
+#[tactic(auto, unfolding(crate::specs::CommandLines::is_command_line))]
+pub fn is_command_line(text: &str) -> bool
+    ensures { result ≡ is_command_line text.now }
+{
+    let bytes = text.as_bytes();
+    bytes.len() <= 8192 && has_words(bytes)
+}
+
+/// Whether there is a word and no open quote.
+fn has_words(bytes: &[u8]) -> bool
+    ensures { result ≡ is_ok (read_words bytes.now) }
+{
+    let mut stand = Stand::Outside;
+    let mut has_word = false;
+    for byte in bytes {
+        let (next, found) = step(stand, *byte);
+        has_word = has_word_after(has_word, found);
+        stand = next;
+    }
+    has_word && stand == Stand::Outside
+}
+
+/// Whether there is a word, once a byte gave this.
+fn has_word_after(has_word: bool, found: Found) -> bool
+    ensures { (pieces : Option (List Piece)) → is_line_behind has_word (adds found pieces) ≡ is_line_behind result pieces }
+{
+    match found {
+        Found::Nothing | Found::Gap => has_word,
+        Found::Mark | Found::Letter(_) | Found::Slashed(_) => true,
     }
 }

@@ -2,7 +2,7 @@
 ghost use Rattle.std.specs.Prelude.{◌≡◌, ℕ, List, Bool, not, count_by, option_map};
 ghost use Rattle.std.specs.List.{position};
 ghost use Rattle.bt_base.specs.Fails.{Gives};
-ghost use Rattle.bt_base.specs.Ids.{same, is_id_byte, character_count, bad_place, id_fault, read_id, within};
+ghost use Rattle.bt_base.specs.Ids.{same, is_id_byte, character_count, bad_place, id_fault, id_number, read_id, within};
 
 use crate::fail::Fail;
 use crate::list::Duplicate;
@@ -61,6 +61,13 @@ impl Id {
         self.text.as_str()
     }
 
+    /// The number that an id of digits alone shows, up to 2,147,483,647. Leading zeros do not matter. It takes no memory.
+    pub fn number(&self) -> Option<u32>
+        ensures { result ≡ id_number self.now }
+    {
+        number_of(self.text.as_str().as_bytes())
+    }
+
     /// Whether the ids are the same but for case. It takes no memory.
     pub fn same(&self, other: &Id) -> bool
         ensures { result ≡ same self.now other.now }
@@ -108,6 +115,25 @@ fn bad_place(bytes: &[u8]) -> Option<usize>
     ensures { result ≡ bad_place bytes.now }
 {
     bytes.iter().position(|b| !is_id_byte(*b))
+}
+
+/// The greatest number that an id can show.
+const LAST_NUMBER: u64 = 2_147_483_647;
+
+fn number_of(digits: &[u8]) -> Option<u32>
+    ensures { result ≡ id_number digits.now }
+{
+    let mut number: u64 = 0;
+    for digit in digits {
+        if !digit.is_ascii_digit() {
+            return None;
+        }
+        number = 10 * number + u64::from(*digit - b'0');
+        if number > LAST_NUMBER {
+            return None;
+        }
+    }
+    Some(number as u32)
 }
 
 fn fault_of(text: &str) -> Option<IdFault>

@@ -6,23 +6,31 @@
 mod command_line;
 mod fail;
 mod id;
+mod line;
 mod list;
 mod memory;
 mod moment;
 mod number;
+mod quoting;
+mod sink;
+mod source;
 mod text;
 mod utf8;
 mod word;
-mod words;
 
-pub use command_line::CommandLine;
+pub use command_line::{CommandLine, is_command_line};
 pub use fail::Fail;
 pub use id::{Id, IdFault, is_same};
+pub use line::{LineFault, words};
 pub use list::{Duplicate, List, duplicates};
 pub use memory::NoMemory;
 pub use moment::Moment;
 pub use number::Num;
+pub use sink::{MemorySink, Sink, StdSink, SureSink, write_all};
+pub use source::{Failed, MemorySource, ReadFault, Source, StdSource, SureSource, read_all};
 pub use text::Text;
 pub use utf8::text_of;
 pub use word::Word;
-pub use words::LineFault;
+
+#[cfg(test)]
+mod tests;

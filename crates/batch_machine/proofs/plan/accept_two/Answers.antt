@@ -1,0 +1,11 @@
+use Rattle.std.proofs.Common.{◌≡◌, ◌∙◌, ap, refl}
+use Rattle.bt_rows.specs.Changes.{apply_change}
+use Rattle.batch_machine.proofs.plan.accept_two.Goals as goal
+
+pub returns : goal.returns
+returns c = record {
+  reply = refl;
+  state =
+      c.in_ok-push_change-2.ensures c.args.tables.now.state
+      ∙ ap (apply_change c.args.second) (c.in_ok-push_change.ensures c.args.tables.now.state ∙ ap (apply_change c.args.first) c.in_ok-changes.ensures);
+}

@@ -1,0 +1,18 @@
+//! The core of the service: what an event would do, which step is due, and a machine that holds the tables and makes
+//! such plans. It finds every rule by a scan of the tables. What its calls do is written in the crate of definitions,
+//! `batch_model`.
+#![tactic(auto)]
+
+// mod due;
+// mod event;
+// mod job;
+// mod machine;
+// mod node;
+// mod place;
+mod plan;
+// mod pool;
+// mod run;
+// mod settle;
+// mod task;
+
+// pub use machine::Machine;

@@ -1,0 +1,106 @@
+-- Which rows a due step comes from.
+use Rattle.std.proofs.Common.{◌≡◌, ℕ, Bool, true, false, not, ◌&&◌, nat_eq, List, [], ◌∷◌, Option, Some, None, find, option_map, option_and_then, ◌⊎◌, inl, inr, refl, subst}
+use Rattle.batch_model.specs.Finding.{or_else, first_of, find_map, only_if, has_number_left}
+use Rattle.batch_model.specs.Rows.{pool_of}
+use Rattle.batch_model.specs.Tasks.{main_ending}
+use Rattle.batch_model.specs.Pools.{free_seat}
+use Rattle.batch_model.specs.Settling.{is_to_complete, complete, settle}
+use Rattle.batch_model.specs.Placing.{places_tasks, is_placeable, fits, place, place_on, place_in, place_of_job, place_first}
+use Rattle.batch_model.specs.Dues.{settle_first, has_reached, pool_steady, end_resize, lacks_node, node_added, add_on, add_node, due_step}
+use Rattle.batch_model.specs.Steps.{DueStep}
+use Rattle.batch_model.specs.Variants.{State, PoolRow, NodeRow, JobRow, TaskRow, Ending}
+use Rattle.batch_model.proofs.Tests.{and_second}
+
+-- a case for each rule, with the rows that it found
+pub data IsDue (seats : ℕ) (s : State) : DueStep → Type 0 where
+  completes : (task : TaskRow) (ending : Ending) → find (is_to_complete s) s.tasks ≡ Some task → main_ending s task ≡ Some ending → IsDue seats s (complete s task ending)
+  steadies : (pool : PoolRow) → find (has_reached s) s.pools ≡ Some pool → IsDue seats s (pool_steady s pool)
+  adds : (seat : ℕ) (pool : PoolRow) → free_seat seats s ≡ Some seat → find (lacks_node s) s.pools ≡ Some pool → IsDue seats s (node_added s seat pool)
+  places : (job : JobRow) (pool : PoolRow) (node : NodeRow) (task : TaskRow) → pool_of s job.pool ≡ Some pool → nat_eq pool.slots 1 ≡ true → find (fits s pool) s.nodes ≡ Some node → find (is_placeable job) s.tasks ≡ Some task → IsDue seats s (place s node task)
+
+module _ {A B : Type 0} where
+  -- a value made of another, which there is
+  from_map : (f : A → B) (o : Option A) (y : B) → option_map f o ≡ Some y → (x : A) × (f x ≡ y) × (o ≡ Some x)
+  from_map f None y h = cc
+  from_map f (Some x) y h = (x, cc, refl)
+
+  -- a value that another gives, where there is one
+  from_then : (f : A → Option B) (o : Option A) (y : B) → option_and_then f o ≡ Some y → (x : A) × (f x ≡ Some y) × (o ≡ Some x)
+  from_then f None y h = cc
+  from_then f (Some x) y h = (x, h, refl)
+
+module _ {A : Type 0} where
+  -- the first that there is, of two
+  from_else : (a b : Option A) (y : A) → or_else a b ≡ Some y → (a ≡ Some y) ⊎ (b ≡ Some y)
+  from_else None b y h = inr h
+  from_else (Some a) b y h = inl h
+
+  -- a value under a condition
+  from_only_if : (b : Bool) (o : Option A) (y : A) → only_if b o ≡ Some y → (b ≡ true) × (o ≡ Some y)
+  from_only_if true o y h = (refl, h)
+  from_only_if false o y h = cc
+
+module _ {A Q : Type 0} where
+  -- what some item gives
+  from_first : (give : Q → Option A) (rows : List Q) (y : A) → find_map give rows ≡ Some y → (x : Q) × (give x ≡ Some y)
+  from_first give [] y h = cc
+  from_first give (x ∷ rows) y h = either (from_else (give x) (find_map give rows) y h) (from_first give rows y)
+    where
+      either : (give x ≡ Some y) ⊎ (find_map give rows ≡ Some y) → (find_map give rows ≡ Some y → (z : Q) × (give z ≡ Some y)) → (z : Q) × (give z ≡ Some y)
+      either (inl e) ih = (x, e)
+      either (inr e) ih = ih e
+
+module _ (seats : ℕ) (s : State) (step : DueStep) where
+  -- each rule
+
+  -- a task is completed
+  from_settling : settle_first s ≡ Some step → IsDue seats s step
+  from_settling h =
+      let found = from_then (settle s) (find (is_to_complete s) s.tasks) step h in
+      let made = from_map (complete s found.0) (main_ending s found.0) step found.1 in
+      subst (IsDue seats s) made.1 (completes found.0 made.0 found.2 made.2)
+
+  -- a pool is steady
+  from_resizing : end_resize s ≡ Some step → IsDue seats s step
+  from_resizing h =
+      let found = from_map (pool_steady s) (find (has_reached s) s.pools) step h in
+      subst (IsDue seats s) found.1 (steadies found.0 found.2)
+
+  -- a pool gets a node
+  from_adding : add_node seats s ≡ Some step → IsDue seats s step
+  from_adding h =
+      let left = from_only_if (has_number_left s.next_run && has_number_left s.next_node) (option_and_then (add_on s) (free_seat seats s)) step h in
+      let seated = from_then (add_on s) (free_seat seats s) step left.1 in
+      let found = from_map (node_added s seated.0) (find (lacks_node s) s.pools) step seated.1 in
+      subst (IsDue seats s) found.1 (adds seated.0 found.0 seated.2 found.2)
+
+  -- a task is placed
+  from_placing : place_first s ≡ Some step → IsDue seats s step
+  from_placing h =
+      let left = from_only_if (has_number_left s.next_run) (find_map (place_of_job s) s.jobs) step h in
+      let job = from_first (place_of_job s) s.jobs step left.1 in
+      let plain = from_only_if (places_tasks job.0) (option_and_then (place_in s job.0) (pool_of s job.0.pool)) step job.1 in
+      let pool = from_then (place_in s job.0) (pool_of s job.0.pool) step plain.1 in
+      let narrow = from_only_if (not pool.0.deleting && nat_eq pool.0.slots 1) (option_and_then (place_on s job.0) (find (fits s pool.0) s.nodes)) step pool.1 in
+      let node = from_then (place_on s job.0) (find (fits s pool.0) s.nodes) step narrow.1 in
+      let task = from_map (place s node.0) (find (is_placeable job.0) s.tasks) step node.1 in
+      subst (IsDue seats s) {x = place s node.0 task.0} task.1
+      (places job.0 pool.0 node.0 task.0 pool.2 (and_second (not pool.0.deleting) (nat_eq pool.0.slots 1) narrow.0) node.2 task.2)
+
+  -- one of two cases
+  either : {A B : Type 0} → (A → IsDue seats s step) → (B → IsDue seats s step) → A ⊎ B → IsDue seats s step
+  either f g (inl a) = f a
+  either f g (inr b) = g b
+
+  -- a due step is made by one of the rules
+  pub due_cases : due_step seats s ≡ Some step → IsDue seats s step
+  due_cases h =
+      either from_settling
+      (λ k. either from_resizing (λ l. either from_adding from_last (from_else (add_node seats s) (first_of (place_first s ∷ [])) step l)) (from_else (end_resize s) (first_of (add_node seats s ∷ place_first s ∷ [])) step k))
+      (from_else (settle_first s) (first_of (end_resize s ∷ add_node seats s ∷ place_first s ∷ [])) step h)
+    where
+      absent : {A : Type 0} → None ≡ Some step → A
+      absent e = cc
+
+      from_last : first_of (place_first s ∷ []) ≡ Some step → IsDue seats s step
+      from_last m = either from_placing absent (from_else (place_first s) None step m)

@@ -1,0 +1,163 @@
+-- Each due step lowers the rank.
+use Rattle.std.proofs.Common.{◌≡◌, ℕ, ◌+◌, ◌<◌, ◌≤◌, Bool, true, false, not, ◌&&◌, ◌||◌, List, Some, cond, find, refl, arith}
+use Rattle.std.proofs.lemmas.Bool.Decides.{Decides-ltb, Decides-eqb}
+use Rattle.std.proofs.lemmas.List.Sums.{sum_by_push, sum_by-le-sum_by}
+use Rattle.bt_base.proofs.SameIds.{same_equiv}
+use Rattle.bt_base.proofs.Turns.{lex_lt, lex_first, lex_next}
+use Rattle.bt_rows.specs.Keys.{same_pool, same_pool_equiv, same_task, same_task_equiv}
+use Rattle.bt_rows.proofs.DistinctRows.{found_first, find-passes, sum_by-less}
+use Rattle.batch_model.specs.Runs.{is_busy_for, work_run}
+use Rattle.batch_model.specs.Tasks.{is_active, is_placed, is_completed, is_busy, completed}
+use Rattle.batch_model.specs.Pools.{is_resizing, is_steady, staying_count}
+use Rattle.batch_model.specs.Nodes.{stays}
+use Rattle.batch_model.specs.Endings.{closed_by}
+use Rattle.batch_model.specs.Settling.{is_to_complete, complete}
+use Rattle.batch_model.specs.Placing.{is_placeable, placed, place}
+use Rattle.batch_model.specs.Dues.{has_reached, steady, pool_steady, lacks_node, new_node, node_added, due_step}
+use Rattle.batch_model.specs.Steps.{DueStep}
+use Rattle.batch_model.specs.Measure.{one_unless, steps_of_pool, steps_of_task, rank}
+use Rattle.batch_model.specs.Sound.{IsSound}
+use Rattle.batch_model.specs.Variants.{State, PoolRow, NodeRow, JobRow, TaskRow, Alloc, Steady, Resizing, Stopping, TaskStage, Active, Placed, Completed, Ending, TaskRun, Queued}
+use Rattle.batch_model.proofs.KeyedLists.{sum_by-put_row}
+use Rattle.batch_model.proofs.DueCases.{IsDue, completes, steadies, adds, places, due_cases}
+use Rattle.batch_model.proofs.Tests.{and_first, and_second, and_true}
+use Rattle.batch_model.proofs.RowLists.{any_append, any_append_new}
+
+-- a pool that becomes steady
+
+-- a resizing pool isn't steady
+resizing_counts : (alloc : Alloc) → is_resizing alloc ≡ true → one_unless (is_steady alloc) ≡ 1
+resizing_counts Steady h = cc
+resizing_counts Resizing h = refl
+resizing_counts Stopping h = cc
+
+-- a pool that has reached its target is resizing
+reached_resizes : (s : State) (pool : PoolRow) → has_reached s pool ≡ true → is_resizing pool.alloc ≡ true
+reached_resizes s pool h = and_second (not pool.deleting) _ (and_first _ _ (and_first _ _ h))
+
+-- a pool less is to become steady
+steady_falls : (seats : ℕ) (s : State) (pool : PoolRow) → IsSound seats s → find (has_reached s) s.pools ≡ Some pool → lex_lt (rank (pool_steady s pool).state) (rank s) ≡ true
+steady_falls seats s pool h f =
+    let first = found_first same_pool same_pool_equiv (has_reached s) pool s.pools h.keys.pools f in
+    let total = sum_by-put_row same_pool same_pool_equiv pool s.pools h.keys.pools first (steps_of_pool s) (steady pool) (λ x. refl) in
+    let one : one_unless (is_steady pool.alloc) ≡ 1 = resizing_counts pool.alloc (reached_resizes s pool (find-passes (has_reached s) pool s.pools f)) in
+    lex_first _ _ _ _ (omega (arith, total, one)) refl
+
+-- a node that is added
+
+-- a pool that lacks a node has fewer than its target
+lacks_less : (s : State) (pool : PoolRow) → lacks_node s pool ≡ true → staying_count s pool.id < pool.dedicated
+lacks_less s pool h = (Decides-ltb (staying_count s pool.id) pool.dedicated).0 (and_second _ _ h)
+
+-- the new node stays in its pool
+stays_new : (s : State) (pool : PoolRow) (seat : ℕ) → stays pool.id (new_node s pool seat) ≡ true
+stays_new s pool seat = rw (same_equiv.refl pool.id) refl
+
+-- a row that passes counts one
+counts_one : {b : Bool} → b ≡ true → cond {A = ℕ} b 1 0 ≡ 1
+counts_one h = rw h refl
+
+-- with one more node a pool has at most one more
+one_more : (s : State) (pool : PoolRow) (seat : ℕ) (id : List ℕ) → staying_count (node_added s seat pool).state id ≡ staying_count s id + cond {A = ℕ} (stays id (new_node s pool seat)) 1 0
+one_more s pool seat id = sum_by_push (λ (node : NodeRow). cond (stays id node) 1 0) s.nodes (new_node s pool seat)
+
+-- that pool has a node less to get, and no pool has more
+node_falls : (s : State) (pool : PoolRow) (seat : ℕ) → find (lacks_node s) s.pools ≡ Some pool → lex_lt (rank (node_added s seat pool).state) (rank s) ≡ true
+node_falls s pool seat f =
+    let one : cond {A = ℕ} (stays pool.id (new_node s pool seat)) 1 0 ≡ 1 = counts_one (stays_new s pool seat) in
+    let less : staying_count s pool.id < pool.dedicated = lacks_less s pool (find-passes (lacks_node s) pool s.pools f) in
+    lex_first _ _ _ _
+    (sum_by-less (steps_of_pool (node_added s seat pool).state) (steps_of_pool s) (lacks_node s) pool s.pools f
+    (λ other. omega (arith, one_more s pool seat other.id))
+    (omega (arith, one_more s pool seat pool.id, less, one)))
+    refl
+
+-- a task that is completed
+
+-- a placed task isn't completed
+placed_counts : (stage : TaskStage) → is_placed stage ≡ true → is_completed stage ≡ false
+placed_counts Active h = refl
+placed_counts Placed h = refl
+placed_counts Completed h = cc
+
+-- a row that doesn't pass counts one where others count none
+ends_one : {b : Bool} → b ≡ false → cond {A = ℕ} (not b) 1 0 ≡ 1
+ends_one h = rw h refl
+
+-- a task to be completed is placed
+to_complete_placed : (s : State) (task : TaskRow) → is_to_complete s task ≡ true → is_placed task.stage ≡ true
+to_complete_placed s task h = and_first _ _ (and_first _ _ (and_first _ _ (and_first _ _ (and_first _ _ h))))
+
+-- a task less is to end, and pools are as they were
+completed_falls : (seats : ℕ) (s : State) (task : TaskRow) (ending : Ending) → IsSound seats s → find (is_to_complete s) s.tasks ≡ Some task → lex_lt (rank (complete s task ending).state) (rank s) ≡ true
+completed_falls seats s task ending h f =
+    let first = found_first same_task same_task_equiv (is_to_complete s) task s.tasks h.keys.tasks f in
+    let total = sum_by-put_row same_task same_task_equiv task s.tasks h.keys.tasks first (λ (t : TaskRow). cond {A = ℕ} (not (is_completed t.stage)) 1 0) (completed (closed_by s.moment ending) task) (λ x. refl) in
+    let one : cond {A = ℕ} (not (is_completed task.stage)) 1 0 ≡ 1 = ends_one (placed_counts task.stage (to_complete_placed s task (find-passes (is_to_complete s) task s.tasks f))) in
+    lex_next _ _ _ _ (omega arith) (lex_first _ _ _ _ (omega (arith, total, one)) refl)
+
+-- a task that is placed
+
+-- a task that can be placed is active
+pub placeable_active : (job : JobRow) (task : TaskRow) → is_placeable job task ≡ true → is_active task.stage ≡ true
+placeable_active job task h = and_first _ _ (and_first _ _ (and_first _ _ (and_first _ _ (and_first _ _ h))))
+
+-- an active task isn't completed
+pub active_counts : (stage : TaskStage) → is_active stage ≡ true → is_completed stage ≡ false
+active_counts Active h = refl
+active_counts Placed h = cc
+active_counts Completed h = cc
+
+-- an active task is to be placed
+step_if_active : (s : State) (task : TaskRow) → is_active task.stage ≡ true → steps_of_task s task ≡ 1
+step_if_active s task h = rw h refl
+
+-- a placed task that is busy is not to be settled
+step_if_busy : (s : State) (task : TaskRow) → is_busy s (placed task) ≡ true → steps_of_task s (placed task) ≡ 0
+step_if_busy s task h = rw h refl
+
+-- the new run is one of the placed task's present attempt
+pub new_run_present : (s : State) (node : NodeRow) (task : TaskRow) → is_busy (place s node task).state (placed task) ≡ true
+new_run_present s node task =
+    any_append_new (is_busy_for (placed task)) s.runs (work_run s node (placed task) TaskRun task.line task.slots Queued)
+    (and_true (and_true (and_true (same_equiv.refl task.job) (same_equiv.refl task.id)) ((Decides-eqb (task.attempt + 1) (task.attempt + 1)).1 refl)) refl)
+
+-- with one more run a task has no more to do
+step_at_most : (a p b c : Bool) → cond {A = ℕ} a 1 (cond (p && not (b || c)) 2 0) ≤ cond {A = ℕ} a 1 (cond (p && not b) 2 0)
+step_at_most true p b c = omega arith
+step_at_most false true true c = omega arith
+step_at_most false true false true = omega arith
+step_at_most false true false false = omega arith
+step_at_most false false b c = omega arith
+
+-- so no other task has more to do
+steps_at_most : (s : State) (node : NodeRow) (task other : TaskRow) → steps_of_task (place s node task).state other ≤ steps_of_task s other
+steps_at_most s node task other =
+    rw (any_append (is_busy_for other) s.runs (work_run s node (placed task) TaskRun task.line task.slots Queued))
+    (step_at_most (is_active other.stage) (is_placed other.stage) (is_busy s other) _)
+
+-- a task less is to be placed, and pools and ends are as they were
+placed_falls : (seats : ℕ) (s : State) (job : JobRow) (node : NodeRow) (task : TaskRow) → IsSound seats s → find (is_placeable job) s.tasks ≡ Some task → lex_lt (rank (place s node task).state) (rank s) ≡ true
+placed_falls seats s job node task h f =
+    let active : is_active task.stage ≡ true = placeable_active job task (find-passes (is_placeable job) task s.tasks f) in
+    let first = found_first same_task same_task_equiv (is_placeable job) task s.tasks h.keys.tasks f in
+    let ends = sum_by-put_row same_task same_task_equiv task s.tasks h.keys.tasks first (λ (t : TaskRow). cond {A = ℕ} (not (is_completed t.stage)) 1 0) (placed task) (λ x. refl) in
+    let one : cond {A = ℕ} (not (is_completed task.stage)) 1 0 ≡ 1 = ends_one (active_counts task.stage active) in
+    let steps = sum_by-put_row same_task same_task_equiv task s.tasks h.keys.tasks first (steps_of_task (place s node task).state) (placed task) (λ x. refl) in
+    let before : steps_of_task (place s node task).state task ≡ 1 = step_if_active (place s node task).state task active in
+    let after : steps_of_task (place s node task).state (placed task) ≡ 0 = step_if_busy (place s node task).state task (new_run_present s node task) in
+    let others = sum_by-le-sum_by (steps_of_task (place s node task).state) (steps_of_task s) s.tasks (steps_at_most s node task) in
+    lex_next _ _ _ _ (omega arith) (lex_next _ _ _ _ (omega (arith, ends, one)) (lex_first _ _ _ _ (omega (arith, steps, before, after, others)) refl))
+
+-- the composition
+
+-- each rule lowers the rank
+falls : (seats : ℕ) (s : State) (step : DueStep) → IsSound seats s → IsDue seats s step → lex_lt (rank step.state) (rank s) ≡ true
+falls seats s step h (completes task ending f e) = completed_falls seats s task ending h f
+falls seats s step h (steadies pool f) = steady_falls seats s pool h f
+falls seats s step h (adds seat pool free f) = node_falls s pool seat f
+falls seats s step h (places job pool node task p narrow n f) = placed_falls seats s job node task h f
+
+-- a due step lowers the rank
+pub falls_by_due : (seats : ℕ) (s : State) (step : DueStep) → IsSound seats s → due_step seats s ≡ Some step → lex_lt (rank step.state) (rank s) ≡ true
+falls_by_due seats s step h e = falls seats s step h (due_cases seats s step e)

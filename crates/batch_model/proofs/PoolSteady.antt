@@ -1,0 +1,82 @@
+-- Tables stay sound when a pool becomes steady.
+use Rattle.std.proofs.Common.{◌≡◌, ℕ, Bool, true, not, ◌||◌, nat_le, List, Some, find, sym, ◌∙◌}
+use Rattle.bt_base.proofs.SameIds.{same_equiv}
+use Rattle.bt_rows.specs.Keys.{same_pool}
+use Rattle.bt_rows.specs.Lists.{AreDistinct}
+use Rattle.batch_model.specs.Rows.{is_pool}
+use Rattle.batch_model.specs.Slots.{held_slots}
+use Rattle.batch_model.specs.Dues.{has_reached, steady, pool_steady}
+use Rattle.batch_model.specs.Sound.{IsSound, has_pool_row, has_slots_for}
+use Rattle.batch_model.specs.Variants.{State, PoolRow, NodeRow}
+use Rattle.batch_model.proofs.RowLists.{each_weaker, each_found}
+use Rattle.batch_model.proofs.ChangedRows.{each_change_same, any_change_same}
+use Rattle.batch_model.proofs.DistinctLists.{distinct_change}
+
+module _ (s : State) (pool : PoolRow) where
+  -- the steady pool has the key of the pool that it takes the place of
+  has_key_left : (x y : PoolRow) → is_pool pool.id x ≡ true → same_pool (steady pool) y ≡ same_pool x y
+  has_key_left x y t = sym (same_equiv.congr x.id pool.id y.id t)
+
+  -- the same, on the right
+  has_key_right : (x y : PoolRow) → is_pool pool.id y ≡ true → same_pool x (steady pool) ≡ same_pool x y
+  has_key_right x y t = same_equiv.symm x.id pool.id ∙ sym (same_equiv.congr y.id pool.id x.id t) ∙ same_equiv.symm y.id x.id
+
+  -- ids of pools stay distinct
+  pools_distinct : AreDistinct same_pool s.pools → AreDistinct same_pool (pool_steady s pool).state.pools
+  pools_distinct d = distinct_change (is_pool pool.id) (λ (old : PoolRow). steady pool) same_pool has_key_left has_key_right s.pools d
+
+  -- pools that have rows still have them
+  pool_row_kept : (id : List ℕ) → has_pool_row s id ≡ true → has_pool_row (pool_steady s pool).state id ≡ true
+  pool_row_kept id h =
+      any_change_same (is_pool pool.id) (λ (old : PoolRow). steady pool) (is_pool id) (λ x t. has_key_left x (record pool { id = id }) t) s.pools ∙ h
+
+  -- a node's slots still suffice
+  slots_kept : find (has_reached s) s.pools ≡ Some pool → (node : NodeRow) → has_slots_for s node ≡ true → has_slots_for (pool_steady s pool).state node ≡ true
+  slots_kept f node h =
+      each_change_same (is_pool pool.id) (λ (old : PoolRow). steady pool) has_slots
+      (λ x t p. each_found has_slots (has_reached s) pool s.pools f h) s.pools h
+    where
+      has_slots : PoolRow → Bool
+      has_slots other = not (is_pool node.pool other) || nat_le (held_slots s node.number) other.slots
+
+-- a pool that becomes steady keeps tables sound
+pub sound_steady : (seats : ℕ) (s : State) (pool : PoolRow) → IsSound seats s → find (has_reached s) s.pools ≡ Some pool → IsSound seats (pool_steady s pool).state
+sound_steady seats s pool h f = record {
+  keys = record {
+    pools = pools_distinct s pool h.keys.pools;
+    nodes = h.keys.nodes;
+    jobs = h.keys.jobs;
+    tasks = h.keys.tasks;
+    runs = h.keys.runs;
+    preps = h.keys.preps;
+    samples = h.keys.samples;
+    scales = h.keys.scales;
+  };
+  numbers = record {
+    begun = h.numbers.begun;
+    runs = h.numbers.runs;
+    nodes = h.numbers.nodes;
+    nodes_of_runs = h.numbers.nodes_of_runs;
+    order = h.numbers.order;
+  };
+  fitting = record { marks = h.fitting.marks; closing = h.fitting.closing; attempts = h.fitting.attempts };
+  named = record {
+    jobs_of_tasks = h.named.jobs_of_tasks;
+    jobs_of_runs = h.named.jobs_of_runs;
+    tasks_of_runs = h.named.tasks_of_runs;
+    main_runs = h.named.main_runs;
+  };
+  seated = record {
+    distinct = h.seated.distinct;
+    in_range = h.seated.in_range;
+    pools_of_nodes =
+        each_weaker (λ (node : NodeRow). has_pool_row s node.pool) (λ (node : NodeRow). has_pool_row (pool_steady s pool).state node.pool)
+        (λ node. pool_row_kept s pool node.pool) s.nodes h.seated.pools_of_nodes;
+    nodes_of_runs = h.seated.nodes_of_runs;
+  };
+  belonging = h.belonging;
+  ending = h.ending;
+  naming = record { on_nodes = h.naming.on_nodes; of_jobs = h.naming.of_jobs };
+  slots = each_weaker (has_slots_for s) (has_slots_for (pool_steady s pool).state) (slots_kept s pool f) s.nodes h.slots;
+  built = record { runs = h.built.runs; nodes = h.built.nodes };
+}

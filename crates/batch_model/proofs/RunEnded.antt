@@ -1,0 +1,71 @@
+-- The event `end` keeps the tables sound.
+use Rattle.std.proofs.Common.{◌≡◌, ℕ, Bool, true, false, List, map, Option, Some, cond, refl, sym, ap, subst}
+use Rattle.std.specs.List.{find}
+use Rattle.bt_rows.specs.Keys.{same_run, same_run_equiv}
+use Rattle.batch_model.specs.Rows.{is_run}
+use Rattle.batch_model.specs.Runs.{is_taken}
+use Rattle.batch_model.specs.Events.{ended_run, run_ended}
+use Rattle.batch_model.specs.Sound.{IsSound}
+use Rattle.batch_model.specs.Variants.{State, Ending, RunRow, RunState, Waiting, Queued, Taken, Ended, Withdrawn}
+use Rattle.batch_model.proofs.MappedRows.{map_found}
+use Rattle.batch_model.proofs.RunsMove.{Moves, moves_same, moves_if, moved, sound_moved}
+
+-- a taken run ends, and others stay
+abbrev ended_if_taken : Ending → RunState → RunState
+ended_if_taken ending Waiting = Waiting
+ended_if_taken ending Queued = Queued
+ended_if_taken ending Taken = Ended ending
+ended_if_taken ending (Ended earlier) = Ended earlier
+ended_if_taken ending Withdrawn = Withdrawn
+
+-- so each state moves on
+moves_ended : (ending : Ending) (state : RunState) → Moves state (ended_if_taken ending state)
+moves_ended ending Waiting = moves_same Waiting
+moves_ended ending Queued = moves_same Queued
+moves_ended ending Taken = record { unended = λ h. refl; ends = λ h. refl; stays = λ h. refl }
+moves_ended ending (Ended earlier) = moves_same (Ended earlier)
+moves_ended ending Withdrawn = moves_same Withdrawn
+
+-- a taken run ends
+taken_ends : (ending : Ending) (state : RunState) → is_taken state ≡ true → ended_if_taken ending state ≡ Ended ending
+taken_ends ending Waiting h = cc
+taken_ends ending Queued h = cc
+taken_ends ending Taken h = refl
+taken_ends ending (Ended earlier) h = cc
+taken_ends ending Withdrawn h = cc
+
+module _ (now : ℕ) (ending : Ending) (run : RunRow) where
+  -- the states after the event
+  abbrev into : RunRow → RunState
+  into row = cond (is_run run.number row) (ended_if_taken ending row.state) row.state
+
+  -- the moments at which runs ended
+  abbrev ended_at : RunRow → Option ℕ
+  ended_at row = cond (is_run run.number row) (Some now) row.ended
+
+  -- the run itself
+  alike_here : (row : RunRow) (b : Bool) → ended_if_taken ending row.state ≡ Ended ending → cond b (ended_run now ending row) row ≡ record row { state = cond b (ended_if_taken ending row.state) row.state; ended = cond b (Some now) row.ended }
+  alike_here row true h = ap (λ (state : RunState). record row { state = state; ended = Some now }) (sym h)
+  alike_here row false h = refl
+
+  -- the other runs
+  alike_elsewhere : (row : RunRow) (b : Bool) → b ≡ false → cond b (ended_run now ending row) row ≡ record row { state = cond b (ended_if_taken ending row.state) row.state; ended = cond b (Some now) row.ended }
+  alike_elsewhere row true h = cc
+  alike_elsewhere row false h = refl
+
+-- a taken run ends
+pub sound_ended : (seats : ℕ) (s : State) (ending : Ending) (run : RunRow) → IsSound seats s → find (is_run run.number) s.runs ≡ Some run → is_taken run.state ≡ true → IsSound seats (run_ended s ending run)
+sound_ended seats s ending run h found taken =
+    let runs : map (λ row. cond (is_run run.number row) (ended_run s.moment ending row) row) s.runs ≡ map after s.runs =
+    map_found same_run same_run_equiv (λ row. cond (is_run run.number row) (ended_run s.moment ending row) row) after (is_run run.number) (is_run run.number) run s.runs
+    (λ row k. k)
+    (alike_here s.moment ending run run (is_run run.number run) (taken_ends ending run.state taken))
+    (λ row. alike_elsewhere s.moment ending run row (is_run run.number row))
+    h.keys.runs found
+    in
+    subst (λ (rows : List RunRow). IsSound seats (record s { runs = rows })) (sym runs)
+    (sound_moved (into s.moment ending run) (λ row. row.taken) (ended_at s.moment ending run)
+    (λ row. moves_if (is_run run.number row) row.state (ended_if_taken ending row.state) (moves_ended ending row.state)) seats s h)
+  where
+    after : RunRow → RunRow
+    after = moved (into s.moment ending run) (λ row. row.taken) (ended_at s.moment ending run)

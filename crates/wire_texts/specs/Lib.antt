@@ -1,0 +1,9 @@
+pub mod Lines
+pub mod Words
+pub mod Refusals
+pub mod Replies
+pub mod Dues
+pub mod Rows
+pub mod States
+pub mod Holding
+pub mod Tables

@@ -1,0 +1,124 @@
+//! The tables text.
+ghost use Rattle.std.specs.Prelude.{◌≡◌, ◌++◌, OnOk, IfOk, string_bytes, flat_map};
+ghost use Rattle.wire_texts.specs.Rows.{pool_line, job_line, run_line, prep_line, scale_line};
+ghost use Rattle.wire_texts.specs.Tables.{node_line, task_line, tables_text};
+
+use crate::rows::{push_job, push_pool, push_prep, push_run, push_scale};
+use crate::states::{node_state_word, task_state_word};
+use crate::words::{push_exit, result_word};
+use bt_base::{NoMemory, Text};
+use bt_rows::job::JobRow;
+use bt_rows::node::NodeRow;
+use bt_rows::pool::PoolRow;
+use bt_rows::prep::PrepRow;
+use bt_rows::run::RunRow;
+use bt_rows::scale::ScaleRow;
+use bt_rows::tables::Tables;
+use bt_rows::task::TaskRow;
+use std::alloc::{AllocError, Global};
+
+#[tactic(auto, unfolding(crate::specs::Tables::node_line))]
+fn push_node(out: &mut String, tables: &Tables, node: &NodeRow) -> Result<(), AllocError>
+    ensures { OnOk result (string_bytes out.new ≡ string_bytes out.old ++ node_line tables.now.state node.now) }
+{
+    let number = node.number;
+    let pool = node.pool.as_str();
+    let seat = node.seat;
+    let state = node_state_word(tables, node);
+    writeln!(out, "node {number} {pool} {seat} {state}")
+}
+
+#[tactic(auto, unfolding(crate::specs::Tables::task_line))]
+fn push_task(out: &mut String, tables: &Tables, task: &TaskRow) -> Result<(), AllocError>
+    ensures { OnOk result (string_bytes out.new ≡ string_bytes out.old ++ task_line tables.now.state task.now) }
+{
+    let job = task.job.as_str();
+    let id = task.id.as_str();
+    let state = task_state_word(tables, task);
+    let success = result_word(task.closed);
+    let failures = task.failures;
+    write!(out, "task {job} {id} {state} {success} ")?;
+    push_exit(out, task.closed)?;
+    writeln!(out, " {failures}")
+}
+
+fn push_pools(out: &mut String, pools: &[PoolRow]) -> Result<(), AllocError>
+    ensures { OnOk result (string_bytes out.new ≡ string_bytes out.old ++ flat_map pool_line pools.now) }
+{
+    for pool in pools {
+        push_pool(out, pool)?;
+    }
+    Ok(())
+}
+
+fn push_nodes(out: &mut String, tables: &Tables) -> Result<(), AllocError>
+    ensures { OnOk result (string_bytes out.new ≡ string_bytes out.old ++ flat_map (node_line tables.now.state) tables.now.state.nodes) }
+{
+    for node in tables.nodes() {
+        push_node(out, tables, node)?;
+    }
+    Ok(())
+}
+
+fn push_jobs(out: &mut String, jobs: &[JobRow]) -> Result<(), AllocError>
+    ensures { OnOk result (string_bytes out.new ≡ string_bytes out.old ++ flat_map job_line jobs.now) }
+{
+    for job in jobs {
+        push_job(out, job)?;
+    }
+    Ok(())
+}
+
+fn push_tasks(out: &mut String, tables: &Tables) -> Result<(), AllocError>
+    ensures { OnOk result (string_bytes out.new ≡ string_bytes out.old ++ flat_map (task_line tables.now.state) tables.now.state.tasks) }
+{
+    for task in tables.tasks() {
+        push_task(out, tables, task)?;
+    }
+    Ok(())
+}
+
+fn push_runs(out: &mut String, runs: &[RunRow]) -> Result<(), AllocError>
+    ensures { OnOk result (string_bytes out.new ≡ string_bytes out.old ++ flat_map run_line runs.now) }
+{
+    for run in runs {
+        push_run(out, run)?;
+    }
+    Ok(())
+}
+
+fn push_preps(out: &mut String, preps: &[PrepRow]) -> Result<(), AllocError>
+    ensures { OnOk result (string_bytes out.new ≡ string_bytes out.old ++ flat_map prep_line preps.now) }
+{
+    for prep in preps {
+        push_prep(out, prep)?;
+    }
+    Ok(())
+}
+
+fn push_scales(out: &mut String, scales: &[ScaleRow]) -> Result<(), AllocError>
+    ensures { OnOk result (string_bytes out.new ≡ string_bytes out.old ++ flat_map scale_line scales.now) }
+{
+    for scale in scales {
+        push_scale(out, scale)?;
+    }
+    Ok(())
+}
+
+/// The tables as a text: the moment, then the rows in order, pools, nodes, jobs, tasks, runs, preparations and ways of scaling,
+/// a line for each. Samples are left out. The only error is want of memory.
+#[tactic(auto, unfolding(crate::specs::Tables::tables_text))]
+pub fn write_tables(alloc: Global, tables: &Tables) -> Result<Text, NoMemory>
+    ensures { IfOk result (λ text. text ≡ tables_text tables.now.state) }
+{
+    let moment = tables.moment();
+    let mut out = format!(in alloc; "tables {moment}\n")?;
+    push_pools(&mut out, tables.pools())?;
+    push_nodes(&mut out, tables)?;
+    push_jobs(&mut out, tables.jobs())?;
+    push_tasks(&mut out, tables)?;
+    push_runs(&mut out, tables.runs())?;
+    push_preps(&mut out, tables.preps())?;
+    push_scales(&mut out, tables.scales())?;
+    Ok(Text::of_string(out))
+}
