@@ -8,7 +8,7 @@
 // mod job;
 // mod machine;
 // mod node;
-// mod place;
+mod place;
 mod plan;
 // mod pool;
 // mod run;
