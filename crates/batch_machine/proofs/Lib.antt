@@ -1,0 +1,2 @@
+pub mod DuePlans
+pub mod DuePuts

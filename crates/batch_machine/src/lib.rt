@@ -7,12 +7,14 @@
 // mod event;
 // mod job;
 // mod machine;
-// mod node;
+mod attempt;
+mod node;
 // mod place;
 mod plan;
 // mod pool;
+mod resize;
 // mod run;
-// mod settle;
+mod settle;
 // mod task;
 
 // pub use machine::Machine;
