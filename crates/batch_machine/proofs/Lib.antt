@@ -1,1 +1,3 @@
+pub mod DuePlans
+pub mod DuePuts
 pub mod Placements

@@ -3,16 +3,18 @@
 //! `batch_model`.
 #![tactic(auto)]
 
+mod attempt;
 // mod due;
 // mod event;
 // mod job;
 // mod machine;
-// mod node;
+mod node;
 mod place;
 mod plan;
 // mod pool;
+mod resize;
 // mod run;
-// mod settle;
+mod settle;
 // mod task;
 
 // pub use machine::Machine;
