@@ -4,15 +4,15 @@
 #![tactic(auto)]
 
 // mod due;
-// mod event;
-// mod job;
+mod event;
+mod job;
 // mod machine;
 // mod node;
 // mod place;
 mod plan;
-// mod pool;
-// mod run;
+mod pool;
+mod run;
 // mod settle;
-// mod task;
+mod task;
 
 // pub use machine::Machine;
