@@ -1,14 +1,13 @@
 //! Attempts of tasks: which runs are of a task's present attempt, and how its main run ended.
 ghost use Rattle.std.specs.Prelude.{◌≡◌};
 ghost use Rattle.std.specs.Option.{option_copied};
-ghost use Rattle.batch_model.specs.Finding.{names};
-ghost use Rattle.batch_model.specs.Runs.{is_present, is_unended, is_main, is_busy_for, ending_of};
+ghost use Rattle.batch_model.specs.Runs.{is_unended, is_main, is_busy_for, ending_of};
 ghost use Rattle.batch_model.specs.Tasks.{is_active, is_placed, is_busy, main_run, main_ending};
 
-use bt_base::Id;
 use bt_rows::run::{Ending, RunKind, RunRow, RunState};
 use bt_rows::tables::Tables;
 use bt_rows::task::{TaskRow, TaskStage};
+use slot_scan::is_present;
 
 /// Whether the task waits to be placed.
 pub fn is_active(stage: TaskStage) -> bool
@@ -22,23 +21,6 @@ pub fn is_placed(stage: TaskStage) -> bool
     ensures { result ≡ is_placed stage }
 {
     stage == TaskStage::Placed
-}
-
-/// Whether the option holds this id, but for case.
-fn names(option: &Option<Id>, id: &Id) -> bool
-    ensures { result ≡ names option.now id.now }
-{
-    match option {
-        None => false,
-        Some(name) => name.same(id),
-    }
-}
-
-/// Whether the run is of the task's present attempt.
-pub fn is_present(task: &TaskRow, run: &RunRow) -> bool
-    ensures { result ≡ is_present task.now run.now }
-{
-    names(&run.job, &task.job) && names(&run.task, &task.id) && run.attempt == task.attempt
 }
 
 /// Whether the run is waiting, queued or taken.

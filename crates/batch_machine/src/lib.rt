@@ -4,17 +4,17 @@
 #![tactic(auto)]
 
 mod attempt;
-// mod due;
-// mod event;
-// mod job;
-// mod machine;
+mod due;
+mod event;
+mod job;
+mod machine;
 mod node;
 mod place;
 mod plan;
-// mod pool;
+mod pool;
 mod resize;
-// mod run;
+mod run;
 mod settle;
-// mod task;
+mod task;
 
-// pub use machine::Machine;
+pub use machine::Machine;
