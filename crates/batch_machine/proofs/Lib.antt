@@ -1,5 +1,5 @@
 pub mod DuePlans
 pub mod DuePuts
 pub mod EventPuts
-pub mod Moving
 pub mod Placements
+pub mod Readiness

@@ -57,12 +57,18 @@ fn is_event(kind: &EventKind, wanted: Wanted) -> bool {
     }
 }
 
+fn is_request(request: LineRequest, wanted: Wanted) -> bool {
+    match request {
+        LineRequest::Skip => matches!(wanted, Wanted::Skipped),
+        LineRequest::Call(moment, event) => moment.ms() == 7 && is_event(event.kind(), wanted),
+    }
+}
+
 fn asks(rt: &HostRuntime, line: &[u8], wanted: Wanted) -> bool {
     match read_line(rt.alloc(), line) {
-        Err(Fail::Memory) => false,
+        Ok(request) => is_request(request, wanted),
         Err(Fail::Why(refusal)) => is_refused(refusal, wanted),
-        Ok(LineRequest::Skip) => matches!(wanted, Wanted::Skipped),
-        Ok(LineRequest::Call(moment, event)) => moment.ms() == 7 && is_event(event.kind(), wanted),
+        Err(Fail::Memory) => false,
     }
 }
 

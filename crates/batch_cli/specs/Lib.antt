@@ -1,0 +1,4 @@
+pub mod Codes
+pub mod Headline
+pub mod History
+pub mod Shown

@@ -1,0 +1,40 @@
+//! How the program ends.
+
+/// How the program ends; its exit status is the number beside it (this project's profile).
+#[derive(Clone, Copy, Debug, PartialEq, Eq)]
+pub enum Status {
+    /// 0: none of the others.
+    Done,
+    /// 1: want of memory; the run ended at once.
+    Memory,
+    /// 2: the words are no command; nothing was written.
+    Usage,
+    /// 3: the source failed; nothing was called or written.
+    SourceFault,
+    /// 4: the sink failed; the run ended there.
+    SinkFault,
+    /// 6: the script was done to its end, and a line of it is no request.
+    UnreadableLines,
+    /// 7: the source gave more than 67,108,864 bytes; nothing was called.
+    ScriptTooLong,
+}
+
+impl Status {
+    ghost use Rattle.std.specs.Prelude.{◌≡◌};
+    ghost use Rattle.batch_cli.specs.Codes.{exit_code};
+
+    /// The exit status.
+    pub fn code(self) -> u8
+        ensures { result ≡ exit_code self }
+    {
+        match self {
+            Status::Done => 0,
+            Status::Memory => 1,
+            Status::Usage => 2,
+            Status::SourceFault => 3,
+            Status::SinkFault => 4,
+            Status::UnreadableLines => 6,
+            Status::ScriptTooLong => 7,
+        }
+    }
+}
