@@ -1,1 +1,2 @@
 pub mod EventPuts
+pub mod Readiness

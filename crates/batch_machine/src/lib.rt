@@ -3,10 +3,10 @@
 //! `batch_model`.
 #![tactic(auto)]
 
-// mod due;
+mod due;
 mod event;
 mod job;
-// mod machine;
+mod machine;
 // mod node;
 // mod place;
 mod plan;
@@ -15,4 +15,4 @@ mod run;
 // mod settle;
 mod task;
 
-// pub use machine::Machine;
+pub use machine::Machine;

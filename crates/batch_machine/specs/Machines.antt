@@ -1,0 +1,28 @@
+-- What contracts see of a machine.
+use Rattle.std.specs.Prelude.{ℕ, ◌≤◌, Option, length, IfSome}
+use Rattle.bt_rows.specs.Changes.{apply_changes}
+use Rattle.bt_rows.specs.State.{State}
+use Rattle.bt_rows.specs.declared.event.EventKind.{EventKind}
+use Rattle.bt_rows.specs.declared.plan.Plan.{Plan}
+use Rattle.batch_model.specs.Dues.{due_step}
+use Rattle.batch_model.specs.Events.{event_step}
+use Rattle.batch_model.specs.Sound.{IsSound}
+use Rattle.batch_machine.specs.Plans.{IsPlanOf, IsStepOf}
+
+-- the tables, the number of seats, and the plan that is reserved
+pub record Machine : Type 0 where
+  pub state : State
+  pub seats : ℕ
+  pub reserved : Option Plan
+
+-- the plan is that of an event, or of the due step
+pub data IsMade (seats : ℕ) (s : State) (plan : Plan) : Type 0 where
+  of_event : (moment : ℕ) (event : EventKind) → IsPlanOf (event_step moment event s) s plan → IsMade seats s plan
+  of_due : IsStepOf (due_step seats s) s plan → IsMade seats s plan
+
+-- the tables are sound, and a reserved plan has its room and leaves them sound
+pub record IsReady (free : ℕ) (m : Machine) : Type 0 where
+  pub few : m.seats ≤ 32
+  pub sound : IsSound m.seats m.state
+  pub room : IfSome m.reserved (λ plan. length plan.changes ≤ free)
+  pub after : IfSome m.reserved (λ plan. IsSound m.seats (apply_changes plan.changes m.state))

@@ -1,0 +1,101 @@
+//! The machine: tables, seats, and a plan that may be reserved.
+ghost use Rattle.std.specs.Prelude.{◌≡◌, ◌≤◌, Some, None, IfOk, OnOk, OnErr, IsSome, IfSome};
+ghost use Rattle.bt_rows.specs.Changes.{apply_changes};
+ghost use Rattle.bt_rows.specs.State.{empty_state};
+ghost use Rattle.batch_model.specs.Dues.{due_step};
+ghost use Rattle.batch_model.specs.Events.{event_step};
+ghost use Rattle.batch_model.specs.Sound.{IsSound};
+ghost use Rattle.batch_machine.specs.Plans.{IsPlanOf, IsRule};
+ghost use Rattle.batch_machine.specs.Machines.{IsMade};
+
+use crate::{due, event};
+use bt_base::{Moment, NoMemory};
+use bt_rows::event::Event;
+use bt_rows::plan::Plan;
+use bt_rows::reply::Reply;
+use bt_rows::tables::Tables;
+use std::alloc::Global;
+use std::marker::Model;
+
+/// Tables that events and due steps change, one plan at a time. The tables are sound at every moment.
+#[derive(Drop)]
+pub struct Machine {
+    tables: Tables,
+    seats: u8,
+    reserved: Option<Plan>,
+}
+
+impl Model for Machine {
+    ghost use Rattle.batch_machine.specs.Machines.{Machine as Seen, IsReady};
+
+    ghost Value = { Seen };
+
+    ghost view = { λ m. record { state = m.tables.state; seats = m.seats; reserved = m.reserved } };
+
+    ghost invariant = { λ m. IsReady m.tables.room (record { state = m.tables.state; seats = m.seats; reserved = m.reserved }) };
+}
+
+impl Machine {
+    /// The machine over empty tables, with 1 to 32 seats. It takes no memory.
+    pub fn open(tables: Tables, seats: u8) -> Machine
+        requires empty { tables.state ≡ empty_state }
+        requires few { seats ≤ 32 }
+        ensures { result ≡ record { state = empty_state; seats = seats; reserved = None } }
+    {
+        Machine {
+            tables,
+            seats,
+            reserved: None,
+        }
+    }
+
+    /// The tables.
+    pub fn tables(&self) -> &Tables
+        ensures state { result.now.state ≡ self.now.state }
+        ensures sound { IsSound self.now.seats self.now.state }
+    {
+        &self.tables
+    }
+
+    /// The reply to an event at a moment, and the changes that it makes. A refusal is a reply.
+    pub fn plan(&self, alloc: Global, moment: Moment, event: &Event) -> Result<Plan, NoMemory>
+        ensures plan { IfOk result (IsPlanOf (event_step moment event.now self.now.state) self.now.state) }
+        ensures made { IfOk result (IsMade self.now.seats self.now.state) }
+    {
+        event::plan_event(alloc, &self.tables, moment.ms(), event)
+    }
+
+    /// The plan of the due step, whose reply tells the step; none exactly where no rule applies.
+    pub fn plan_due(&self, alloc: Global) -> Result<Option<Plan>, NoMemory>
+        ensures rule { IfOk result (IsRule (due_step self.now.seats self.now.state) self.now.state) }
+        ensures sound { IsSound self.now.seats self.now.state }
+    {
+        due::plan_due(alloc, &self.tables, self.seats)
+    }
+
+    /// Keeps the plan, and takes all the room that it needs. Where memory is refused, no plan is reserved.
+    pub fn reserve(&mut self, plan: Plan) -> Result<(), NoMemory>
+        requires free { self.old.reserved ≡ None }
+        requires made { IsMade self.old.seats self.old.state plan }
+        ensures ok { OnOk result (self.new ≡ record self.old { reserved = Some plan }) }
+        ensures err { OnErr result (self.new ≡ self.old) }
+    {
+        self.tables.reserve(plan.changes.as_slice())?;
+        self.reserved = Some(plan);
+        Ok(())
+    }
+
+    /// Makes the changes of the reserved plan, and hands out its reply. It takes no memory.
+    pub fn accept(&mut self) -> Reply
+        requires { IsSome self.old.reserved }
+        ensures state { IfSome self.old.reserved (λ plan. self.new ≡ record self.old { state = apply_changes plan.changes self.old.state; reserved = None }) }
+        ensures reply { IfSome self.old.reserved (λ plan. result ≡ plan.reply) }
+    {
+        let Some(plan) = self.reserved.take() else {
+            unreachable!()
+        };
+        let Plan { reply, changes } = plan;
+        self.tables.apply(changes);
+        reply
+    }
+}
