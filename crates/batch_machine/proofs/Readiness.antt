@@ -1,5 +1,5 @@
 -- Plans leave sound tables.
-use Rattle.std.proofs.Common.{ℕ, Result, Ok, Err, IfOk, sym, subst}
+use Rattle.std.proofs.Common.{◌≡◌, ℕ, Result, Ok, Err, IfOk, sym, subst}
 use Rattle.bt_base.specs.declared.memory.NoMemory.{NoMemory}
 use Rattle.bt_rows.specs.Changes.{apply_changes}
 use Rattle.bt_rows.specs.State.{State}

@@ -1,5 +1,5 @@
 -- What contracts see of a machine.
-use Rattle.std.specs.Prelude.{ℕ, ◌≤◌, Option, length, IfSome}
+use Rattle.std.specs.Prelude.{◌≡◌, ℕ, ◌≤◌, Option, Some, None, length, IfSome}
 use Rattle.bt_rows.specs.Changes.{apply_changes}
 use Rattle.bt_rows.specs.State.{State}
 use Rattle.bt_rows.specs.declared.event.EventKind.{EventKind}

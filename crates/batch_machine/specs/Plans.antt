@@ -1,5 +1,5 @@
 -- What a plan stands for: a reply, and changes whose application is the step.
-use Rattle.std.specs.Prelude.{◌≡◌, Option, Some, None}
+use Rattle.std.specs.Prelude.{◌≡◌, ℕ, Option, Some, None}
 use Rattle.bt_rows.specs.Changes.{apply_changes}
 use Rattle.bt_rows.specs.State.{State}
 use Rattle.bt_rows.specs.declared.plan.Plan.{Plan}

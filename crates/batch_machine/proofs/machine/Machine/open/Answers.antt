@@ -1,4 +1,4 @@
-use Rattle.std.proofs.Common.{sym, subst}
+use Rattle.std.proofs.Common.{◌≡◌, sym, subst}
 use Rattle.batch_model.specs.Sound.{IsSound}
 use Rattle.batch_model.proofs.SoundMoment.{sound_empty}
 use Rattle.batch_machine.proofs.machine.Machine.open.Goals as goal

@@ -1,4 +1,4 @@
-use Rattle.std.proofs.Common.{IfOk, subst}
+use Rattle.std.proofs.Common.{◌≡◌, IfOk, subst}
 use Rattle.batch_machine.specs.Machines.{Machine, IsMade}
 use Rattle.batch_machine.proofs.Readiness.{made_by_event}
 use Rattle.batch_machine.proofs.machine.Machine.plan.Goals as goal
