@@ -1,5 +1,5 @@
 -- What events put into the tables.
-use Rattle.std.proofs.Common.{◌≡◌, ℕ, Bool, true, false, ◌&&◌, List, Option, Some, None, is_some, Result, Ok, Err, refl, sym, ◌∙◌, ap, subst}
+use Rattle.std.proofs.Common.{◌≡◌, ℕ, true, false, ◌&&◌, List, Option, Some, None, is_some, Result, Ok, Err, refl, sym, ◌∙◌, ap, subst}
 use Rattle.std.specs.Result.{IfOk}
 use Rattle.std.specs.List.{find}
 use Rattle.std.proofs.lemmas.Bool.Decides.{Decides-eqb}
@@ -12,7 +12,7 @@ use Rattle.bt_rows.specs.declared.tables.Change.TheVariants.{PutPool, PutJob, Pu
 use Rattle.bt_rows.specs.Changes.{apply_change, apply_changes}
 use Rattle.bt_rows.specs.Keys.{same_run, same_run_equiv, same_task, same_task_equiv}
 use Rattle.batch_model.specs.Finding.{names}
-use Rattle.batch_model.specs.Rows.{is_pool, is_job, is_task, is_run, pool_of, job_of, task_of, run_of, add_pool_row, add_job_row, add_task_row, change_runs, change_tasks}
+use Rattle.batch_model.specs.Rows.{is_pool, is_job, is_task, is_run, pool_of, job_of, task_of, run_of, add_pool_row, add_job_row, add_task_row, change_runs}
 use Rattle.batch_model.specs.Events.{taken_run, ended_run, started_task, is_task_of_run, run_taken, run_ended}
 use Rattle.batch_model.specs.Sound.{KeysAreDistinct}
 use Rattle.batch_model.specs.Steps.{Answered}

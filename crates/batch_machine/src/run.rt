@@ -99,11 +99,11 @@ fn take_found(alloc: Global, tables: &Tables, moment: u64, run: &RunRow) -> Resu
     ensures { IfOk result (IsPlanOf (take_run (at_moment moment tables.now.state) run.now) tables.now.state) }
 {
     match run.state {
+        RunState::Queued => put_taken(alloc, tables, moment, run),
         RunState::Ended(_) => refuse(alloc, tables, moment, Refusal::RunAlreadyEnded),
         RunState::Withdrawn => refuse(alloc, tables, moment, Refusal::RunWithdrawn),
         RunState::Taken => refuse(alloc, tables, moment, Refusal::RunAlreadyTaken),
         RunState::Waiting => refuse(alloc, tables, moment, Refusal::RunWaiting),
-        RunState::Queued => put_taken(alloc, tables, moment, run),
     }
 }
 
@@ -159,10 +159,10 @@ fn end_found(
     ensures { IfOk result (IsPlanOf (end_run (at_moment moment tables.now.state) ending run.now) tables.now.state) }
 {
     match run.state {
+        RunState::Taken => put_ended(alloc, tables, moment, ending, run),
         RunState::Ended(_) => refuse(alloc, tables, moment, Refusal::RunAlreadyEnded),
         RunState::Withdrawn => refuse(alloc, tables, moment, Refusal::RunWithdrawn),
         RunState::Waiting | RunState::Queued => refuse(alloc, tables, moment, Refusal::RunNotTaken),
-        RunState::Taken => put_ended(alloc, tables, moment, ending, run),
     }
 }
 

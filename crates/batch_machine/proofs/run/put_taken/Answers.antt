@@ -1,6 +1,6 @@
-use Rattle.std.proofs.Common.{◌≡◌, max, List, [], ◌∷◌, refl, sym, ap, subst, ◌∙◌}
+use Rattle.std.proofs.Common.{◌≡◌, max, [], ◌∷◌, sym, ap, subst, ◌∙◌}
 use Rattle.std.specs.Result.{IfOk}
-use Rattle.bt_rows.specs.Changes.{apply_change, apply_changes}
+use Rattle.bt_rows.specs.Changes.{apply_change}
 use Rattle.bt_rows.specs.declared.tables.Change.TheVariants.{Now, PutRun, PutTask}
 use Rattle.batch_model.specs.Events.{accept, at_moment, taken_run, started_task, run_taken}
 use Rattle.batch_machine.specs.Plans.{IsPlanOf}
