@@ -1,1 +1,4 @@
 pub mod HeldSlots
+mod ShownReplies
+mod ShownDues
+mod ShownTables

@@ -9,6 +9,8 @@ mod replies;
 mod rows;
 mod states;
 mod tables;
+#[cfg(test)]
+mod tests;
 mod words;
 
 pub use dues::write_due;

@@ -1,0 +1,55 @@
+//! Each public function once with ample memory, against texts that were written by hand. More texts stand in `proofs/`, where
+//! the definitions are computed.
+
+use super::*;
+use bt_base::{Id, NoMemory};
+use bt_rows::due::Due;
+use bt_rows::refusal::{Refusal, Table};
+use bt_rows::reply::Reply;
+use bt_rows::tables::Tables;
+use std::alloc::Global;
+use std::test::Fail as TestFail;
+
+#[test]
+fn refusals_have_a_number_a_status_and_a_name(rt: HostRuntime) {
+    assert_eq!(rt; number_of(&Refusal::RunWaiting), 32);
+    assert_eq!(rt; status_of(&Refusal::RunWaiting), 409);
+    assert_eq!(rt; name_of(&Refusal::RunWaiting), "RunWaiting");
+}
+
+fn shows(alloc: Global, reply: &Reply, wanted: &str) -> Result<bool, NoMemory> {
+    let written = write_reply(alloc, reply)?;
+    Ok(written.as_str() == wanted)
+}
+
+#[test]
+fn a_refusal_shows_its_values(rt: HostRuntime) -> Result<(), TestFail> {
+    let reply = Reply::Refused(Refusal::TableFull(Table::Pools, 64));
+    assert!(rt; shows(rt.alloc(), &reply, "409 TableFull pools 64")?);
+    Ok(())
+}
+
+#[test]
+fn a_due_step_shows_its_rule_and_rows(rt: HostRuntime) -> Result<(), TestFail> {
+    let due = Due::NodeAdded(Id::read(rt.alloc(), "p")?, 3, 32);
+    let written = write_due(rt.alloc(), &due)?;
+    assert_eq!(rt; written.as_str(), "U15 p 3 32");
+    Ok(())
+}
+
+#[test]
+fn numbered_lines_end_with_a_line_feed(rt: HostRuntime) -> Result<(), TestFail> {
+    let mut out = String::new(rt.alloc());
+    push_line(&mut out, 3, "201")?;
+    push_line(&mut out, 18, "U3 7")?;
+    assert_eq!(rt; out.as_str(), "3 201\n18 U3 7\n");
+    Ok(())
+}
+
+#[test]
+fn tables_show_their_moment_first(rt: HostRuntime) -> Result<(), TestFail> {
+    let tables = Tables::empty(rt.alloc());
+    let written = write_tables(rt.alloc(), &tables)?;
+    assert_eq!(rt; written.as_str(), "tables 0\n");
+    Ok(())
+}
