@@ -1,6 +1,5 @@
-use Rattle.std.proofs.Common.{◌≡◌, ◌∷◌, ◌+◌, take, drop, length, ap, refl, sym, ◌∙◌, arith}
+use Rattle.std.proofs.Common.{sym, ◌∙◌}
 use Rattle.std.proofs.lemmas.List.{take_rest}
-use Rattle.std.specs.Str.Lines.{lines}
 use Rattle.wire_lines.proofs.FirstLine.{line_at, one_line}
 use Rattle.wire_lines.proofs.script.split_line.Goals as goal
 
