@@ -1,5 +1,5 @@
 -- Histories of a metric: its samples, oldest first.
-use Rattle.std.specs.Prelude.{ℕ, ◌+◌, ◌-◌, ◌*◌, ◌/◌, ◌≤◌, ◌==◌, Bool, ◌&&◌, ℤ, pos, List, [], ◌∷◌, ◌++◌, length, drop, take, map, reverse, count_by, nat_le, nat_lt, slice_get, Option, Some, None, option_map, Result, Ok, Err, if◌then◌else◌, vec_len, vec_capacity}
+use Rattle.std.specs.Prelude.{ℕ, ◌+◌, ◌-◌, ◌*◌, ◌/◌, ◌≤◌, ◌==◌, Bool, ◌&&◌, ℤ, pos, List, [], ◌∷◌, ◌++◌, length, drop, take, map, reverse, count_by, nat_le, slice_get, Option, Some, None, option_map, Result, Ok, Err, if◌then◌else◌, vec_len, vec_capacity}
 use Rattle.std.specs.List.{filter}
 use Rattle.bt_samples.specs.declared.history.Sample.{Sample}
 use Rattle.bt_samples.specs.declared.history.SampleTooOld.{SampleTooOld}

@@ -1,11 +1,11 @@
 -- Years and months counted off from the days that are over.
-use Rattle.std.proofs.Common.{◌≡◌, ◌≢◌, ℕ, zero, suc, ◌+◌, ◌-◌, ◌*◌, ◌/◌, ◌%◌, ◌<◌, ◌≤◌, Bool, true, false, cond, refl, sym, ap, ◌∙◌, arith, ◌⊎◌, inl, inr}
-use Rattle.std.specs.Prelude.{ℤ, pos, negsuc, neg_ℤ, ◌+ℤ◌, ◌-ℤ◌, ◌≤ℤ◌, ◌<ℤ◌, nat_lt, if◌then◌else◌}
+use Rattle.std.proofs.Common.{◌≡◌, ◌≢◌, ℕ, zero, suc, ◌+◌, ◌-◌, ◌*◌, ◌/◌, ◌%◌, ◌<◌, ◌≤◌, Bool, true, false, cond, refl, ap, ◌∙◌, arith}
+use Rattle.std.specs.Prelude.{ℤ, pos, ◌≤ℤ◌, nat_lt}
 use Rattle.std.specs.Int.RustNames.{unsigned_abs}
 use Rattle.std.proofs.lemmas.Int.{ints, by_lt_z}
 use Rattle.std.proofs.lemmas.Grind.{common_steps}
-use Rattle.jiff_core.specs.Calendar.{IsCivilDate, IsYear, days_in_year, days_in_month, days_of_months, day_of_year, day_count, days_from_civil, weekday_number}
-use Rattle.jiff_core.proofs.CalendarLemmas.{day_count-day_of_year, day_count-next_year, day_count-year_is, day_of_year_bound, day_count-lt_year, days_of_months_mono, day_of_year_before, days_of_months_more, days_of_months-zero, days_from_civil-day_count, day_count-epoch}
+use Rattle.jiff_core.specs.Calendar.{IsCivilDate, days_in_year, days_in_month, days_of_months, day_of_year, day_count, days_from_civil, weekday_number}
+use Rattle.jiff_core.proofs.CalendarLemmas.{day_count-day_of_year, day_count-next_year, day_count-year_is, day_of_year_bound, day_count-lt_year, days_of_months_mono, days_of_months_more, days_of_months-zero, days_from_civil-day_count, day_count-epoch}
 use Rattle.jiff_core.specs.Date.{epoch_day, weekday_of}
 use Rattle.jiff_core.specs.DateTime.{civil_nanos}
 use Rattle.jiff_core.specs.declared.civil.datetime.DateTime.{DateTime}

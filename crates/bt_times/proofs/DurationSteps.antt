@@ -1,5 +1,5 @@
 -- The duration of a text that shows a span.
-use Rattle.std.proofs.Common.{◌≡◌, ℕ, List, Option, Some, false, ◌∙◌}
+use Rattle.std.proofs.Common.{◌≡◌, ℕ, List, Option, Some, false}
 use Rattle.std.specs.Prelude.{Result}
 use Rattle.std.specs.Str.{bytes_eq}
 use Rattle.bt_base.specs.declared.fail.Fail.{Fail}

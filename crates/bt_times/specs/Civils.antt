@@ -1,5 +1,5 @@
 -- What calendars and clocks in UTC show at an instant, which is given in units of 100 ns since 1970-01-01T00:00:00Z.
-use Rattle.std.specs.Prelude.{ℕ, zero, suc, ◌+◌, ◌-◌, ◌*◌, ◌/◌, ◌%◌, ℤ, pos, ◌≤ℤ◌, nat_lt, if◌then◌else◌}
+use Rattle.std.specs.Prelude.{ℕ, zero, suc, ◌+◌, ◌-◌, ◌/◌, ◌%◌, ℤ, pos, ◌≤ℤ◌, nat_lt, if◌then◌else◌}
 use Rattle.jiff_core.specs.Calendar.{days_in_year, days_in_month, weekday_number}
 use Rattle.bt_times.specs.declared.parts.Civil.{Civil}
 
