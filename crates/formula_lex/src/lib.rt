@@ -1,0 +1,6 @@
+//! The tokens of a formula.
+#![tactic(auto)]
+
+mod token;
+
+pub use token::{BinaryOperator, Kind, Span, Token};
