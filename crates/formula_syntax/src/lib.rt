@@ -6,3 +6,6 @@ mod formula;
 mod stack;
 
 pub use formula::{one_reading, parse};
+
+#[cfg(test)]
+mod tests;
