@@ -26,11 +26,7 @@ pub fn plan_due(alloc: Global, tables: &Tables, seats: u8) -> Result<Option<Plan
 }
 
 /// The plan of the first rule that applies, where nothing is to settle.
-fn after_settling(
-    alloc: Global,
-    tables: &Tables,
-    seats: u8,
-) -> Result<Option<Plan>, NoMemory>
+fn after_settling(alloc: Global, tables: &Tables, seats: u8) -> Result<Option<Plan>, NoMemory>
     requires sound { IsSound seats tables.now.state }
     requires few { seats ≤ 32 }
     requires settled { settle_first tables.now.state ≡ None }
@@ -43,11 +39,7 @@ fn after_settling(
 }
 
 /// The plan of the first rule that applies, where no resize ends either.
-fn after_resizing(
-    alloc: Global,
-    tables: &Tables,
-    seats: u8,
-) -> Result<Option<Plan>, NoMemory>
+fn after_resizing(alloc: Global, tables: &Tables, seats: u8) -> Result<Option<Plan>, NoMemory>
     requires sound { IsSound seats tables.now.state }
     requires few { seats ≤ 32 }
     requires settled { settle_first tables.now.state ≡ None }

@@ -113,10 +113,7 @@ fn lacks_node(tables: &Tables, pool: &PoolRow) -> bool
 fn first_lacking<'a>(tables: &'a Tables) -> Option<&'a PoolRow>
     ensures { option_copied result ≡ find (lacks_node tables.now.state) tables.now.state.pools }
 {
-    tables
-        .pools()
-        .iter()
-        .find(|pool| lacks_node(tables, pool))
+    tables.pools().iter().find(|pool| lacks_node(tables, pool))
 }
 
 /// A usable node of the pool on the seat, with the next number.
@@ -133,12 +130,7 @@ fn new_node(tables: &Tables, pool: &PoolRow, seat: u8) -> Result<NodeRow, NoMemo
 }
 
 /// The plan that adds a node of the pool on the seat.
-fn node_added(
-    alloc: Global,
-    tables: &Tables,
-    pool: &PoolRow,
-    seat: u8,
-) -> Result<Plan, NoMemory>
+fn node_added(alloc: Global, tables: &Tables, pool: &PoolRow, seat: u8) -> Result<Plan, NoMemory>
     requires numbers { NumbersAreNew tables.now.state }
     requires left { IsTrue (has_number_left tables.now.state.next_node) }
     ensures { IfOk result (IsPlanOf (answer_of_step (node_added tables.now.state seat pool.now)) tables.now.state) }

@@ -28,10 +28,7 @@ fn has_reached(tables: &Tables, pool: &PoolRow) -> bool
 fn first_reached<'a>(tables: &'a Tables) -> Option<&'a PoolRow>
     ensures { option_copied result ≡ find (has_reached tables.now.state) tables.now.state.pools }
 {
-    tables
-        .pools()
-        .iter()
-        .find(|pool| has_reached(tables, pool))
+    tables.pools().iter().find(|pool| has_reached(tables, pool))
 }
 
 /// The pool, steady.
