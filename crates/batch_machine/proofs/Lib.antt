@@ -1,2 +1,5 @@
-pub mod Moving
+pub mod DuePlans
+pub mod DuePuts
+pub mod EventPuts
+pub mod Placements
 pub mod Readiness

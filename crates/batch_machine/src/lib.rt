@@ -3,16 +3,18 @@
 //! `batch_model`.
 #![tactic(auto)]
 
+mod attempt;
 mod due;
 mod event;
-// mod job;
+mod job;
 mod machine;
-// mod node;
-// mod place;
+mod node;
+mod place;
 mod plan;
-// mod pool;
-// mod run;
-// mod settle;
-// mod task;
+mod pool;
+mod resize;
+mod run;
+mod settle;
+mod task;
 
 pub use machine::Machine;

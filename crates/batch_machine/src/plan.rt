@@ -1,7 +1,7 @@
 //! Plans of one or two changes, and of none.
-ghost use Rattle.std.specs.Prelude.{◌≡◌, [], ◌∷◌, IfOk, OnOk, max};
-ghost use Rattle.bt_rows.specs.State.{State};
-ghost use Rattle.bt_rows.specs.Changes.{apply_change, apply_changes};
+ghost use Rattle.std.specs.Prelude.{◌≡◌, [], ◌∷◌, IfOk, max};
+ghost use Rattle.bt_rows.specs.Changes.{apply_change};
+ghost use Rattle.bt_rows.specs.declared.tables.Change.TheVariants.{Now};
 ghost use Rattle.bt_rows.specs.declared.reply.Reply.TheVariants.{Status, Step};
 ghost use Rattle.batch_model.specs.Events.{at_moment, refuse};
 ghost use Rattle.batch_machine.specs.Plans.{IsPlanOf};
@@ -14,24 +14,11 @@ use bt_rows::reply::Reply;
 use bt_rows::tables::{Change, Tables};
 use std::alloc::Global;
 
-/// The change of the last moment, if it rises.
-#[tactic(auto, using(crate::proofs::Moving::moved, crate::proofs::Moving::kept))]
-fn moved(alloc: Global, tables: &Tables, moment: u64) -> Result<Vec<Change>, NoMemory>
-    ensures { IfOk result (λ changes. apply_changes changes.items tables.now.state ≡ at_moment moment tables.now.state) }
+/// The change of the last moment, which does not fall.
+fn moved(tables: &Tables, moment: u64) -> Change
+    ensures { result ≡ Now (max tables.now.state.moment moment) }
 {
-    let mut changes = Vec::new(alloc);
-    if tables.moment() < moment {
-        changes.push(Change::Now(moment))?;
-    }
-    Ok(changes)
-}
-
-/// Adds a change behind the others.
-fn push_change(changes: &mut Vec<Change>, change: Change) -> Result<(), NoMemory>
-    ensures { OnOk result ((s : State) → apply_changes changes.new.items s ≡ apply_change change (apply_changes changes.old.items s)) }
-{
-    changes.push(change)?;
-    Ok(())
+    Change::Now(tables.moment().max(moment))
 }
 
 /// A refusal changes the last moment alone.
@@ -43,7 +30,7 @@ pub fn refuse(
 ) -> Result<Plan, NoMemory>
     ensures { IfOk result (IsPlanOf (refuse refusal (at_moment moment tables.now.state)) tables.now.state) }
 {
-    let changes = moved(alloc, tables, moment)?;
+    let changes = vec![in alloc; moved(tables, moment)]?;
     Ok(Plan {
         reply: Reply::Refused(refusal),
         changes: List::of_vec(changes),
@@ -60,15 +47,14 @@ pub fn accept_one(
 ) -> Result<Plan, NoMemory>
     ensures { IfOk result (IsPlanOf (record { reply = Status status; state = apply_change change (at_moment moment tables.now.state) }) tables.now.state) }
 {
-    let mut changes = moved(alloc, tables, moment)?;
-    push_change(&mut changes, change)?;
+    let changes = vec![in alloc; moved(tables, moment), change]?;
     Ok(Plan {
         reply: Reply::Status(status),
         changes: List::of_vec(changes),
     })
 }
 
-/// A status, and two changes.
+/// A status, and two changes behind that of the last moment.
 pub fn accept_two(
     alloc: Global,
     tables: &Tables,
@@ -77,11 +63,10 @@ pub fn accept_two(
     first: Change,
     second: Change,
 ) -> Result<Plan, NoMemory>
-    ensures { IfOk result (IsPlanOf (record { reply = Status status; state = apply_change second (apply_change first (at_moment moment tables.now.state)) }) tables.now.state) }
+    ensures reply { IfOk result (λ plan. plan.reply ≡ Status status) }
+    ensures changes { IfOk result (λ plan. plan.changes ≡ Now (max tables.now.state.moment moment) ∷ first ∷ second ∷ []) }
 {
-    let mut changes = moved(alloc, tables, moment)?;
-    push_change(&mut changes, first)?;
-    push_change(&mut changes, second)?;
+    let changes = vec![in alloc; moved(tables, moment), first, second]?;
     Ok(Plan {
         reply: Reply::Status(status),
         changes: List::of_vec(changes),
@@ -93,8 +78,37 @@ pub fn step_one(alloc: Global, due: Due, change: Change) -> Result<Plan, NoMemor
     ensures reply { IfOk result (λ plan. plan.reply ≡ Step due) }
     ensures changes { IfOk result (λ plan. plan.changes ≡ change ∷ []) }
 {
-    let mut changes = Vec::new(alloc);
-    changes.push(change)?;
+    let changes = vec![in alloc; change]?;
+    Ok(Plan {
+        reply: Reply::Step(due),
+        changes: List::of_vec(changes),
+    })
+}
+
+/// A due step of two changes.
+pub fn step_two(alloc: Global, due: Due, first: Change, second: Change) -> Result<Plan, NoMemory>
+    ensures reply { IfOk result (λ plan. plan.reply ≡ Step due) }
+    ensures changes { IfOk result (λ plan. plan.changes ≡ first ∷ second ∷ []) }
+{
+    let changes = vec![in alloc; first, second]?;
+    Ok(Plan {
+        reply: Reply::Step(due),
+        changes: List::of_vec(changes),
+    })
+}
+
+/// A due step of three changes.
+pub fn step_three(
+    alloc: Global,
+    due: Due,
+    first: Change,
+    second: Change,
+    third: Change,
+) -> Result<Plan, NoMemory>
+    ensures reply { IfOk result (λ plan. plan.reply ≡ Step due) }
+    ensures changes { IfOk result (λ plan. plan.changes ≡ first ∷ second ∷ third ∷ []) }
+{
+    let changes = vec![in alloc; first, second, third]?;
     Ok(Plan {
         reply: Reply::Step(due),
         changes: List::of_vec(changes),

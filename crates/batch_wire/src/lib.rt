@@ -3,4 +3,6 @@
 #![tactic(auto)]
 
 pub use wire_lines::{LineRequest, read_line, split_line};
-pub use wire_texts::{name_of, number_of, push_line, status_of, write_due, write_reply, write_tables};
+pub use wire_texts::{
+    name_of, number_of, push_line, status_of, write_due, write_reply, write_tables,
+};

@@ -1,4 +1,3 @@
-pub mod HeldSlots
 mod ShownReplies
 mod ShownDues
 mod ShownTables

@@ -5,5 +5,4 @@ pub mod Replies
 pub mod Dues
 pub mod Rows
 pub mod States
-pub mod Holding
 pub mod Tables

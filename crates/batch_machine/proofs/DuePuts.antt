@@ -1,0 +1,70 @@
+-- What due steps put into the tables.
+use Rattle.std.proofs.Common.{◌≡◌, ℕ, ◌+◌, Bool, false, not, nat_eq, nat_lt, List, [], ◌∷◌, ◌++◌, Some, refl, sym, ◌∙◌, ap}
+use Rattle.std.specs.List.{list_any, find}
+use Rattle.bt_rows.specs.Changes.{apply_change, apply_changes}
+use Rattle.bt_rows.specs.Keys.{same_pool, same_pool_equiv, same_node, same_task, same_task_equiv, same_run}
+use Rattle.bt_rows.specs.Lists.{put_row}
+use Rattle.bt_rows.specs.declared.tables.Change.TheVariants.{PutPool, PutNode, PutTask, PutRun, Counters}
+use Rattle.bt_rows.proofs.DistinctRows.{found_first}
+use Rattle.batch_model.specs.Finding.{Each}
+use Rattle.batch_model.specs.Rows.{put_pool, put_task, add_node_row, add_run_row}
+use Rattle.batch_model.specs.Sound.{KeysAreDistinct, NumbersAreNew}
+use Rattle.batch_model.specs.Variants.{State, PoolRow, NodeRow, TaskRow, RunRow}
+use Rattle.batch_model.proofs.Putting.{put_row-found, put_row-new}
+use Rattle.batch_model.proofs.NodeAdded.{below_other}
+use Rattle.batch_model.proofs.RowLists.{each_weaker, none_any}
+use Rattle.batch_model.proofs.Tests.{true_not}
+
+-- a pool in the place of one that a search finds
+pub pool_changed : (test : PoolRow → Bool) (pool row : PoolRow) (s : State) → KeysAreDistinct s → find test s.pools ≡ Some pool → row.id ≡ pool.id → apply_change (PutPool row) s ≡ put_pool row s
+pool_changed test pool row s keys found id =
+    ap (λ pools. record s { pools = pools })
+    (put_row-found same_pool same_pool_equiv (λ (other : PoolRow). same_pool other row) (λ (old : PoolRow). row) pool (λ x. same_key x) same_key s.pools keys.pools
+    first)
+  where
+    same_key : (x : PoolRow) → same_pool x row ≡ same_pool x pool
+    same_key x = rw id refl
+
+    first : find (λ (other : PoolRow). same_pool other row) s.pools ≡ Some pool
+    first = rw id (found_first same_pool same_pool_equiv test pool s.pools keys.pools found)
+
+-- a task in the place of one that a search finds
+pub task_changed : (test : TaskRow → Bool) (task row : TaskRow) (s : State) → KeysAreDistinct s → find test s.tasks ≡ Some task → row.job ≡ task.job → row.id ≡ task.id → apply_change (PutTask row) s ≡ put_task row s
+task_changed test task row s keys found job id =
+    ap (λ tasks. record s { tasks = tasks })
+    (put_row-found same_task same_task_equiv (λ (other : TaskRow). same_task other row) (λ (old : TaskRow). row) task same_key same_key s.tasks keys.tasks
+    first)
+  where
+    same_key : (x : TaskRow) → same_task x row ≡ same_task x task
+    same_key x = rw (job, id) refl
+
+    first : find (λ (other : TaskRow). same_task other row) s.tasks ≡ Some task
+    first = rw (job, id) (found_first same_task same_task_equiv test task s.tasks keys.tasks found)
+
+-- numbers below the next one are other numbers
+module _ {R : Type 0} (number : R → ℕ) where
+  next_is_new : (next : ℕ) (row : R) (xs : List R) → Each (λ x. nat_lt (number x) next) xs → number row ≡ next → list_any (λ x. nat_eq (number x) (number row)) xs ≡ false
+  next_is_new next row xs below is_next =
+      rw is_next
+      (none_any (λ x. nat_eq (number x) next) xs
+      (each_weaker (λ x. nat_lt (number x) next) (λ x. not (nat_eq (number x) next)) (λ x l. true_not (below_other (number x) next l)) xs below))
+
+-- a node with the next number, and the counter behind it
+pub node_put : (s : State) (row : NodeRow) (after run : ℕ) → NumbersAreNew s → row.number ≡ s.next_node → after ≡ s.next_node + 1 → run ≡ s.next_run → apply_changes (PutNode row ∷ Counters after run ∷ []) s ≡ add_node_row row s
+node_put s row after run numbers is_next rises stays =
+    made (put_row (λ (other : NodeRow). same_node other row) row s.nodes)
+    (put_row-new (λ (other : NodeRow). nat_eq other.number row.number) row s.nodes
+    (next_is_new (λ (other : NodeRow). other.number) s.next_node row s.nodes numbers.nodes is_next))
+  where
+    made : (nodes : List NodeRow) → nodes ≡ s.nodes ++ row ∷ [] → record s { nodes = nodes; next_node = after; next_run = run } ≡ add_node_row row s
+    made nodes e = rw (e, rises, stays) refl
+
+-- a run with the next number, and the counter behind it
+pub run_put : (s : State) (row : RunRow) (after node : ℕ) → NumbersAreNew s → row.number ≡ s.next_run → after ≡ s.next_run + 1 → node ≡ s.next_node → apply_changes (PutRun row ∷ Counters node after ∷ []) s ≡ add_run_row row s
+run_put s row after node numbers is_next rises stays =
+    made (put_row (λ (other : RunRow). same_run other row) row s.runs)
+    (put_row-new (λ (other : RunRow). nat_eq other.number row.number) row s.runs
+    (next_is_new (λ (other : RunRow). other.number) s.next_run row s.runs numbers.runs is_next))
+  where
+    made : (runs : List RunRow) → runs ≡ s.runs ++ row ∷ [] → record s { runs = runs; next_node = node; next_run = after } ≡ add_run_row row s
+    made runs e = rw (e, rises, stays) refl

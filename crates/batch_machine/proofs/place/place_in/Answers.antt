@@ -1,0 +1,14 @@
+use Rattle.std.proofs.Common.{◌≡◌, sym}
+use Rattle.bt_rows.specs.Keys.{same_task, same_task_equiv}
+use Rattle.bt_rows.proofs.DistinctRows.{found_first}
+use Rattle.batch_model.specs.Placing.{is_placeable}
+use Rattle.batch_machine.proofs.Placements.{attempt_bound}
+use Rattle.batch_machine.proofs.place.place_in.Goals as goal
+
+pub place-requires-clause-attempt : goal.place-requires-clause-attempt
+place-requires-clause-attempt c =
+    attempt_bound c.args.tables.now.state.next_run c.in-Some.task.now (is_placeable c.args.job.now) c.args.tables.now.state.tasks c.requires.fitting.attempts (sym c.in-Some.ensures) c.requires.left
+
+pub place-requires-clause-found : goal.place-requires-clause-found
+place-requires-clause-found c =
+    found_first same_task same_task_equiv (is_placeable c.args.job.now) c.in-Some.task.now c.args.tables.now.state.tasks c.requires.keys.tasks (sym c.in-Some.ensures)

@@ -1,0 +1,11 @@
+use Rattle.std.proofs.Common.{ap, subst}
+use Rattle.std.specs.Prelude.{IfOk}
+use Rattle.batch_model.specs.Events.{accept, at_moment}
+use Rattle.batch_machine.specs.Plans.{IsPlanOf}
+use Rattle.batch_machine.proofs.EventPuts.{pool_put}
+use Rattle.batch_machine.proofs.pool.put_new_pool.Goals as goal
+
+pub returns : goal.returns
+returns c =
+    subst (λ answered. IfOk c.accept_one.result (IsPlanOf answered c.args.tables.now.state))
+    (ap (accept 201) (pool_put c.args.pool (at_moment c.args.moment c.args.tables.now.state) c.requires)) c.accept_one.ensures

@@ -1,0 +1,190 @@
+//! The due step that settles a placed task whose present attempt has no unended run.
+ghost use Rattle.std.specs.Prelude.{◌≡◌, IfOk, Some, find};
+ghost use Rattle.std.specs.Option.{option_copied};
+ghost use Rattle.bt_rows.specs.declared.due.Due.TheVariants.{TaskSettled};
+ghost use Rattle.batch_model.specs.Tasks.{is_undisturbed, main_ending, completed, retry_limit};
+ghost use Rattle.batch_model.specs.Rows.{job_of};
+ghost use Rattle.batch_model.specs.Endings.{is_success, closed_by};
+ghost use Rattle.batch_model.specs.Settling.{is_over, has_no_conditions, is_zero_limit, is_tried_once, has_plain_job, is_to_complete, outcome_of, complete, settle};
+ghost use Rattle.batch_model.specs.Dues.{settle_first};
+ghost use Rattle.batch_model.specs.Sound.{KeysAreDistinct};
+ghost use Rattle.batch_machine.specs.Plans.{IsPlanOf, IsRule, answer_of_step};
+
+use crate::attempt::{is_busy, is_placed, main_ending};
+use crate::plan::step_one;
+use bt_base::{Duplicate, NoMemory};
+use bt_rows::due::{Due, Outcome};
+use bt_rows::job::JobRow;
+use bt_rows::lists;
+use bt_rows::plan::Plan;
+use bt_rows::run::Ending;
+use bt_rows::tables::{Change, Tables};
+use bt_rows::task::{Closed, How, TaskRow, TaskStage};
+use std::alloc::Global;
+
+/// Whether the task is placed, and no run of its present attempt is unended.
+fn is_over(tables: &Tables, task: &TaskRow) -> bool
+    ensures { result ≡ is_over tables.now.state task.now }
+{
+    is_placed(task.stage) && !is_busy(tables, task)
+}
+
+/// Whether no end of the task is wanted, and no start of it has failed.
+fn is_undisturbed(task: &TaskRow) -> bool
+    ensures { result ≡ is_undisturbed task.now }
+{
+    task.wanted.is_none() && task.fail.is_none()
+}
+
+/// Whether the task lists no exit conditions.
+fn has_no_conditions(task: &TaskRow) -> bool
+    ensures { result ≡ has_no_conditions task.now }
+{
+    task.codes.as_slice().is_empty()
+        && task.ranges.as_slice().is_empty()
+        && task.launch.is_none()
+        && task.other.is_none()
+}
+
+/// Whether a failure of the task is final.
+fn is_zero_limit(retries: i32) -> bool
+    ensures { result ≡ is_zero_limit retries }
+{
+    retries == 0
+}
+
+/// How often the task is tried again: its own number, or else its job's.
+fn retry_limit(job: &JobRow, task: &TaskRow) -> i32
+    ensures { result ≡ retry_limit job.now task.now }
+{
+    task.retries.unwrap_or(job.retries)
+}
+
+/// Whether the job takes no actions on failures, and the task is not tried again.
+fn is_tried_once(task: &TaskRow, job: &JobRow) -> bool
+    ensures { result ≡ is_tried_once task.now job.now }
+{
+    !job.on_fail && is_zero_limit(retry_limit(job, task))
+}
+
+/// Whether the task's job takes no actions, and the task is not tried again.
+fn has_plain_job(tables: &Tables, task: &TaskRow) -> bool
+    ensures { result ≡ has_plain_job tables.now.state task.now }
+{
+    match lists::get(tables.jobs(), &task.job) {
+        None => false,
+        Some(job) => is_tried_once(task, job),
+    }
+}
+
+/// Whether the task is over, and is to be completed as its main run ended.
+fn is_to_complete(tables: &Tables, task: &TaskRow) -> bool
+    ensures { result ≡ is_to_complete tables.now.state task.now }
+{
+    is_over(tables, task)
+        && is_undisturbed(task)
+        && has_no_conditions(task)
+        && has_plain_job(tables, task)
+        && main_ending(tables, task).is_some()
+}
+
+/// The first task that is to be completed.
+fn first_to_complete<'a>(tables: &'a Tables) -> Option<&'a TaskRow>
+    ensures { option_copied result ≡ find (is_to_complete tables.now.state) tables.now.state.tasks }
+{
+    tables
+        .tasks()
+        .iter()
+        .find(|task| is_to_complete(tables, task))
+}
+
+/// Whether the ending is by code 0.
+fn is_success(ending: Ending) -> bool
+    ensures { result ≡ is_success ending }
+{
+    matches!(ending, Ending::Code(0))
+}
+
+/// How a task that ended so at this moment is closed.
+fn closed_by(now: u64, ending: Ending) -> Closed
+    ensures { result ≡ closed_by now ending }
+{
+    let success = is_success(ending);
+    Closed {
+        how: How::Ended(ending),
+        success,
+        satisfies: success,
+        at: now,
+    }
+}
+
+/// What is told of a task that ended so.
+fn outcome_of(success: bool) -> Outcome
+    ensures { result ≡ outcome_of success }
+{
+    if success {
+        Outcome::Success
+    } else {
+        Outcome::Failure
+    }
+}
+
+/// The task, completed in such a way.
+fn completed(closed: Closed, task: &TaskRow) -> Result<TaskRow, NoMemory>
+    ensures { IfOk result (λ row. row ≡ completed closed task.now) }
+{
+    let mut row = task.copy()?;
+    row.stage = TaskStage::Completed;
+    row.wanted = None;
+    row.fail = None;
+    row.started = None;
+    row.closed = Some(closed);
+    Ok(row)
+}
+
+/// The line that tells what became of the task.
+fn settled(task: &TaskRow, outcome: Outcome) -> Result<Due, NoMemory>
+    ensures { IfOk result (λ due. due ≡ TaskSettled task.now.job task.now.id outcome) }
+{
+    let job = task.job.copy()?;
+    Ok(Due::TaskSettled(job, task.id.copy()?, outcome))
+}
+
+/// The plan that completes the task as its main run ended.
+fn complete(
+    alloc: Global,
+    tables: &Tables,
+    task: &TaskRow,
+    ending: Ending,
+) -> Result<Plan, NoMemory>
+    requires keys { KeysAreDistinct tables.now.state }
+    requires found { find (is_to_complete tables.now.state) tables.now.state.tasks ≡ Some task.now }
+    ensures { IfOk result (IsPlanOf (answer_of_step (complete tables.now.state task.now ending)) tables.now.state) }
+{
+    let due = settled(task, outcome_of(is_success(ending)))?;
+    let row = completed(closed_by(tables.moment(), ending), task)?;
+    step_one(alloc, due, Change::PutTask(row))
+}
+
+/// The plan that completes the task, if its main run ended.
+fn settle(alloc: Global, tables: &Tables, task: &TaskRow) -> Result<Option<Plan>, NoMemory>
+    requires keys { KeysAreDistinct tables.now.state }
+    requires found { find (is_to_complete tables.now.state) tables.now.state.tasks ≡ Some task.now }
+    ensures { IfOk result (IsRule (settle tables.now.state task.now) tables.now.state) }
+{
+    match main_ending(tables, task) {
+        None => Ok(None),
+        Some(ending) => Ok(Some(complete(alloc, tables, task, ending)?)),
+    }
+}
+
+/// The plan that settles the first task that is over.
+pub fn settle_first(alloc: Global, tables: &Tables) -> Result<Option<Plan>, NoMemory>
+    requires { KeysAreDistinct tables.now.state }
+    ensures { IfOk result (IsRule (settle_first tables.now.state) tables.now.state) }
+{
+    match first_to_complete(tables) {
+        None => Ok(None),
+        Some(task) => settle(alloc, tables, task),
+    }
+}

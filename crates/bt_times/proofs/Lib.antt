@@ -1,0 +1,2 @@
+pub mod CivilSteps
+pub mod DurationSteps

@@ -1,0 +1,2 @@
+pub mod Lexings
+pub mod Literals

@@ -1,0 +1,84 @@
+//! Tokens of a formula.
+ghost use Rattle.std.specs.Prelude.{◌≡◌};
+ghost use Rattle.formula_lex.specs.Spans.{span_of};
+
+use bt_base::Num;
+
+/// A part of a text: from one byte's place up to another's, which is no longer in it. Places count from 0.
+#[derive(Clone, Copy, PartialEq, Eq, Debug)]
+pub struct Span {
+    pub from: usize,
+    pub to: usize,
+}
+
+/// A binary operator.
+#[derive(Clone, Copy, PartialEq, Eq, Debug)]
+pub enum BinaryOperator {
+    Or,
+    And,
+    Equal,
+    NotEqual,
+    Less,
+    AtMost,
+    Greater,
+    AtLeast,
+    Add,
+    Subtract,
+    Multiply,
+    Divide,
+}
+
+/// What a token is.
+#[derive(Clone, Copy, PartialEq, Eq, Debug)]
+pub enum Kind {
+    /// A number, cut after its sixth decimal.
+    Number(Num),
+    /// A string with its two quotes.
+    Text,
+    /// A name, with its `$` if it has one.
+    Name,
+    /// An operator that stands between two operands. `-` is `Subtract` also where it negates.
+    Infix(BinaryOperator),
+    /// `!`
+    Bang,
+    /// `?`
+    Question,
+    /// `:`
+    Colon,
+    /// `,`
+    Comma,
+    /// `;`
+    Semicolon,
+    /// `=`
+    Assign,
+    /// `.`
+    Dot,
+    /// `(`
+    OpenGroup,
+    /// `)`
+    CloseGroup,
+    /// `[`
+    OpenList,
+    /// `]`
+    CloseList,
+}
+
+/// A token, and the part of the text that it is.
+#[derive(Clone, Copy, PartialEq, Eq, Debug)]
+pub struct Token {
+    pub kind: Kind,
+    pub from: usize,
+    pub to: usize,
+}
+
+impl Token {
+    /// The part of the text that the token is.
+    pub fn span(self) -> Span
+        ensures { result ≡ span_of self }
+    {
+        Span {
+            from: self.from,
+            to: self.to,
+        }
+    }
+}

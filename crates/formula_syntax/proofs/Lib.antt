@@ -1,0 +1,9 @@
+pub mod Running
+pub mod Reaches
+pub mod Stands
+pub mod ReachesFormula
+pub mod StandsFormula
+pub mod Agrees
+pub mod Main
+pub mod Depths
+pub mod Faults

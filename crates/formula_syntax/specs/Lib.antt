@@ -1,0 +1,6 @@
+pub mod Parser
+pub mod Frames
+pub mod Stacks
+pub mod States
+pub mod Whole
+pub mod Wholes

@@ -1,0 +1,10 @@
+pub mod AddingScripts
+pub mod Bodies
+pub mod ByHand
+pub mod Checks
+pub mod EndingScripts
+pub mod FirstPath
+pub mod LaterScripts
+pub mod PlacingScripts
+pub mod PoolScripts
+pub mod Scripts

@@ -1,0 +1,40 @@
+//! What is not built yet: it is taken, and nothing comes of it. These rows change with what is built.
+#![tactic(auto, unfolding(bt_base::specs::Ids::same, bt_base::proofs::Turns::lex_lt))]
+
+ghost use Rattle.std.specs.Prelude.{◌≡◌, true};
+ghost use Rattle.model_scripts.specs.Scripts.{lines_of, rows_after};
+ghost use Rattle.model_scripts.specs.Checks.{is_good};
+ghost use Rattle.model_scripts.specs.LaterScripts as row;
+
+/// A task of two slots, with dependencies or with instances is not placed yet, and holds up none.
+pub fn tasks_are_not_placed_yet()
+    ensures lines { lines_of row.unplaced_tasks ≡ row.unplaced_tasks_lines }
+    ensures rows { rows_after row.unplaced_tasks ≡ row.unplaced_tasks_rows }
+    ensures good { is_good row.unplaced_tasks ≡ true }
+{}
+
+/// A job with a priority, a limit on placed tasks or a preparation is not heeded yet, and holds up none.
+pub fn jobs_are_not_heeded_yet()
+    ensures lines { lines_of row.unheeded_jobs ≡ row.unheeded_jobs_lines }
+    ensures rows { rows_after row.unheeded_jobs ≡ row.unheeded_jobs_rows }
+    ensures good { is_good row.unheeded_jobs ≡ true }
+{}
+
+/// In a pool of two slots a node tasks are not placed yet, and a pool with a start task gets no nodes yet.
+pub fn pools_of_two_slots_are_not_heeded_yet()
+    ensures lines { lines_of row.unheeded_pools ≡ row.unheeded_pools_lines }
+    ensures rows { rows_after row.unheeded_pools ≡ row.unheeded_pools_rows }
+    ensures good { is_good row.unheeded_pools ≡ true }
+{}
+
+/// A task with retries or exit conditions, or of a job that heeds failures, is not settled yet.
+pub fn retries_are_not_made_yet()
+    ensures lines { lines_of row.unsettled_tasks ≡ row.unsettled_tasks_lines }
+    ensures rows { rows_after row.unsettled_tasks ≡ row.unsettled_tasks_rows }
+    ensures good { is_good row.unsettled_tasks ≡ true }
+{}
+
+/// Events that are not read yet.
+pub fn events_are_not_read_yet()
+    ensures { row.replies_to_unbuilt ≡ row.all_unreadable }
+{}

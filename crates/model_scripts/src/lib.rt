@@ -1,0 +1,39 @@
+//! Worked scripts, computed over the definitions of `batch_model`: calls from empty tables, and beside them the replies,
+//! the due steps and the rows that must come of them, written down by hand. There is no code: each function stands for a
+//! script and does nothing, and its clauses are what the script shows. A definition that is wrong breaks some of them.
+#![tactic(auto)]
+
+mod adding;
+mod by_hand;
+mod endings;
+mod first_path;
+mod later;
+mod placing;
+mod pools;
+
+pub use adding::{
+    a_moment_below_the_last_leaves_it, ids_are_spelled_as_the_rows, jobs_are_refused,
+    tasks_are_refused,
+};
+pub use by_hand::{
+    a_job_is_not_added_to_a_deleted_pool, a_refusal_changes_the_moment_alone,
+    finished_jobs_take_no_tasks, leaving_nodes_do_not_count, numbers_come_to_an_end,
+    only_active_jobs_place_tasks, only_resizing_pools_get_nodes, rules_begin_again,
+    runs_are_refused_by_state, tasks_go_on_usable_nodes,
+};
+pub use endings::{any_other_ending_is_a_failure, the_limit_of_the_task_goes_before};
+pub use first_path::{
+    a_task_ends_with_success, nothing_comes_of_no_calls, runs_are_taken_and_ended_once,
+};
+pub use later::{
+    events_are_not_read_yet, jobs_are_not_heeded_yet, pools_of_two_slots_are_not_heeded_yet,
+    retries_are_not_made_yet, tasks_are_not_placed_yet,
+};
+pub use placing::{
+    nodes_are_taken_in_order, pools_are_apart, tasks_take_turns_on_a_node,
+    the_earlier_job_goes_first,
+};
+pub use pools::{
+    a_pool_gets_its_nodes, at_most_64_pools, ids_of_pools_have_no_case, nodes_are_as_many_as_seats,
+    pools_share_seats,
+};
