@@ -1,5 +1,5 @@
 -- Replies whose texts were written by hand, computed.
-use Rattle.std.proofs.Common.{◌≡◌, ℕ, List, [], ◌∷◌, map, refl}
+use Rattle.std.proofs.Common.{◌≡◌, List, [], ◌∷◌, map, refl}
 use Rattle.std.specs.Fmt.{digits}
 use Rattle.std.specs.Prelude.{codes, None}
 use Rattle.bt_rows.specs.Names.{member_text}
