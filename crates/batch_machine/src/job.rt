@@ -1,9 +1,10 @@
 //! Events of jobs.
 ghost use Rattle.std.specs.Prelude.{◌≡◌, IfOk, is_some, false};
 ghost use Rattle.std.specs.Option.{option_copied};
-ghost use Rattle.batch_model.specs.Events.{accept, add_job, add_job_in, at_moment};
+ghost use Rattle.bt_rows.specs.declared.refusal.Refusal.TheVariants.{PoolNotFound};
+ghost use Rattle.batch_model.specs.Events.{accept, add_job, add_job_in, at_moment, for_row};
 ghost use Rattle.batch_model.specs.Jobs.{new_job};
-ghost use Rattle.batch_model.specs.Rows.{job_of, add_job_row};
+ghost use Rattle.batch_model.specs.Rows.{job_of, pool_of, add_job_row};
 ghost use Rattle.batch_machine.specs.Plans.{IsPlanOf};
 
 use crate::plan::{accept_one, refuse};
@@ -94,6 +95,23 @@ fn add_job_in(
     put_new_job(alloc, tables, moment, new_job(now, id, &pool.id, spec)?)
 }
 
+/// The plan of `add-job` where no job has the id.
+fn add_new_job(
+    alloc: Global,
+    tables: &Tables,
+    moment: u64,
+    id: &Id,
+    spec: &JobSpec,
+) -> Result<Plan, NoMemory>
+    requires { is_some (job_of tables.now.state id.now) ≡ false }
+    ensures { IfOk result (IsPlanOf (for_row (at_moment moment tables.now.state) PoolNotFound (add_job_in (at_moment moment tables.now.state) id.now spec.now) (pool_of (at_moment moment tables.now.state) spec.now.pool)) tables.now.state) }
+{
+    match find_pool(tables, &spec.pool) {
+        Some(pool) => add_job_in(alloc, tables, moment, id, spec, pool),
+        None => refuse(alloc, tables, moment, Refusal::PoolNotFound),
+    }
+}
+
 /// The plan of `add-job`. An id that a job has is refused as `JobExists`, a pool that is not there as `PoolNotFound`, one
 /// that is being deleted as `PoolBeingDeleted`, and one job more than 10,000 as `TableFull`, in this order.
 pub fn add_job(
@@ -108,8 +126,5 @@ pub fn add_job(
     if find_job(tables, id).is_some() {
         return refuse(alloc, tables, moment, Refusal::JobExists);
     }
-    match find_pool(tables, &spec.pool) {
-        Some(pool) => add_job_in(alloc, tables, moment, id, spec, pool),
-        None => refuse(alloc, tables, moment, Refusal::PoolNotFound),
-    }
+    add_new_job(alloc, tables, moment, id, spec)
 }

@@ -42,16 +42,23 @@ fn is_past(state: JobState) -> bool
     )
 }
 
-/// A copy of the settings of a task with several instances.
+/// A copy of what a task with several instances asks.
+fn copy_instances(multi: &Multi) -> Result<Multi, NoMemory>
+    ensures { IfOk result (λ copy. copy ≡ multi.now) }
+{
+    Ok(Multi {
+        count: multi.count,
+        line: multi.line.copy()?,
+    })
+}
+
+/// The same, where there is one.
 fn copy_multi(multi: &Option<Multi>) -> Result<Option<Multi>, NoMemory>
     ensures { IfOk result (λ copy. copy ≡ multi.now) }
 {
     match multi {
         None => Ok(None),
-        Some(multi) => Ok(Some(Multi {
-            count: multi.count,
-            line: multi.line.copy()?,
-        })),
+        Some(multi) => Ok(Some(copy_instances(multi)?)),
     }
 }
 
