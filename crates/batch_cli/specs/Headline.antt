@@ -1,8 +1,8 @@
 -- What a script's run was.
-use Rattle.std.specs.Prelude.{◌≡◌, ℕ, ◌≤◌, ◌<◌, Bool, true, false, List, [], ◌∷◌, ◌++◌, codes, length, map, Option, if◌then◌else◌}
+use Rattle.std.specs.Prelude.{◌≡◌, ℕ, ◌≤◌, ◌<◌, List, [], ◌∷◌, ◌++◌, codes, length, map, Option, if◌then◌else◌}
 use Rattle.std.specs.Str.Lines.{lines}
 use Rattle.bt_base.specs.Content.{Gains, GainsFront}
-use Rattle.bt_rows.specs.State.{State, empty_state}
+use Rattle.bt_rows.specs.State.{empty_state}
 use Rattle.bt_rows.specs.declared.event.EventKind.{EventKind}
 use Rattle.batch_cli.specs.History.{Entry, IsLegal, asked_of}
 use Rattle.batch_cli.specs.Shown.{outputs, calls_of, has_refused}

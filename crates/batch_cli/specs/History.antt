@@ -1,6 +1,6 @@
 -- Calls, and legal histories of calls. A history is what witnesses a run: from it follow the tables after each call and
 -- all that the calls were answered.
-use Rattle.std.specs.Prelude.{◌≡◌, ℕ, zero, suc, List, [], ◌∷◌, Option, None, length}
+use Rattle.std.specs.Prelude.{◌≡◌, ℕ, zero, suc, List, [], ◌∷◌, None, length}
 use Rattle.std.specs.Option.{option_map_or}
 use Rattle.bt_rows.specs.declared.event.EventKind.{EventKind}
 use Rattle.bt_rows.specs.declared.reply.Reply.{Reply}

@@ -1,4 +1,6 @@
 pub mod Codes
+pub mod Going
 pub mod Headline
 pub mod History
+pub mod Settling
 pub mod Shown

@@ -2,8 +2,15 @@
 //! whole program: the bytes that the sink takes are those of the written machines, called one by one in one history.
 #![tactic(auto)]
 
+mod call;
+mod due;
+mod line;
+mod replay;
 mod run;
 mod status;
+mod stopped;
+#[cfg(test)]
+mod tests;
 
 pub use run::run_words;
 pub use status::Status;

@@ -1,0 +1,4 @@
+pub mod CallsMade
+pub mod DuesMade
+pub mod GoingOn
+pub mod RefusalLines
