@@ -86,17 +86,6 @@ lines_push n dues due told e =
     flat_map-append (λ (d : Due). numbered n (due_text d)) dues (due ∷ [])
     ∙ ap (λ w. due_lines n dues ++ w) (append-nil (numbered n (due_text due)) ∙ ap (λ (d : Due). numbered n (due_text d)) (sym e))
 
--- none so far
-pub dues_start : (m : Machine) (n : ℕ) (text : List ℕ) → m.reserved ≡ None → ShowsDues m m n text text
-dues_start m n text e = record {
-  steps = 0;
-  each = refl;
-  state = refl;
-  seats = refl;
-  reserved = e;
-  text = sym (append-nil text);
-}
-
 -- one more
 pub dues_more : (old now new : Machine) (n : ℕ) (a b c : List ℕ) → ShowsDues old now n a b → ShowsDue now new n b c → ShowsDues old new n a c
 dues_more old now new n a b c s d =

@@ -35,15 +35,6 @@ call_advances old new n moment event text s = record {
   calls = ap (λ asked. asked ∷ []) s.asked;
 }
 
--- by a line that is no request
-pub refusal_advances : (seats : ℕ) (s : State) (n : ℕ) (refusal : Refusal) → Advances seats s s n (Err refusal) (numbered n (refusal_text refusal))
-refusal_advances seats s n refusal = record {
-  added = [];
-  shows = λ rest more. refl;
-  legal = λ more l. l;
-  calls = refl;
-}
-
 -- by a line that asks nothing
 pub did_skip : (seats : ℕ) (s : State) (n : ℕ) (a : Option (List ℕ)) → Did seats s s n (Ok Skip) a a
 did_skip seats s n a = record {
@@ -134,17 +125,6 @@ going_halts {seats} {script} {all} {n} {a} {b} {c} {s} {t} line rest g split (in
   legal = legal_now seats (g.made ++ cut.step.added) (legal_on g cut.step [] tt);
   calls = calls_on line rest g split cut.step;
   written = front_then a b c _ g.front cut.text (outputs seats (n + 1) rest [] t) (shown_now seats script (g.made ++ cut.step.added) _ (shown_on line rest g split cut.step [])) g.gained cut.written;
-}
-
--- no line is left
-pub going_done : {seats : ℕ} {script all : List (List ℕ)} {n : ℕ} {a b : Option (List ℕ)} {s : State} → Going seats script all n a b s → all ≡ [] → Going seats script [] 1 a b s
-going_done {seats} {script} {all} {n} {a} {b} {s} g e = record {
-  made = g.made;
-  front = g.front;
-  gained = g.gained;
-  shows = λ more. g.shows more ∙ ap (λ ls. g.front ++ outputs seats n ls more s) e;
-  legal = g.legal;
-  calls = g.calls ∙ ap (λ ls. map asked_of g.made ++ calls_of ls) e;
 }
 
 -- all lines were done, and the tables text written
