@@ -8,7 +8,8 @@ use Rattle.bt_rows.specs.declared.tables.Change.TheVariants.{PutPool, PutNode, P
 use Rattle.bt_rows.proofs.DistinctRows.{found_first}
 use Rattle.batch_model.specs.Finding.{Each}
 use Rattle.batch_model.specs.Rows.{put_pool, put_task, add_node_row, add_run_row}
-use Rattle.batch_model.specs.Sound.{KeysAreDistinct, NumbersAreNew}
+use Rattle.batch_model.specs.Sound.{NumbersAreNew}
+use Rattle.batch_model.specs.WellFormed.{KeysAreDistinct}
 use Rattle.batch_model.specs.Variants.{State, PoolRow, NodeRow, TaskRow, RunRow}
 use Rattle.batch_model.proofs.Putting.{put_row-found, put_row-new}
 use Rattle.batch_model.proofs.NodeAdded.{below_other}

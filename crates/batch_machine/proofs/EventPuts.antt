@@ -14,7 +14,7 @@ use Rattle.bt_rows.specs.Keys.{same_run, same_run_equiv, same_task, same_task_eq
 use Rattle.batch_model.specs.Finding.{names}
 use Rattle.batch_model.specs.Rows.{is_pool, is_job, is_task, is_run, pool_of, job_of, task_of, run_of, add_pool_row, add_job_row, add_task_row, change_runs}
 use Rattle.batch_model.specs.Events.{taken_run, ended_run, started_task, is_task_of_run, run_taken, run_ended}
-use Rattle.batch_model.specs.Sound.{KeysAreDistinct}
+use Rattle.batch_model.specs.WellFormed.{KeysAreDistinct}
 use Rattle.batch_model.specs.Steps.{Answered}
 use Rattle.batch_model.specs.Variants.{State, PoolRow, JobRow, TaskRow, RunRow, Ending}
 use Rattle.batch_model.proofs.Tests.{and_first, and_second}

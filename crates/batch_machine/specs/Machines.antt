@@ -1,11 +1,15 @@
 -- What contracts see of a machine.
-use Rattle.std.specs.Prelude.{◌≡◌, ℕ, ◌≤◌, Option, Some, None, length, IfSome}
+use Rattle.std.specs.Prelude.{◌≡◌, ℕ, ◌≤◌, List, Option, None, length, IfSome, true}
+use Rattle.bt_base.specs.Moments.{last_moment}
+use Rattle.bt_rows.specs.Ranges.{is_event_in_range}
 use Rattle.bt_rows.specs.Changes.{apply_changes}
 use Rattle.bt_rows.specs.State.{State}
 use Rattle.bt_rows.specs.declared.event.EventKind.{EventKind}
 use Rattle.bt_rows.specs.declared.plan.Plan.{Plan}
+use Rattle.bt_rows.specs.declared.tables.Change.{Change}
 use Rattle.batch_model.specs.Dues.{due_step}
 use Rattle.batch_model.specs.Events.{event_step}
+use Rattle.batch_model.specs.Opening.{opening}
 use Rattle.batch_model.specs.Sound.{IsSound}
 use Rattle.batch_machine.specs.Plans.{IsPlanOf, IsStepOf}
 
@@ -15,10 +19,15 @@ pub record Machine : Type 0 where
   pub seats : ℕ
   pub reserved : Option Plan
 
--- the plan is that of an event, or of the due step
+-- the plan is that of an event with a moment and values in their ranges, or of the due step
 pub data IsMade (seats : ℕ) (s : State) (plan : Plan) : Type 0 where
-  of_event : (moment : ℕ) (event : EventKind) → IsPlanOf (event_step moment event s) s plan → IsMade seats s plan
+  of_event : (moment : ℕ) (event : EventKind) → moment ≤ last_moment → is_event_in_range event ≡ true → IsPlanOf (event_step moment event s) s plan → IsMade seats s plan
   of_due : IsStepOf (due_step seats s) s plan → IsMade seats s plan
+
+-- a machine over opened tables, which the changes of the opening lead to from the tables before
+pub record IsOpened (seats : ℕ) (s : State) (machine : Machine) (changes : List Change) : Type 0 where
+  pub machine : machine ≡ record { state = opening s; seats = seats; reserved = None }
+  pub changes : apply_changes changes s ≡ opening s
 
 -- the tables are sound, and a reserved plan has its room and leaves them sound
 pub record IsReady (free : ℕ) (m : Machine) : Type 0 where

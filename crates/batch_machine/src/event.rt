@@ -1,7 +1,7 @@
 //! What an event would do.
 ghost use Rattle.std.specs.Prelude.{IfOk};
 ghost use Rattle.batch_model.specs.Events.{event_step};
-ghost use Rattle.batch_model.specs.Sound.{KeysAreDistinct};
+ghost use Rattle.batch_model.specs.WellFormed.{KeysAreDistinct};
 ghost use Rattle.batch_machine.specs.Plans.{IsPlanOf};
 
 use crate::job::add_job;

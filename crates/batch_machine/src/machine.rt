@@ -1,19 +1,20 @@
 //! The machine: tables, seats, and a plan that may be reserved.
 ghost use Rattle.std.specs.Prelude.{◌≡◌, ◌≤◌, Some, None, IfOk, OnOk, OnErr, IsSome, IfSome};
 ghost use Rattle.bt_rows.specs.Changes.{apply_changes};
-ghost use Rattle.bt_rows.specs.State.{empty_state};
 ghost use Rattle.batch_model.specs.Dues.{due_step};
 ghost use Rattle.batch_model.specs.Events.{event_step};
 ghost use Rattle.batch_model.specs.Sound.{IsSound};
+ghost use Rattle.batch_model.specs.WellFormed.{IsWellFormed};
 ghost use Rattle.batch_machine.specs.Plans.{IsPlanOf, IsRule};
-ghost use Rattle.batch_machine.specs.Machines.{IsMade};
+ghost use Rattle.batch_machine.specs.Machines.{IsMade, IsOpened};
 
+use crate::open::opening_changes;
 use crate::{due, event};
-use bt_base::{Moment, NoMemory};
+use bt_base::{List, Moment, NoMemory};
 use bt_rows::event::Event;
 use bt_rows::plan::Plan;
 use bt_rows::reply::Reply;
-use bt_rows::tables::Tables;
+use bt_rows::tables::{Change, Tables};
 use std::alloc::Global;
 use std::marker::Model;
 
@@ -36,17 +37,28 @@ impl Model for Machine {
 }
 
 impl Machine {
-    /// The machine over empty tables, with 1 to 32 seats. It takes no memory.
-    pub fn open(tables: Tables, seats: u8) -> Machine
-        requires empty { tables.state ≡ empty_state }
+    /// The machine over opened tables, for 1 to 32 seats, and the changes of the opening: what an earlier run left running
+    /// is withdrawn, and no node is there. The only error is want of memory.
+    pub fn open(
+        alloc: Global,
+        tables: Tables,
+        seats: u8,
+    ) -> Result<(Machine, List<Change>), NoMemory>
+        requires well_formed { IsWellFormed tables.state }
         requires few { seats ≤ 32 }
-        ensures { result ≡ record { state = empty_state; seats = seats; reserved = None } }
+        ensures { IfOk result (λ opened. IsOpened seats tables.state opened.0 opened.1) }
     {
-        Machine {
+        let mut tables = tables;
+        let changes = opening_changes(alloc, &tables)?;
+        tables.reserve(changes.as_slice())?;
+        let made = changes.copy()?;
+        tables.apply(made);
+        let machine = Machine {
             tables,
             seats,
             reserved: None,
-        }
+        };
+        Ok((machine, changes))
     }
 
     /// The tables.
@@ -97,5 +109,25 @@ impl Machine {
         let Plan { reply, changes } = plan;
         self.tables.apply(changes);
         reply
+    }
+
+    /// The changes of the reserved plan, which leave sound tables. It takes no memory.
+    pub fn reserved(&self) -> &[Change]
+        requires { IsSome self.now.reserved }
+        ensures changes { IfSome self.now.reserved (λ plan. result.now ≡ plan.changes) }
+        ensures sound { IfSome self.now.reserved (λ plan. IsSound self.now.seats (apply_changes plan.changes self.now.state)) }
+    {
+        match &self.reserved {
+            Some(plan) => plan.changes.as_slice(),
+            None => unreachable!(),
+        }
+    }
+
+    /// Drops the reserved plan, and leaves the tables. It takes no memory.
+    pub fn give_up(&mut self)
+        requires { IsSome self.old.reserved }
+        ensures { self.new ≡ record self.old { reserved = None } }
+    {
+        self.reserved = None;
     }
 }

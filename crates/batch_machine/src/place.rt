@@ -8,7 +8,8 @@ ghost use Rattle.batch_model.specs.Finding.{has_number_left, find_map, first_of}
 ghost use Rattle.batch_model.specs.Placing.{places_tasks, is_placeable, fits, placed, place, place_on, place_in, place_of_job, place_first};
 ghost use Rattle.batch_model.specs.Runs.{work_run};
 ghost use Rattle.batch_model.specs.Rows.{pool_of};
-ghost use Rattle.batch_model.specs.Sound.{KeysAreDistinct, NumbersAreNew, TasksAreFitting};
+ghost use Rattle.batch_model.specs.Sound.{NumbersAreNew};
+ghost use Rattle.batch_model.specs.WellFormed.{KeysAreDistinct, TasksAreFitting};
 ghost use Rattle.batch_model.specs.Variants.{TaskRun, Queued};
 ghost use Rattle.bt_rows.specs.Keys.{same_task};
 ghost use Rattle.batch_machine.specs.Plans.{IsPlanOf, IsRule, answer_of_step};

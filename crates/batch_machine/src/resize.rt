@@ -2,7 +2,7 @@
 ghost use Rattle.std.specs.Prelude.{◌≡◌, IfOk, Some, find};
 ghost use Rattle.std.specs.Option.{option_copied};
 ghost use Rattle.batch_model.specs.Dues.{has_reached, steady, pool_steady, end_resize};
-ghost use Rattle.batch_model.specs.Sound.{KeysAreDistinct};
+ghost use Rattle.batch_model.specs.WellFormed.{KeysAreDistinct};
 ghost use Rattle.batch_machine.specs.Plans.{IsPlanOf, IsRule, answer_of_step};
 
 use crate::node::{has_leaving, is_resizing, staying_count};

@@ -6,7 +6,7 @@ ghost use Rattle.bt_rows.specs.declared.refusal.Refusal.TheVariants.{RunNotFound
 ghost use Rattle.batch_model.specs.Events.{accept, at_moment, end_run, ended_run, for_row, is_task_of_run, run_ended, run_taken, started_task, take_run, taken_run};
 ghost use Rattle.batch_model.specs.Finding.{names};
 ghost use Rattle.batch_model.specs.Rows.{run_of};
-ghost use Rattle.batch_model.specs.Sound.{KeysAreDistinct};
+ghost use Rattle.batch_model.specs.WellFormed.{KeysAreDistinct};
 ghost use Rattle.batch_machine.specs.Plans.{IsPlanOf};
 
 use crate::plan::{accept_one, accept_two, refuse};

@@ -7,7 +7,7 @@ ghost use Rattle.batch_model.specs.Rows.{job_of};
 ghost use Rattle.batch_model.specs.Endings.{is_success, closed_by};
 ghost use Rattle.batch_model.specs.Settling.{is_over, has_no_conditions, is_zero_limit, is_tried_once, has_plain_job, is_to_complete, outcome_of, complete, settle};
 ghost use Rattle.batch_model.specs.Dues.{settle_first};
-ghost use Rattle.batch_model.specs.Sound.{KeysAreDistinct};
+ghost use Rattle.batch_model.specs.WellFormed.{KeysAreDistinct};
 ghost use Rattle.batch_machine.specs.Plans.{IsPlanOf, IsRule, answer_of_step};
 
 use crate::attempt::{is_busy, is_placed, main_ending};

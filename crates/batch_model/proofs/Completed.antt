@@ -13,12 +13,13 @@ use Rattle.batch_model.specs.Tasks.{is_placed, is_busy, main_ending, completed}
 use Rattle.batch_model.specs.Settling.{is_over, is_to_complete, complete}
 use Rattle.batch_model.specs.Endings.{closed_by}
 use Rattle.batch_model.specs.Slots.{owns}
-use Rattle.batch_model.specs.Sound.{IsSound, belongs, can_be_settled, has_fitting_marks, is_closed_if_completed}
+use Rattle.batch_model.specs.Sound.{IsConsistent, belongs, can_be_settled}
+use Rattle.batch_model.specs.WellFormed.{has_fitting_marks, is_closed_if_completed}
 use Rattle.batch_model.specs.Variants.{State, TaskRow, Closed, Completed, Ending, RunRow}
 use Rattle.batch_model.proofs.Tests.{and_true, and_first, and_second, not_true, asked, under}
 use Rattle.batch_model.proofs.RowLists.{each_of_two, any_none, any_weaker}
 use Rattle.batch_model.proofs.MappedRows.{each_map, any_map, map_found}
-use Rattle.batch_model.proofs.TasksKept.{Marks, marked, sound_marked}
+use Rattle.batch_model.proofs.TasksKept.{Marks, marked, consistent_marked}
 
 -- the marks of a task that is completed, if it is
 abbrev marks_if : Closed → Bool → TaskRow → Marks
@@ -98,8 +99,8 @@ module _ (closing : Closed) (task : TaskRow) where
       s.tasks (asked (is_work run.kind && is_unended run.state) (list_any (owns run) s.tasks) h e))
 
 -- a task whose present attempt is over is completed
-pub sound_completed : (seats : ℕ) (s : State) (task : TaskRow) (ending : Ending) → IsSound seats s → find (is_to_complete s) s.tasks ≡ Some task → main_ending s task ≡ Some ending → IsSound seats (complete s task ending).state
-sound_completed seats s task ending h found ended =
+pub consistent_completed : (seats : ℕ) (s : State) (task : TaskRow) (ending : Ending) → IsConsistent seats s → find (is_to_complete s) s.tasks ≡ Some task → main_ending s task ≡ Some ending → IsConsistent seats (complete s task ending).state
+consistent_completed seats s task ending h found ended =
     let tasks : map (λ old. cond (is_task task.job task.id old) (completed closing task) old) s.tasks ≡ map after s.tasks =
     map_found same_task same_task_equiv (λ old. cond (is_task task.job task.id old) (completed closing task) old) after (is_task task.job task.id) (is_to_complete s) task s.tasks
     (λ other k. k)
@@ -108,8 +109,8 @@ sound_completed seats s task ending h found ended =
     h.keys.tasks found
     in
     let free : list_any (is_busy_for task) s.runs ≡ false = not_true (is_busy s task) (and_second (is_placed task.stage) _ over) in
-    subst (λ (rows : List TaskRow). IsSound seats (record s { tasks = rows })) (sym tasks)
-    (sound_marked (marks_after closing task) (λ other. no_placing closing (is_it closing task other) other) seats s h
+    subst (λ (rows : List TaskRow). IsConsistent seats (record s { tasks = rows })) (sym tasks)
+    (consistent_marked (marks_after closing task) (λ other. no_placing closing (is_it closing task other) other) seats s h
     (each_map after has_fitting_marks has_fitting_marks (λ other. marks_fit closing (is_it closing task other) other) s.tasks h.fitting.marks)
     (each_map after is_closed_if_completed is_closed_if_completed (λ other. closing_fits closing (is_it closing task other) other) s.tasks h.fitting.closing)
     (each_of_two (λ run. not (is_busy_for task run)) (belongs s) (belongs (record s { tasks = map after s.tasks }))

@@ -16,16 +16,17 @@ use Rattle.batch_model.specs.Events.{for_row, add_pool, add_job, add_job_in, add
 use Rattle.batch_model.specs.Pools.{new_pool}
 use Rattle.batch_model.specs.Jobs.{is_past, new_job}
 use Rattle.batch_model.specs.Limits.{pool_limit, job_limit, task_limit}
-use Rattle.batch_model.specs.Sound.{IsSound, has_job_row}
+use Rattle.batch_model.specs.Sound.{IsConsistent}
+use Rattle.batch_model.specs.WellFormed.{has_job_row}
 use Rattle.batch_model.specs.Variants.{State, PoolRow, JobRow, RunRow, RunState, Waiting, Queued, Taken, Ended, Withdrawn, Ending}
 use Rattle.batch_model.proofs.Tests.{passes_or_not}
 use Rattle.batch_model.proofs.RowLists.{find_none, find_test, any_found}
-use Rattle.batch_model.proofs.SoundMoment.{sound_moment}
-use Rattle.batch_model.proofs.PoolAdded.{sound_pool_added}
-use Rattle.batch_model.proofs.JobAdded.{sound_job_added}
-use Rattle.batch_model.proofs.TaskAdded.{sound_task_added}
-use Rattle.batch_model.proofs.RunTaken.{sound_taken}
-use Rattle.batch_model.proofs.RunEnded.{sound_ended}
+use Rattle.batch_model.proofs.SoundMoment.{consistent_moment}
+use Rattle.batch_model.proofs.PoolAdded.{consistent_pool_added}
+use Rattle.batch_model.proofs.JobAdded.{consistent_job_added}
+use Rattle.batch_model.proofs.TaskAdded.{consistent_task_added}
+use Rattle.batch_model.proofs.RunTaken.{consistent_taken}
+use Rattle.batch_model.proofs.RunEnded.{consistent_ended}
 
 -- refusals and rows
 
@@ -35,45 +36,45 @@ is_nothing None e = refl
 is_nothing (Some x) e = cc
 
 -- the answer for a row leaves sound tables, if it does for each row that may be there
-pub sound_for_row : {R : Type 0} (seats : ℕ) (s : State) (refusal : Refusal) (answer_for : R → Answered) (row : Option R) → IsSound seats s → ((one : R) → row ≡ Some one → IsSound seats (answer_for one).state) → IsSound seats (for_row s refusal answer_for row).state
-sound_for_row seats s refusal answer_for None h give = h
-sound_for_row seats s refusal answer_for (Some row) h give = give row refl
+pub consistent_for_row : {R : Type 0} (seats : ℕ) (s : State) (refusal : Refusal) (answer_for : R → Answered) (row : Option R) → IsConsistent seats s → ((one : R) → row ≡ Some one → IsConsistent seats (answer_for one).state) → IsConsistent seats (for_row s refusal answer_for row).state
+consistent_for_row seats s refusal answer_for None h give = h
+consistent_for_row seats s refusal answer_for (Some row) h give = give row refl
 
-module _ (seats : ℕ) (s : State) (h : IsSound seats s) where
+module _ (seats : ℕ) (s : State) (h : IsConsistent seats s) where
   -- `add-pool`
-  by_add_pool : (spec : PoolSpec) → IsSound seats (add_pool s spec).state
+  by_add_pool : (spec : PoolSpec) → IsConsistent seats (add_pool s spec).state
   by_add_pool spec = elim (passes_or_not (is_some spec.scale)) [
     | inl e ↦ rw e h
     | inr plain ↦ elim (passes_or_not (is_some (pool_of s spec.id))) [
       | inl e ↦ rw (plain, e) h
       | inr new ↦ elim (passes_or_not (nat_le pool_limit (length s.pools))) [
         | inl e ↦ rw (plain, new, e) h
-        | inr room ↦ rw (plain, new, room) (sound_pool_added seats s (new_pool s.moment spec) h (find_none (is_pool spec.id) s.pools (is_nothing (pool_of s spec.id) new)))
+        | inr room ↦ rw (plain, new, room) (consistent_pool_added seats s (new_pool s.moment spec) h (find_none (is_pool spec.id) s.pools (is_nothing (pool_of s spec.id) new)))
       ]
     ]
   ]
 
   -- `add-job`
-  by_add_job_in : (id : List ℕ) (spec : JobSpec) (pool : PoolRow) → job_of s id ≡ None → IsSound seats (add_job_in s id spec pool).state
+  by_add_job_in : (id : List ℕ) (spec : JobSpec) (pool : PoolRow) → job_of s id ≡ None → IsConsistent seats (add_job_in s id spec pool).state
   by_add_job_in id spec pool new = elim (passes_or_not pool.deleting) [
     | inl e ↦ rw e h
     | inr kept ↦ elim (passes_or_not (nat_le job_limit (length s.jobs))) [
       | inl e ↦ rw (kept, e) h
-      | inr room ↦ rw (kept, room) (sound_job_added seats s (new_job s.moment id pool.id spec) h (find_none (is_job id) s.jobs new))
+      | inr room ↦ rw (kept, room) (consistent_job_added seats s (new_job s.moment id pool.id spec) h (find_none (is_job id) s.jobs new))
     ]
   ]
 
-  by_add_job : (id : List ℕ) (spec : JobSpec) → IsSound seats (add_job s id spec).state
+  by_add_job : (id : List ℕ) (spec : JobSpec) → IsConsistent seats (add_job s id spec).state
   by_add_job id spec = elim (passes_or_not (is_some (job_of s id))) [
     | inl e ↦ rw e h
-    | inr new ↦ rw new (sound_for_row seats s PoolNotFound (add_job_in s id spec) (pool_of s spec.pool) h (λ pool e. by_add_job_in id spec pool (is_nothing (job_of s id) new)))
+    | inr new ↦ rw new (consistent_for_row seats s PoolNotFound (add_job_in s id spec) (pool_of s spec.pool) h (λ pool e. by_add_job_in id spec pool (is_nothing (job_of s id) new)))
   ]
 
   -- `add-task`
   has_found_job : (id : List ℕ) (job : JobRow) → job_of s id ≡ Some job → has_job_row s job.id ≡ true
   has_found_job id job e = any_found (is_job job.id) (is_job id) job s.jobs e (same_equiv.refl job.id)
 
-  by_add_task : (id : List ℕ) (spec : TaskSpec) (job : JobRow) → job_of s id ≡ Some job → IsSound seats (add_task s spec job).state
+  by_add_task : (id : List ℕ) (spec : TaskSpec) (job : JobRow) → job_of s id ≡ Some job → IsConsistent seats (add_task s spec job).state
   by_add_task id spec job there = elim (passes_or_not (is_past job.state)) [
     | inl e ↦ rw e h
     | inr open_job ↦ elim (passes_or_not (is_some (task_of s job.id spec.id))) [
@@ -82,7 +83,7 @@ module _ (seats : ℕ) (s : State) (h : IsSound seats s) where
         | inl e ↦ rw (open_job, new, e) h
         | inr room ↦
             rw (open_job, new, room)
-            (sound_task_added s job.id spec seats h (has_found_job id job there) (find_none (is_task job.id spec.id) s.tasks (is_nothing (task_of s job.id spec.id) new)))
+            (consistent_task_added s job.id spec seats h (has_found_job id job there) (find_none (is_task job.id spec.id) s.tasks (is_nothing (task_of s job.id spec.id) new)))
       ]
     ]
   ]
@@ -93,52 +94,52 @@ module _ (seats : ℕ) (s : State) (h : IsSound seats s) where
       subst (λ n. find (is_run n) s.runs ≡ Some run) (sym ((Decides-eqb run.number number).0 (find_test (is_run number) run s.runs e))) e
 
   -- `take`: only a queued run is taken
-  by_take_in : (run : RunRow) (state : RunState) → run.state ≡ state → find (is_run run.number) s.runs ≡ Some run → IsSound seats (take_run s run).state
+  by_take_in : (run : RunRow) (state : RunState) → run.state ≡ state → find (is_run run.number) s.runs ≡ Some run → IsConsistent seats (take_run s run).state
   by_take_in run Waiting e there = rw e h
-  by_take_in run Queued e there = rw e (sound_taken seats s run h there (rw e refl))
+  by_take_in run Queued e there = rw e (consistent_taken seats s run h there (rw e refl))
   by_take_in run Taken e there = rw e h
   by_take_in run (Ended ending) e there = rw e h
   by_take_in run Withdrawn e there = rw e h
 
-  by_take : (number : ℕ) (run : RunRow) → run_of s number ≡ Some run → IsSound seats (take_run s run).state
+  by_take : (number : ℕ) (run : RunRow) → run_of s number ≡ Some run → IsConsistent seats (take_run s run).state
   by_take number run there = by_take_in run run.state refl (own_number number run there)
 
   -- `end`: only a taken run is ended
-  by_end_in : (ending : Ending) (run : RunRow) (state : RunState) → run.state ≡ state → find (is_run run.number) s.runs ≡ Some run → IsSound seats (end_run s ending run).state
+  by_end_in : (ending : Ending) (run : RunRow) (state : RunState) → run.state ≡ state → find (is_run run.number) s.runs ≡ Some run → IsConsistent seats (end_run s ending run).state
   by_end_in ending run Waiting e there = rw e h
   by_end_in ending run Queued e there = rw e h
-  by_end_in ending run Taken e there = rw e (sound_ended seats s ending run h there (rw e refl))
+  by_end_in ending run Taken e there = rw e (consistent_ended seats s ending run h there (rw e refl))
   by_end_in ending run (Ended before) e there = rw e h
   by_end_in ending run Withdrawn e there = rw e h
 
-  by_end : (number : ℕ) (ending : Ending) (run : RunRow) → run_of s number ≡ Some run → IsSound seats (end_run s ending run).state
+  by_end : (number : ℕ) (ending : Ending) (run : RunRow) → run_of s number ≡ Some run → IsConsistent seats (end_run s ending run).state
   by_end number ending run there = by_end_in ending run run.state refl (own_number number run there)
 
   -- each event at the tables' moment
-  pub sound_now : (event : EventKind) → IsSound seats (event_now event s).state
-  sound_now (AddPool spec) = by_add_pool spec
-  sound_now (DeletePool pool) = h
-  sound_now (Resize pool spec) = h
-  sound_now (StopResize pool) = h
-  sound_now (EnableAutoscale pool spec) = h
-  sound_now (DisableAutoscale pool) = h
-  sound_now (EvaluateAutoscale pool formula) = h
-  sound_now (AddJob job spec) = by_add_job job spec
-  sound_now (PatchJob job patch) = h
-  sound_now (DisableJob job option) = h
-  sound_now (EnableJob job) = h
-  sound_now (TerminateJob job reason) = h
-  sound_now (DeleteJob job) = h
-  sound_now (AddTask job spec) = sound_for_row seats s JobNotFound (add_task s spec) (job_of s job) h (by_add_task job spec)
-  sound_now (AddTasks job specs) = h
-  sound_now (DeleteTask job task) = h
-  sound_now (TerminateTask job task) = h
-  sound_now (ReactivateTask job task) = h
-  sound_now (Take run) = sound_for_row seats s RunNotFound (take_run s) (run_of s run) h (by_take run)
-  sound_now (End run ending) = sound_for_row seats s RunNotFound (end_run s ending) (run_of s run) h (by_end run ending)
-  sound_now (Sample pool given) = h
-  sound_now Tick = h
+  pub consistent_now : (event : EventKind) → IsConsistent seats (event_now event s).state
+  consistent_now (AddPool spec) = by_add_pool spec
+  consistent_now (DeletePool pool) = h
+  consistent_now (Resize pool spec) = h
+  consistent_now (StopResize pool) = h
+  consistent_now (EnableAutoscale pool spec) = h
+  consistent_now (DisableAutoscale pool) = h
+  consistent_now (EvaluateAutoscale pool formula) = h
+  consistent_now (AddJob job spec) = by_add_job job spec
+  consistent_now (PatchJob job patch) = h
+  consistent_now (DisableJob job option) = h
+  consistent_now (EnableJob job) = h
+  consistent_now (TerminateJob job reason) = h
+  consistent_now (DeleteJob job) = h
+  consistent_now (AddTask job spec) = consistent_for_row seats s JobNotFound (add_task s spec) (job_of s job) h (by_add_task job spec)
+  consistent_now (AddTasks job specs) = h
+  consistent_now (DeleteTask job task) = h
+  consistent_now (TerminateTask job task) = h
+  consistent_now (ReactivateTask job task) = h
+  consistent_now (Take run) = consistent_for_row seats s RunNotFound (take_run s) (run_of s run) h (by_take run)
+  consistent_now (End run ending) = consistent_for_row seats s RunNotFound (end_run s ending) (run_of s run) h (by_end run ending)
+  consistent_now (Sample pool given) = h
+  consistent_now Tick = h
 
 -- each event leaves sound tables sound
-pub sound_by_event : (seats moment : ℕ) (event : EventKind) (s : State) → IsSound seats s → IsSound seats (event_step moment event s).state
-sound_by_event seats moment event s h = sound_now seats (at_moment moment s) (sound_moment seats moment s h) event
+pub consistent_by_event : (seats moment : ℕ) (event : EventKind) (s : State) → IsConsistent seats s → IsConsistent seats (event_step moment event s).state
+consistent_by_event seats moment event s h = consistent_now seats (at_moment moment s) (consistent_moment seats moment s h) event

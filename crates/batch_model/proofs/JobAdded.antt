@@ -3,7 +3,8 @@ use Rattle.std.proofs.Common.{◌≡◌, ℕ, true, false, List, Option, Some, N
 use Rattle.std.specs.Option.{option_map_or}
 use Rattle.bt_rows.specs.Keys.{same_job}
 use Rattle.batch_model.specs.Rows.{is_job, add_job_row}
-use Rattle.batch_model.specs.Sound.{IsSound, has_job_row, has_named_job}
+use Rattle.batch_model.specs.Sound.{IsConsistent}
+use Rattle.batch_model.specs.WellFormed.{has_job_row, has_named_job}
 use Rattle.batch_model.specs.Variants.{State, JobRow, TaskRow}
 use Rattle.batch_model.proofs.RowLists.{each_weaker, any_append_old}
 use Rattle.batch_model.proofs.DistinctLists.{distinct_append}
@@ -14,8 +15,8 @@ named_job s job None h = refl
 named_job s job (Some id) h = any_append_old (is_job id) s.jobs job h
 
 -- a job with a new id
-pub sound_job_added : (seats : ℕ) (s : State) (job : JobRow) → IsSound seats s → has_job_row s job.id ≡ false → IsSound seats (add_job_row job s)
-sound_job_added seats s job h new = record {
+pub consistent_job_added : (seats : ℕ) (s : State) (job : JobRow) → IsConsistent seats s → has_job_row s job.id ≡ false → IsConsistent seats (add_job_row job s)
+consistent_job_added seats s job h new = record {
   keys = record { pools = h.keys.pools; nodes = h.keys.nodes; jobs = distinct_append same_job s.jobs job h.keys.jobs new; tasks = h.keys.tasks; runs = h.keys.runs; preps = h.keys.preps; samples = h.keys.samples; scales = h.keys.scales };
   numbers = record { begun = h.numbers.begun; runs = h.numbers.runs; nodes = h.numbers.nodes; nodes_of_runs = h.numbers.nodes_of_runs; order = h.numbers.order };
   fitting = record { marks = h.fitting.marks; closing = h.fitting.closing; attempts = h.fitting.attempts };

@@ -12,7 +12,8 @@ use Rattle.batch_model.specs.Runs.{is_unended}
 use Rattle.batch_model.specs.Pools.{free_seat}
 use Rattle.batch_model.specs.Slots.{holds_on, held_slots}
 use Rattle.batch_model.specs.Dues.{lacks_node, new_node, node_added}
-use Rattle.batch_model.specs.Sound.{IsSound, are_out_of_order, has_pool_row, has_node_row, share_seat, has_node_while_unended, is_of_pool, fits_nodes, has_slots_for}
+use Rattle.batch_model.specs.Sound.{IsConsistent, are_out_of_order, has_node_row, share_seat, has_node_while_unended, is_of_pool, fits_nodes, has_slots_for}
+use Rattle.batch_model.specs.WellFormed.{has_pool_row}
 use Rattle.batch_model.specs.Variants.{State, PoolRow, NodeRow, RunRow}
 use Rattle.batch_model.proofs.Tests.{or_first, or_second, and_true, not_true, true_not}
 use Rattle.batch_model.proofs.RowLists.{each_append, each_any, each_weaker, each_of_two, each_found, find_test, any_append_old, any_found, none_any}
@@ -58,7 +59,7 @@ filter_none p (x ∷ xs) h = kept (p x) h (filter_none p xs)
     kept true k ih = cc
     kept false k ih = ih k
 
-module _ (seats : ℕ) (s : State) (pool : PoolRow) (seat : ℕ) (h : IsSound seats s) where
+module _ (seats : ℕ) (s : State) (pool : PoolRow) (seat : ℕ) (h : IsConsistent seats s) where
   -- the new node's number is no other node's
   number_is_new : list_any (λ (node : NodeRow). nat_eq node.number s.next_node) s.nodes ≡ false
   number_is_new =
@@ -104,8 +105,8 @@ module _ (seats : ℕ) (s : State) (pool : PoolRow) (seat : ℕ) (h : IsSound se
       either false m = any_append_old (is_node run.node) s.nodes (new_node s pool seat) m
 
 -- a node that is added keeps tables sound
-pub sound_node_added : (seats : ℕ) (s : State) (pool : PoolRow) (seat : ℕ) → IsSound seats s → free_seat seats s ≡ Some seat → find (lacks_node s) s.pools ≡ Some pool → IsSound seats (node_added s seat pool).state
-sound_node_added seats s pool seat h free f = record {
+pub consistent_node_added : (seats : ℕ) (s : State) (pool : PoolRow) (seat : ℕ) → IsConsistent seats s → free_seat seats s ≡ Some seat → find (lacks_node s) s.pools ≡ Some pool → IsConsistent seats (node_added s seat pool).state
+consistent_node_added seats s pool seat h free f = record {
   keys = record {
     pools = h.keys.pools;
     nodes = distinct_append same_node s.nodes (new_node s pool seat) h.keys.nodes (number_is_new seats s pool seat h);

@@ -5,7 +5,8 @@ use Rattle.bt_base.proofs.SameIds.{same_equiv}
 use Rattle.bt_rows.specs.Keys.{same_pool}
 use Rattle.batch_model.specs.Rows.{is_pool, add_pool_row}
 use Rattle.batch_model.specs.Slots.{held_slots}
-use Rattle.batch_model.specs.Sound.{IsSound, has_pool_row, has_slots_for}
+use Rattle.batch_model.specs.Sound.{IsConsistent, has_slots_for}
+use Rattle.batch_model.specs.WellFormed.{has_pool_row}
 use Rattle.batch_model.specs.Variants.{State, PoolRow, NodeRow}
 use Rattle.batch_model.proofs.Tests.{under}
 use Rattle.batch_model.proofs.RowLists.{each_append, each_weaker, each_of_two, any_append_old, any_agree}
@@ -23,8 +24,8 @@ slots_for s pool node new h there =
     (under (is_pool node.pool pool) (nat_le (held_slots s node.number) pool.slots) (λ e. let f : false ≡ true = is_other s pool node.pool new there e in cc))
 
 -- a pool with a new id
-pub sound_pool_added : (seats : ℕ) (s : State) (pool : PoolRow) → IsSound seats s → has_pool_row s pool.id ≡ false → IsSound seats (add_pool_row pool s)
-sound_pool_added seats s pool h new = record {
+pub consistent_pool_added : (seats : ℕ) (s : State) (pool : PoolRow) → IsConsistent seats s → has_pool_row s pool.id ≡ false → IsConsistent seats (add_pool_row pool s)
+consistent_pool_added seats s pool h new = record {
   keys = record { pools = distinct_append same_pool s.pools pool h.keys.pools new; nodes = h.keys.nodes; jobs = h.keys.jobs; tasks = h.keys.tasks; runs = h.keys.runs; preps = h.keys.preps; samples = h.keys.samples; scales = h.keys.scales };
   numbers = record { begun = h.numbers.begun; runs = h.numbers.runs; nodes = h.numbers.nodes; nodes_of_runs = h.numbers.nodes_of_runs; order = h.numbers.order };
   fitting = record { marks = h.fitting.marks; closing = h.fitting.closing; attempts = h.fitting.attempts };

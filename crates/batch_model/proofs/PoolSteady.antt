@@ -6,7 +6,8 @@ use Rattle.bt_rows.specs.Lists.{AreDistinct}
 use Rattle.batch_model.specs.Rows.{is_pool}
 use Rattle.batch_model.specs.Slots.{held_slots}
 use Rattle.batch_model.specs.Dues.{has_reached, steady, pool_steady}
-use Rattle.batch_model.specs.Sound.{IsSound, has_pool_row, has_slots_for}
+use Rattle.batch_model.specs.Sound.{IsConsistent, has_slots_for}
+use Rattle.batch_model.specs.WellFormed.{has_pool_row}
 use Rattle.batch_model.specs.Variants.{State, PoolRow, NodeRow}
 use Rattle.batch_model.proofs.RowLists.{each_weaker, each_found}
 use Rattle.batch_model.proofs.ChangedRows.{each_change_same, any_change_same}
@@ -40,8 +41,8 @@ module _ (s : State) (pool : PoolRow) where
       has_slots other = not (is_pool node.pool other) || nat_le (held_slots s node.number) other.slots
 
 -- a pool that becomes steady keeps tables sound
-pub sound_steady : (seats : ℕ) (s : State) (pool : PoolRow) → IsSound seats s → find (has_reached s) s.pools ≡ Some pool → IsSound seats (pool_steady s pool).state
-sound_steady seats s pool h f = record {
+pub consistent_steady : (seats : ℕ) (s : State) (pool : PoolRow) → IsConsistent seats s → find (has_reached s) s.pools ≡ Some pool → IsConsistent seats (pool_steady s pool).state
+consistent_steady seats s pool h f = record {
   keys = record {
     pools = pools_distinct s pool h.keys.pools;
     nodes = h.keys.nodes;

@@ -5,10 +5,10 @@ use Rattle.bt_rows.specs.Keys.{same_run, same_run_equiv}
 use Rattle.batch_model.specs.Rows.{is_run}
 use Rattle.batch_model.specs.Runs.{is_taken}
 use Rattle.batch_model.specs.Events.{ended_run, run_ended}
-use Rattle.batch_model.specs.Sound.{IsSound}
+use Rattle.batch_model.specs.Sound.{IsConsistent}
 use Rattle.batch_model.specs.Variants.{State, Ending, RunRow, RunState, Waiting, Queued, Taken, Ended, Withdrawn}
 use Rattle.batch_model.proofs.MappedRows.{map_found}
-use Rattle.batch_model.proofs.RunsMove.{Moves, moves_same, moves_if, moved, sound_moved}
+use Rattle.batch_model.proofs.RunsMove.{Moves, moves_same, moves_if, moved, consistent_moved}
 
 -- a taken run ends, and others stay
 abbrev ended_if_taken : Ending → RunState → RunState
@@ -54,8 +54,8 @@ module _ (now : ℕ) (ending : Ending) (run : RunRow) where
   alike_elsewhere row false h = refl
 
 -- a taken run ends
-pub sound_ended : (seats : ℕ) (s : State) (ending : Ending) (run : RunRow) → IsSound seats s → find (is_run run.number) s.runs ≡ Some run → is_taken run.state ≡ true → IsSound seats (run_ended s ending run)
-sound_ended seats s ending run h found taken =
+pub consistent_ended : (seats : ℕ) (s : State) (ending : Ending) (run : RunRow) → IsConsistent seats s → find (is_run run.number) s.runs ≡ Some run → is_taken run.state ≡ true → IsConsistent seats (run_ended s ending run)
+consistent_ended seats s ending run h found taken =
     let runs : map (λ row. cond (is_run run.number row) (ended_run s.moment ending row) row) s.runs ≡ map after s.runs =
     map_found same_run same_run_equiv (λ row. cond (is_run run.number row) (ended_run s.moment ending row) row) after (is_run run.number) (is_run run.number) run s.runs
     (λ row k. k)
@@ -63,8 +63,8 @@ sound_ended seats s ending run h found taken =
     (λ row. alike_elsewhere s.moment ending run row (is_run run.number row))
     h.keys.runs found
     in
-    subst (λ (rows : List RunRow). IsSound seats (record s { runs = rows })) (sym runs)
-    (sound_moved (into s.moment ending run) (λ row. row.taken) (ended_at s.moment ending run)
+    subst (λ (rows : List RunRow). IsConsistent seats (record s { runs = rows })) (sym runs)
+    (consistent_moved (into s.moment ending run) (λ row. row.taken) (ended_at s.moment ending run)
     (λ row. moves_if (is_run run.number row) row.state (ended_if_taken ending row.state) (moves_ended ending row.state)) seats s h)
   where
     after : RunRow → RunRow

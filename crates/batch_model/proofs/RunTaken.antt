@@ -12,13 +12,14 @@ use Rattle.batch_model.specs.Runs.{is_queued, is_unended, is_main, is_work}
 use Rattle.batch_model.specs.Tasks.{is_placed, is_undisturbed}
 use Rattle.batch_model.specs.Slots.{owns}
 use Rattle.batch_model.specs.Events.{taken_run, started_task, is_task_of_run, run_taken}
-use Rattle.batch_model.specs.Sound.{IsSound, belongs, can_be_settled, has_fitting_marks, is_closed_if_completed}
+use Rattle.batch_model.specs.Sound.{IsConsistent, belongs, can_be_settled}
+use Rattle.batch_model.specs.WellFormed.{has_fitting_marks, is_closed_if_completed}
 use Rattle.batch_model.specs.Variants.{State, TaskRow, RunKind, StartRun, PrepRun, TaskRun, CoordinationRun, ReleaseRun, RunRow, RunState, Waiting, Queued, Taken, Ended, Withdrawn}
 use Rattle.batch_model.proofs.Tests.{and_true, and_first, and_second, asked}
 use Rattle.batch_model.proofs.RowLists.{each_found, each_weaker, find_any}
 use Rattle.batch_model.proofs.MappedRows.{each_map, any_map, map_found}
-use Rattle.batch_model.proofs.RunsMove.{Moves, moves_same, moves_if, moved, sound_moved, unended_main}
-use Rattle.batch_model.proofs.TasksKept.{Marks, marked, sound_marked}
+use Rattle.batch_model.proofs.RunsMove.{Moves, moves_same, moves_if, moved, consistent_moved, unended_main}
+use Rattle.batch_model.proofs.TasksKept.{Marks, marked, consistent_marked}
 
 -- a queued run is taken, and others stay
 abbrev taken_if_queued : RunState → RunState
@@ -72,8 +73,8 @@ module _ (now : ℕ) (run : RunRow) where
   alike_elsewhere row false h = refl
 
 -- the run is taken, and its task has not started yet
-sound_queued : (seats : ℕ) (s : State) (run : RunRow) → IsSound seats s → find (is_run run.number) s.runs ≡ Some run → is_queued run.state ≡ true → IsSound seats (change_runs (is_run run.number) (taken_run s.moment) s)
-sound_queued seats s run h found queued =
+consistent_queued : (seats : ℕ) (s : State) (run : RunRow) → IsConsistent seats s → find (is_run run.number) s.runs ≡ Some run → is_queued run.state ≡ true → IsConsistent seats (change_runs (is_run run.number) (taken_run s.moment) s)
+consistent_queued seats s run h found queued =
     let runs : map (λ row. cond (is_run run.number row) (taken_run s.moment row) row) s.runs ≡ map after s.runs =
     map_found same_run same_run_equiv (λ row. cond (is_run run.number row) (taken_run s.moment row) row) after (is_run run.number) (is_run run.number) run s.runs
     (λ row k. k)
@@ -81,8 +82,8 @@ sound_queued seats s run h found queued =
     (λ row. alike_elsewhere s.moment run row (is_run run.number row))
     h.keys.runs found
     in
-    subst (λ (rows : List RunRow). IsSound seats (record s { runs = rows })) (sym runs)
-    (sound_moved (into s.moment run) (taken_at s.moment run) (λ row. row.ended)
+    subst (λ (rows : List RunRow). IsConsistent seats (record s { runs = rows })) (sym runs)
+    (consistent_moved (into s.moment run) (taken_at s.moment run) (λ row. row.ended)
     (λ row. moves_if (is_run run.number row) row.state (taken_if_queued row.state) (moves_taken row.state)) seats s h)
   where
     after : RunRow → RunRow
@@ -133,8 +134,8 @@ module _ (now : ℕ) (run : RunRow) where
   marks_after false false u start started h = h
 
 -- the task of a queued run starts
-sound_started : (seats : ℕ) (s : State) (now : ℕ) (run : RunRow) (owner : TaskRow) → IsSound seats s → find (owns run) s.tasks ≡ Some owner → IsSound seats (record s { tasks = map (λ task. cond (is_task_of_run run task) (started_task now task) task) s.tasks })
-sound_started seats s now run owner h found =
+consistent_started : (seats : ℕ) (s : State) (now : ℕ) (run : RunRow) (owner : TaskRow) → IsConsistent seats s → find (owns run) s.tasks ≡ Some owner → IsConsistent seats (record s { tasks = map (λ task. cond (is_task_of_run run task) (started_task now task) task) s.tasks })
+consistent_started seats s now run owner h found =
     let owned : owns run owner ≡ true = find-passes (owns run) owner s.tasks found in
     let tasks : map (λ task. cond (is_task_of_run run task) (started_task now task) task) s.tasks ≡ map after s.tasks =
     map_found same_task same_task_equiv (λ task. cond (is_task_of_run run task) (started_task now task) task) after (is_task_of_run run) (owns run) owner s.tasks
@@ -143,8 +144,8 @@ sound_started seats s now run owner h found =
     (λ task. start_elsewhere now run task (is_task_of_run run task) (is_placed task.stage))
     h.keys.tasks found
     in
-    subst (λ (rows : List TaskRow). IsSound seats (record s { tasks = rows })) (sym tasks)
-    (sound_marked (with_start now run) (λ task k. k) seats s h
+    subst (λ (rows : List TaskRow). IsConsistent seats (record s { tasks = rows })) (sym tasks)
+    (consistent_marked (with_start now run) (λ task k. k) seats s h
     (each_map after has_fitting_marks has_fitting_marks
     (λ task e. marks_after now run (is_task_of_run run task) (is_placed task.stage) (is_undisturbed task) (unwrap_or task.started now) task.started e) s.tasks h.fitting.marks)
     (each_map after is_closed_if_completed is_closed_if_completed (λ task e. e) s.tasks h.fitting.closing)
@@ -166,7 +167,7 @@ main_works CoordinationRun h = refl
 main_works ReleaseRun h = cc
 
 -- a placed task owns a queued run
-owned_while_queued : (seats : ℕ) (s : State) (run : RunRow) → IsSound seats s → find (is_run run.number) s.runs ≡ Some run → is_queued run.state ≡ true → list_any (owns run) s.tasks ≡ true
+owned_while_queued : (seats : ℕ) (s : State) (run : RunRow) → IsConsistent seats s → find (is_run run.number) s.runs ≡ Some run → is_queued run.state ≡ true → list_any (owns run) s.tasks ≡ true
 owned_while_queued seats s run h found queued =
     let unended : is_unended run.state ≡ true = queued_unended run.state queued in
     let main : is_main run.kind ≡ true =
@@ -177,7 +178,7 @@ owned_while_queued seats s run h found queued =
     (and_true (main_works run.kind main) unended)
 
 -- a queued run is taken, and its task starts
-pub sound_taken : (seats : ℕ) (s : State) (run : RunRow) → IsSound seats s → find (is_run run.number) s.runs ≡ Some run → is_queued run.state ≡ true → IsSound seats (run_taken s run)
-sound_taken seats s run h found queued =
+pub consistent_taken : (seats : ℕ) (s : State) (run : RunRow) → IsConsistent seats s → find (is_run run.number) s.runs ≡ Some run → is_queued run.state ≡ true → IsConsistent seats (run_taken s run)
+consistent_taken seats s run h found queued =
     let owner : (task : TaskRow) × (find (owns run) s.tasks ≡ Some task) = find_any (owns run) s.tasks (owned_while_queued seats s run h found queued) in
-    sound_started seats (change_runs (is_run run.number) (taken_run s.moment) s) s.moment run owner.0 (sound_queued seats s run h found queued) owner.1
+    consistent_started seats (change_runs (is_run run.number) (taken_run s.moment) s) s.moment run owner.0 (consistent_queued seats s run h found queued) owner.1

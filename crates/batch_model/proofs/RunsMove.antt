@@ -13,7 +13,8 @@ use Rattle.batch_model.specs.Rows.{is_pool}
 use Rattle.batch_model.specs.Runs.{is_unended, is_main, is_work, is_preparation, is_release, is_run_of_task, is_present, is_busy_for, ending_of}
 use Rattle.batch_model.specs.Tasks.{is_placed, is_undisturbed, is_busy, main_ending}
 use Rattle.batch_model.specs.Slots.{owns, held_slots, holds_on}
-use Rattle.batch_model.specs.Sound.{IsSound, has_named_job, has_named_task, has_node_while_unended, belongs, can_be_settled, fits_nodes, names_no_task, has_node_row, are_one_attempt}
+use Rattle.batch_model.specs.Sound.{IsConsistent, has_node_while_unended, belongs, can_be_settled, fits_nodes, names_no_task, has_node_row}
+use Rattle.batch_model.specs.WellFormed.{has_named_job, has_named_task, are_one_attempt}
 use Rattle.batch_model.specs.Variants.{State, PoolRow, NodeRow, TaskRow, RunRow, RunState}
 use Rattle.batch_model.proofs.Tests.{and_first, and_second, or_first, or_second, or_false, or_false_first, or_false_second}
 use Rattle.batch_model.proofs.RowLists.{each_head, each_tail, each_weaker}
@@ -192,8 +193,8 @@ module _ (into : RunRow → RunState) (taken_at ended_at : RunRow → Option ℕ
   slots_after s node = sum_map (moved into taken_at ended_at) (λ (run : RunRow). run.slots) (holds_on (after s) node) s.runs
 
   -- tables whose runs move on are sound
-  pub sound_moved : (seats : ℕ) (s : State) → IsSound seats s → IsSound seats (record s { runs = map (moved into taken_at ended_at) s.runs })
-  sound_moved seats s h = record {
+  pub consistent_moved : (seats : ℕ) (s : State) → IsConsistent seats s → IsConsistent seats (record s { runs = map (moved into taken_at ended_at) s.runs })
+  consistent_moved seats s h = record {
     keys = record { pools = h.keys.pools; nodes = h.keys.nodes; jobs = h.keys.jobs; tasks = h.keys.tasks; runs = distinct_map g same_run same_run (λ run other e. e) s.runs h.keys.runs; preps = h.keys.preps; samples = h.keys.samples; scales = h.keys.scales };
     numbers = record {
       begun = h.numbers.begun;

@@ -1,12 +1,12 @@
 -- The first tables are sound, and tables stay sound when the last moment rises, of which no part of soundness speaks.
 use Rattle.std.proofs.Common.{ℕ, refl, arith}
 use Rattle.batch_model.specs.Events.{at_moment}
-use Rattle.batch_model.specs.Sound.{IsSound}
+use Rattle.batch_model.specs.Sound.{IsConsistent}
 use Rattle.batch_model.specs.Variants.{State, empty_state}
 
 -- empty tables are sound
-pub sound_empty : (seats : ℕ) → IsSound seats empty_state
-sound_empty seats = record {
+pub consistent_empty : (seats : ℕ) → IsConsistent seats empty_state
+consistent_empty seats = record {
   keys = record { pools = tt; nodes = tt; jobs = tt; tasks = tt; runs = tt; preps = tt; samples = tt; scales = tt };
   numbers = record { begun = omega arith; runs = refl; nodes = refl; nodes_of_runs = refl; order = tt };
   fitting = record { marks = refl; closing = refl; attempts = refl };
@@ -20,8 +20,8 @@ sound_empty seats = record {
 }
 
 -- sound tables are sound at a later moment
-pub sound_moment : (seats now : ℕ) (s : State) → IsSound seats s → IsSound seats (at_moment now s)
-sound_moment seats now s h = record {
+pub consistent_moment : (seats now : ℕ) (s : State) → IsConsistent seats s → IsConsistent seats (at_moment now s)
+consistent_moment seats now s h = record {
   keys = record { pools = h.keys.pools; nodes = h.keys.nodes; jobs = h.keys.jobs; tasks = h.keys.tasks; runs = h.keys.runs; preps = h.keys.preps; samples = h.keys.samples; scales = h.keys.scales };
   numbers = record { begun = h.numbers.begun; runs = h.numbers.runs; nodes = h.numbers.nodes; nodes_of_runs = h.numbers.nodes_of_runs; order = h.numbers.order };
   fitting = record { marks = h.fitting.marks; closing = h.fitting.closing; attempts = h.fitting.attempts };

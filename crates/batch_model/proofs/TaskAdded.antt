@@ -8,7 +8,8 @@ use Rattle.batch_model.specs.Rows.{is_pool, is_task, add_task_row}
 use Rattle.batch_model.specs.Runs.{is_work, is_unended}
 use Rattle.batch_model.specs.Tasks.{new_task}
 use Rattle.batch_model.specs.Slots.{owns, holds_on, held_slots}
-use Rattle.batch_model.specs.Sound.{IsSound, has_job_row, has_named_task, is_task_of_attempt, has_fitting_marks, is_closed_if_completed, belongs, can_be_settled, has_slots_for}
+use Rattle.batch_model.specs.Sound.{IsConsistent, belongs, can_be_settled, has_slots_for}
+use Rattle.batch_model.specs.WellFormed.{has_job_row, has_named_task, is_task_of_attempt, has_fitting_marks, is_closed_if_completed}
 use Rattle.batch_model.specs.Variants.{State, PoolRow, NodeRow, TaskRow, RunRow}
 use Rattle.batch_model.proofs.Tests.{asked, under}
 use Rattle.batch_model.proofs.RowLists.{each_append, each_weaker, any_append_old, any_append_same, filter_agree}
@@ -50,8 +51,8 @@ module _ (s : State) (in_job : List ℕ) (spec : TaskSpec) where
   first_attempt h = (Decides-ltb 0 s.next_run).1 h
 
   -- a task with a new key
-  pub sound_task_added : (seats : ℕ) → IsSound seats s → has_job_row s in_job ≡ true → list_any (is_task in_job spec.id) s.tasks ≡ false → IsSound seats with_task
-  sound_task_added seats h there new = record {
+  pub consistent_task_added : (seats : ℕ) → IsConsistent seats s → has_job_row s in_job ≡ true → list_any (is_task in_job spec.id) s.tasks ≡ false → IsConsistent seats with_task
+  consistent_task_added seats h there new = record {
     keys = record { pools = h.keys.pools; nodes = h.keys.nodes; jobs = h.keys.jobs; tasks = distinct_append same_task s.tasks (new_task in_job spec) h.keys.tasks new; runs = h.keys.runs; preps = h.keys.preps; samples = h.keys.samples; scales = h.keys.scales };
     numbers = record { begun = h.numbers.begun; runs = h.numbers.runs; nodes = h.numbers.nodes; nodes_of_runs = h.numbers.nodes_of_runs; order = h.numbers.order };
     fitting = record {

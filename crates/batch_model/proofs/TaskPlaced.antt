@@ -15,7 +15,8 @@ use Rattle.batch_model.specs.Runs.{is_main, is_work, is_unended, is_run_of_task,
 use Rattle.batch_model.specs.Tasks.{is_active, is_placed, is_completed, is_undisturbed, is_busy, main_ending}
 use Rattle.batch_model.specs.Slots.{owns, holds_on, held_slots}
 use Rattle.batch_model.specs.Placing.{is_placeable, fits, placed, place}
-use Rattle.batch_model.specs.Sound.{IsSound, has_fitting_marks, is_closed_if_completed, has_job_row, has_named_job, is_task_of_attempt, has_named_task, are_one_attempt, has_node_while_unended, belongs, can_be_settled, fits_nodes, names_no_task, has_slots_for}
+use Rattle.batch_model.specs.Sound.{IsConsistent, has_node_while_unended, belongs, can_be_settled, fits_nodes, names_no_task, has_slots_for}
+use Rattle.batch_model.specs.WellFormed.{has_fitting_marks, is_closed_if_completed, has_job_row, has_named_job, is_task_of_attempt, has_named_task, are_one_attempt}
 use Rattle.batch_model.specs.Variants.{State, PoolRow, NodeRow, JobRow, TaskRow, RunRow, TaskStage, Active, Placed, Completed, TaskRun, Queued}
 use Rattle.batch_model.proofs.Tests.{and_true, and_first, and_second, or_first, true_not, not_true, asked, under}
 use Rattle.batch_model.proofs.RowLists.{each_append, each_weaker, each_of_two, each_found, find_test, find_append_old, any_append_old, any_found, any_weaker, any_weaker_where, none_any}
@@ -126,7 +127,7 @@ ending_kept : (p : RunRow → Bool) (runs : List RunRow) (run : RunRow) (o : Opt
 ending_kept p runs run None e h = cc
 ending_kept p runs run (Some main) e h = rw (find_append_old p runs run main e) h
 
-module _ (seats : ℕ) (s : State) (job : JobRow) (node : NodeRow) (task : TaskRow) (h : IsSound seats s) (f : find (is_placeable job) s.tasks ≡ Some task) where
+module _ (seats : ℕ) (s : State) (job : JobRow) (node : NodeRow) (task : TaskRow) (h : IsConsistent seats s) (f : find (is_placeable job) s.tasks ≡ Some task) where
   -- the tables after the step, and the new run
   abbrev after : State
   after = (place s node task).state
@@ -346,8 +347,8 @@ module _ (seats : ℕ) (s : State) (job : JobRow) (node : NodeRow) (task : TaskR
         either false e = slots_elsewhere other e k
 
     -- a task that is placed keeps tables sound
-    pub sound_placed : IsSound seats (place s node task).state
-    sound_placed = record {
+    pub consistent_placed : IsConsistent seats (place s node task).state
+    consistent_placed = record {
       keys = record {
         pools = h.keys.pools;
         nodes = h.keys.nodes;

@@ -7,7 +7,8 @@ use Rattle.batch_model.specs.Finding.{Each}
 use Rattle.batch_model.specs.Runs.{is_present}
 use Rattle.batch_model.specs.Tasks.{is_placed}
 use Rattle.batch_model.specs.Slots.{owns, held_slots, holds_on}
-use Rattle.batch_model.specs.Sound.{IsSound, RunsBelong, PlacedTasksEnd, has_fitting_marks, is_closed_if_completed, has_job_row, has_named_task, is_task_of_attempt}
+use Rattle.batch_model.specs.Sound.{IsConsistent, RunsBelong, PlacedTasksEnd}
+use Rattle.batch_model.specs.WellFormed.{has_fitting_marks, is_closed_if_completed, has_job_row, has_named_task, is_task_of_attempt}
 use Rattle.batch_model.specs.Variants.{State, TaskRow, TaskStage, Want, Closed, Ending, RunRow}
 use Rattle.batch_model.proofs.RowLists.{each_weaker, any_weaker}
 use Rattle.batch_model.proofs.MappedRows.{each_map, any_map, distinct_map, sum_fewer}
@@ -59,8 +60,8 @@ module _ (marks : TaskRow → Marks) where
         (λ run k. both_under (nat_eq run.node node) (list_any (owns run) (map (marked marks) s.tasks)) (list_any (owns run) s.tasks) (owned_before s run) k) s.runs
 
     -- tables whose tasks keep what they are
-    pub sound_marked : (seats : ℕ) (s : State) → IsSound seats s → Each has_fitting_marks (map (marked marks) s.tasks) → Each is_closed_if_completed (map (marked marks) s.tasks) → RunsBelong (record s { tasks = map (marked marks) s.tasks }) → PlacedTasksEnd (record s { tasks = map (marked marks) s.tasks }) → IsSound seats (record s { tasks = map (marked marks) s.tasks })
-    sound_marked seats s h marks_fit closing_fits belong end = record {
+    pub consistent_marked : (seats : ℕ) (s : State) → IsConsistent seats s → Each has_fitting_marks (map (marked marks) s.tasks) → Each is_closed_if_completed (map (marked marks) s.tasks) → RunsBelong (record s { tasks = map (marked marks) s.tasks }) → PlacedTasksEnd (record s { tasks = map (marked marks) s.tasks }) → IsConsistent seats (record s { tasks = map (marked marks) s.tasks })
+    consistent_marked seats s h marks_fit closing_fits belong end = record {
       keys = record { pools = h.keys.pools; nodes = h.keys.nodes; jobs = h.keys.jobs; tasks = distinct_map (marked marks) same_task same_task (λ task other e. e) s.tasks h.keys.tasks; runs = h.keys.runs; preps = h.keys.preps; samples = h.keys.samples; scales = h.keys.scales };
       numbers = record { begun = h.numbers.begun; runs = h.numbers.runs; nodes = h.numbers.nodes; nodes_of_runs = h.numbers.nodes_of_runs; order = h.numbers.order };
       fitting = record {

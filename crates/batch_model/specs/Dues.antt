@@ -1,21 +1,21 @@
 -- The due rules that are built, in the order in which they are tried. Each takes its first row in list order.
-use Rattle.std.specs.Prelude.{ℕ, Bool, not, ◌&&◌, nat_eq, nat_lt, [], ◌∷◌, find, Option, is_none}
+use Rattle.std.specs.Prelude.{ℕ, ◌+◌, Bool, not, ◌&&◌, ◌||◌, nat_eq, nat_lt, nat_le, [], ◌∷◌, find, Option, Some, is_none, if◌then◌else◌}
 use Rattle.std.specs.Option.{option_map, option_and_then}
 use Rattle.bt_rows.specs.declared.due.Due.TheVariants.{PoolResized, NodeAdded}
-use Rattle.bt_rows.specs.declared.due.ResizeEnd.TheVariants.{Reached}
+use Rattle.bt_rows.specs.declared.due.ResizeEnd.TheVariants.{Reached, TimedOut}
 use Rattle.batch_model.specs.Finding.{first_of, only_if, has_number_left}
 use Rattle.batch_model.specs.Rows.{put_pool, add_node_row}
 use Rattle.batch_model.specs.Pools.{is_resizing, has_leaving, staying_count, free_seat}
-use Rattle.batch_model.specs.Settling.{is_to_complete, settle}
+use Rattle.batch_model.specs.Settling.{is_to_settle, settle}
 use Rattle.batch_model.specs.Placing.{place_first}
 use Rattle.batch_model.specs.Steps.{DueStep}
-use Rattle.batch_model.specs.Variants.{State, PoolRow, Steady, NodeRow, Usable}
+use Rattle.batch_model.specs.Variants.{State, PoolRow, Steady, AllocationTimedOut, NodeRow, Usable}
 
 -- U5: a placed task whose present attempt has no unended run is settled
 abbrev pub settle_first : State → Option DueStep
-settle_first s = option_and_then (settle s) (find (is_to_complete s) s.tasks)
+settle_first s = option_and_then (settle s) (find (is_to_settle s) s.tasks)
 
--- U11: a resizing pool that has reached its target is steady
+-- U11: a resizing pool that has reached its target is steady, and so is one whose timeout is over
 
 -- not deleted, resizing, with as many nodes as its target, none of them leaving
 abbrev pub has_reached : State → PoolRow → Bool
@@ -30,9 +30,29 @@ steady pool = record pool { alloc = Steady }
 abbrev pub pool_steady : State → PoolRow → DueStep
 pool_steady s pool = record { due = PoolResized pool.id Reached; state = put_pool (steady pool) s }
 
+-- not deleted, resizing, with its timeout over
+abbrev pub has_timed_out : State → PoolRow → Bool
+has_timed_out s pool = not pool.deleting && is_resizing pool.alloc && nat_le (pool.began + pool.timeout) s.moment
+
+-- the pool is steady, and keeps why
+abbrev pub timed_out : PoolRow → PoolRow
+timed_out pool = record pool { alloc = Steady; error = Some AllocationTimedOut }
+
+-- the line names the pool
+abbrev pub pool_timed_out : State → PoolRow → DueStep
+pool_timed_out s pool = record { due = PoolResized pool.id TimedOut; state = put_pool (timed_out pool) s }
+
+-- its resize ends, in one way or the other
+abbrev pub ends_resize : State → PoolRow → Bool
+ends_resize s pool = has_reached s pool || has_timed_out s pool
+
+-- a pool that has reached its target has not timed out
+abbrev pub resize_ended : State → PoolRow → DueStep
+resize_ended s pool = if has_reached s pool then pool_steady s pool else pool_timed_out s pool
+
 -- the first such pool
 abbrev pub end_resize : State → Option DueStep
-end_resize s = option_map (pool_steady s) (find (has_reached s) s.pools)
+end_resize s = option_map (resize_ended s) (find (ends_resize s) s.pools)
 
 -- U15: a resizing pool with fewer nodes than its target gets one on the lowest free seat; pools without a start task, so far
 

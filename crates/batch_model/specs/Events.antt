@@ -8,7 +8,7 @@ use Rattle.bt_rows.specs.declared.event.JobSpec.{JobSpec}
 use Rattle.bt_rows.specs.declared.event.TaskSpec.{TaskSpec}
 use Rattle.bt_rows.specs.declared.refusal.Table.TheVariants.{Pools, Jobs, Tasks}
 use Rattle.bt_rows.specs.declared.refusal.Refusal.{Refusal}
-use Rattle.bt_rows.specs.declared.refusal.Refusal.TheVariants.{UnreadableBody, PoolNotFound, PoolExists, PoolBeingDeleted, JobNotFound, JobExists, JobStateRefuses, TaskExists, RunNotFound, RunAlreadyEnded, RunAlreadyTaken, RunNotTaken, RunWithdrawn, RunWaiting, TableFull}
+use Rattle.bt_rows.specs.declared.refusal.Refusal.TheVariants.{UnreadableBody, PoolNotFound, PoolExists, PoolBeingDeleted, JobNotFound, JobExists, JobStateRefuses, TaskExists, DependencyListTooLong, RunNotFound, RunAlreadyEnded, RunAlreadyTaken, RunNotTaken, RunWithdrawn, RunWaiting, TableFull}
 use Rattle.bt_rows.specs.declared.reply.Reply.TheVariants.{Status, Refused}
 use Rattle.batch_model.specs.Finding.{first_of, names}
 use Rattle.batch_model.specs.Rows.{is_run, pool_of, job_of, task_of, run_of, add_pool_row, add_job_row, add_task_row, change_tasks, change_runs}
@@ -16,7 +16,8 @@ use Rattle.batch_model.specs.Runs.{is_waiting, is_taken, is_ended, is_withdrawn}
 use Rattle.batch_model.specs.Tasks.{new_task}
 use Rattle.batch_model.specs.Jobs.{is_past, new_job}
 use Rattle.batch_model.specs.Pools.{new_pool}
-use Rattle.batch_model.specs.Limits.{pool_limit, job_limit, task_limit}
+use Rattle.batch_model.specs.Limits.{pool_limit, job_limit, task_limit, needs_limit}
+use Rattle.batch_model.specs.WellFormed.{needs_length}
 use Rattle.batch_model.specs.Steps.{Answered, refuse_if}
 use Rattle.batch_model.specs.Variants.{State, PoolRow, JobRow, TaskRow, Ending, RunRow, Taken, Ended}
 
@@ -62,11 +63,16 @@ add_job s id spec = for_new (is_some (job_of s id))
     for_new true = refuse JobExists s
     for_new false = for_row s PoolNotFound (add_job_in s id spec) (pool_of s spec.pool)
 
+-- the ids that the task depends on have more characters together than the limit
+abbrev pub has_long_needs : TaskSpec → Bool
+has_long_needs spec = not (nat_le (needs_length spec.needs) needs_limit)
+
 -- `add-task`: a new task has the id of its job as the job spells it
 abbrev pub add_task : State → TaskSpec → JobRow → Answered
 add_task s spec job = answer s
     (refuse_if (is_past job.state) (JobStateRefuses job.state)
     ∷ refuse_if (is_some (task_of s job.id spec.id)) TaskExists
+    ∷ refuse_if (has_long_needs spec) DependencyListTooLong
     ∷ refuse_if (nat_le task_limit (length s.tasks)) (TableFull Tasks task_limit)
     ∷ []) 201 (add_task_row (new_task job.id spec) s)
 
@@ -136,7 +142,7 @@ event_now (ReactivateTask job task) s = refuse UnreadableBody s
 event_now (Take run) s = for_row s RunNotFound (take_run s) (run_of s run)
 event_now (End run ending) s = for_row s RunNotFound (end_run s ending) (run_of s run)
 event_now (Sample pool given) s = refuse UnreadableBody s
-event_now Tick s = refuse UnreadableBody s
+event_now Tick s = accept 200 s
 
 -- the moment first becomes the greater of the last and the handed one
 abbrev pub at_moment : ℕ → State → State

@@ -1,7 +1,7 @@
 -- Jobs: their states, and new ones.
 use Rattle.std.specs.Prelude.{ℕ, Bool, true, false, List, None}
 use Rattle.bt_rows.specs.declared.event.JobSpec.{JobSpec}
-use Rattle.batch_model.specs.Variants.{JobRow, JobState, JobActive, Terminating, JobCompleted, Deleting}
+use Rattle.batch_model.specs.Variants.{JobRow, JobState, JobActive, Disabled, Enabling, Terminating, JobCompleted, Deleting}
 
 -- tests of one state
 abbrev pub is_job_active : JobState → Bool
@@ -14,6 +14,13 @@ is_past Terminating = true
 is_past JobCompleted = true
 is_past Deleting = true
 is_past _ = false
+
+-- disabled, enabling or completed
+abbrev pub is_quiet : JobState → Bool
+is_quiet Disabled = true
+is_quiet Enabling = true
+is_quiet JobCompleted = true
+is_quiet _ = false
 
 -- a job is added active
 abbrev pub new_job : ℕ → List ℕ → List ℕ → JobSpec → JobRow

@@ -6,13 +6,16 @@ pub mod Jobs
 pub mod Limits
 pub mod Measure
 pub mod Nodes
+pub mod Opening
 pub mod Placing
 pub mod Pools
 pub mod Rows
 pub mod Runs
+pub mod Samples
 pub mod Settling
 pub mod Slots
 pub mod Sound
 pub mod Steps
 pub mod Tasks
 pub mod Variants
+pub mod WellFormed

@@ -9,3 +9,7 @@ job_limit = 10000
 
 abbrev pub task_limit : ℕ
 task_limit = 1000000
+
+-- the ids of one list of dependencies have at most so many characters together
+abbrev pub needs_limit : ℕ
+needs_limit = 64000

@@ -15,6 +15,11 @@ is_resizing Steady = false
 is_resizing Resizing = true
 is_resizing Stopping = false
 
+abbrev pub is_stopping : Alloc → Bool
+is_stopping Steady = false
+is_stopping Resizing = false
+is_stopping Stopping = true
+
 -- a node leaves the pool
 abbrev pub has_leaving : State → List ℕ → Bool
 has_leaving s pool = list_any (λ node. is_in_pool pool node && is_leaving node.stage) s.nodes

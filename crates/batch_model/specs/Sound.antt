@@ -1,30 +1,18 @@
 -- Sound tables: what holds of the tables before and after every event and every due step. Each part has a name of its
 -- own.
-use Rattle.std.specs.Prelude.{ℕ, ◌<◌, Bool, true, false, not, ◌&&◌, ◌||◌, nat_eq, nat_lt, nat_le, List, is_some, is_none}
-use Rattle.std.specs.Option.{option_map_or}
+use Rattle.std.specs.Prelude.{◌≡◌, ℕ, ◌<◌, Bool, not, ◌&&◌, ◌||◌, nat_eq, nat_lt, nat_le, [], is_some, is_none}
 use Rattle.std.specs.List.{list_any, list_all}
 use Rattle.bt_base.specs.Ids.{same}
 use Rattle.bt_rows.specs.Lists.{AreDistinct}
-use Rattle.bt_rows.specs.Keys.{same_pool, same_node, same_job, same_task, same_run, same_prep, same_sample, same_scale}
 use Rattle.bt_rows.specs.Ranges.{is_from_to}
-use Rattle.batch_model.specs.Finding.{Each, names}
-use Rattle.batch_model.specs.Rows.{is_pool, is_node, is_job}
-use Rattle.batch_model.specs.Runs.{is_unended, is_start, is_preparation, is_release, is_main, is_work, is_run_of_task}
-use Rattle.batch_model.specs.Tasks.{is_placed, is_completed, is_undisturbed, is_busy, main_ending}
+use Rattle.batch_model.specs.Finding.{Each}
+use Rattle.batch_model.specs.Rows.{is_pool, is_node}
+use Rattle.batch_model.specs.Runs.{is_unended, is_start, is_preparation, is_release, is_main, is_work}
+use Rattle.batch_model.specs.Tasks.{is_placed, is_undisturbed, is_busy, main_ending}
 use Rattle.batch_model.specs.Nodes.{is_usable}
 use Rattle.batch_model.specs.Slots.{owns, held_slots}
+use Rattle.batch_model.specs.WellFormed.{KeysAreDistinct, RowsAreValid, CountsAreInRange, TasksAreFitting, has_pool_row, NamedRowsAreThere, QuietJobsPlaceNothing, PoolsAreFitting}
 use Rattle.batch_model.specs.Variants.{State, NodeRow, TaskRow, RunRow}
-
--- no two rows of a kind have the same key
-pub record KeysAreDistinct (s : State) : Type 0 where
-  pub pools : AreDistinct same_pool s.pools
-  pub nodes : AreDistinct same_node s.nodes
-  pub jobs : AreDistinct same_job s.jobs
-  pub tasks : AreDistinct same_task s.tasks
-  pub runs : AreDistinct same_run s.runs
-  pub preps : AreDistinct same_prep s.preps
-  pub samples : AreDistinct same_sample s.samples
-  pub scales : AreDistinct same_scale s.scales
 
 -- the later node has no higher number
 abbrev pub are_out_of_order : NodeRow → NodeRow → Bool
@@ -38,62 +26,9 @@ pub record NumbersAreNew (s : State) : Type 0 where
   pub nodes_of_runs : Each (λ run. nat_lt run.node s.next_node) s.runs
   pub order : AreDistinct are_out_of_order s.nodes
 
--- tasks
-
--- only a placed task has a wanted end, a failed attempt or a start
-abbrev pub has_fitting_marks : TaskRow → Bool
-has_fitting_marks task = is_placed task.stage || (is_undisturbed task && is_none task.started)
-
--- exactly a completed task is closed
-abbrev pub is_closed_if_completed : TaskRow → Bool
-is_closed_if_completed task = (is_completed task.stage && is_some task.closed) || (not (is_completed task.stage) && is_none task.closed)
-
--- marks and closing fit the stage, and fewer attempts than runs were made
-pub record TasksAreFitting (s : State) : Type 0 where
-  pub marks : Each has_fitting_marks s.tasks
-  pub closing : Each is_closed_if_completed s.tasks
-  pub attempts : Each (λ task. nat_lt task.attempt s.next_run) s.tasks
-
--- rows that others name
-
--- the pool has a row
-abbrev pub has_pool_row : State → List ℕ → Bool
-has_pool_row s pool = list_any (is_pool pool) s.pools
-
--- the job has a row
-abbrev pub has_job_row : State → List ℕ → Bool
-has_job_row s job = list_any (is_job job) s.jobs
-
 -- the node has a row
 abbrev pub has_node_row : State → ℕ → Bool
 has_node_row s node = list_any (is_node node) s.nodes
-
--- the job that the run names has a row, if it names one
-abbrev pub has_named_job : State → RunRow → Bool
-has_named_job s run = option_map_or (has_job_row s) run.job true
-
--- the task of the run, among whose attempts the run's is
-abbrev pub is_task_of_attempt : RunRow → TaskRow → Bool
-is_task_of_attempt run task = is_run_of_task task.job task.id run && nat_le run.attempt task.attempt
-
--- the task that the run names has a row, among whose attempts the run's is, if it names one
-abbrev pub has_named_task : State → RunRow → Bool
-has_named_task s run = is_none run.task || list_any (is_task_of_attempt run) s.tasks
-
--- the run names this job and this task
-abbrev pub names_the_same : RunRow → RunRow → Bool
-names_the_same run other = option_map_or (names run.job) other.job false && option_map_or (names run.task) other.task false
-
--- two main runs of the same attempt of a task
-abbrev pub are_one_attempt : RunRow → RunRow → Bool
-are_one_attempt run other = is_main run.kind && is_main other.kind && nat_eq run.attempt other.attempt && names_the_same run other
-
--- rows that others name have rows, and an attempt has one main run
-pub record NamedRowsAreThere (s : State) : Type 0 where
-  pub jobs_of_tasks : Each (λ task. has_job_row s task.job) s.tasks
-  pub jobs_of_runs : Each (has_named_job s) s.runs
-  pub tasks_of_runs : Each (has_named_task s) s.runs
-  pub main_runs : AreDistinct are_one_attempt s.runs
 
 -- two nodes on one seat
 abbrev pub share_seat : NodeRow → NodeRow → Bool
@@ -156,8 +91,8 @@ pub record OnlyTasksRun (s : State) : Type 0 where
   pub runs : Each (λ run. is_main run.kind || not (is_unended run.state)) s.runs
   pub nodes : Each (λ node. is_usable node.stage) s.nodes
 
--- all of these, for so many seats
-pub record IsSound (seats : ℕ) (s : State) : Type 0 where
+-- the rows fit each other, for so many seats
+pub record IsConsistent (seats : ℕ) (s : State) : Type 0 where
   pub keys : KeysAreDistinct s
   pub numbers : NumbersAreNew s
   pub fitting : TasksAreFitting s
@@ -168,3 +103,21 @@ pub record IsSound (seats : ℕ) (s : State) : Type 0 where
   pub naming : RunsNameTheirs s
   pub slots : SlotsSuffice s
   pub built : OnlyTasksRun s
+
+-- no start task of a node has failed, and nothing is prepared, since neither is built
+pub record NothingIsPrepared (s : State) : Type 0 where
+  pub tries : Each (λ node. nat_eq node.tries 0) s.nodes
+  pub preps : s.preps ≡ []
+
+-- the values of the rows are such as the service makes
+pub record IsWithinLimits (s : State) : Type 0 where
+  pub rows : RowsAreValid s
+  pub counts : CountsAreInRange s
+  pub quiet : QuietJobsPlaceNothing s
+  pub pools : PoolsAreFitting s
+  pub built : NothingIsPrepared s
+
+-- both of these, for so many seats; such tables are also well formed
+pub record IsSound (seats : ℕ) (s : State) : Type 0 where
+  pub consistent : IsConsistent seats s
+  pub limited : IsWithinLimits s
