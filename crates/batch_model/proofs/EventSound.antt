@@ -12,7 +12,7 @@ use Rattle.bt_rows.specs.declared.refusal.Refusal.{Refusal}
 use Rattle.bt_rows.specs.declared.refusal.Refusal.TheVariants.{PoolNotFound, JobNotFound, RunNotFound}
 use Rattle.batch_model.specs.Steps.{Answered}
 use Rattle.batch_model.specs.Rows.{is_pool, is_job, is_task, is_run, pool_of, job_of, task_of, run_of}
-use Rattle.batch_model.specs.Events.{for_row, add_pool, add_job, add_job_in, add_task, take_run, end_run, event_now, event_step, at_moment}
+use Rattle.batch_model.specs.Events.{for_row, add_pool, add_job, add_job_in, has_long_needs, add_task, take_run, end_run, event_now, event_step, at_moment}
 use Rattle.batch_model.specs.Pools.{new_pool}
 use Rattle.batch_model.specs.Jobs.{is_past, new_job}
 use Rattle.batch_model.specs.Limits.{pool_limit, job_limit, task_limit}
@@ -79,11 +79,14 @@ module _ (seats : ℕ) (s : State) (h : IsConsistent seats s) where
     | inl e ↦ rw e h
     | inr open_job ↦ elim (passes_or_not (is_some (task_of s job.id spec.id))) [
       | inl e ↦ rw (open_job, e) h
-      | inr new ↦ elim (passes_or_not (nat_le task_limit (length s.tasks))) [
+      | inr new ↦ elim (passes_or_not (has_long_needs spec)) [
         | inl e ↦ rw (open_job, new, e) h
-        | inr room ↦
-            rw (open_job, new, room)
-            (consistent_task_added s job.id spec seats h (has_found_job id job there) (find_none (is_task job.id spec.id) s.tasks (is_nothing (task_of s job.id spec.id) new)))
+        | inr short ↦ elim (passes_or_not (nat_le task_limit (length s.tasks))) [
+          | inl e ↦ rw (open_job, new, short, e) h
+          | inr room ↦
+              rw (open_job, new, short, room)
+              (consistent_task_added s job.id spec seats h (has_found_job id job there) (find_none (is_task job.id spec.id) s.tasks (is_nothing (task_of s job.id spec.id) new)))
+        ]
       ]
     ]
   ]

@@ -21,4 +21,9 @@ pub mod TasksKept
 pub mod RunTaken
 pub mod Completed
 pub mod DueSound
+pub mod LimitsMoment
+pub mod LimitsAdded
+pub mod LimitsPools
+pub mod LimitsTasks
+pub mod LimitsPlaced
 pub mod EventSound

@@ -1,0 +1,77 @@
+-- Tables stay within the limits when the resize of a pool ends.
+use Rattle.std.proofs.Common.{◌≡◌, ℕ, ◌≤◌, Bool, true, false, not, List, Option, Some, find, length, sym, ◌∙◌, subst}
+use Rattle.std.proofs.lemmas.List.{length-map}
+use Rattle.bt_base.specs.Ids.{same}
+use Rattle.bt_base.proofs.SameIds.{same_equiv}
+use Rattle.batch_model.specs.Finding.{change_where}
+use Rattle.batch_model.specs.Rows.{is_pool, put_pool}
+use Rattle.batch_model.specs.Dues.{has_reached, steady, pool_steady, has_timed_out, timed_out, pool_timed_out}
+use Rattle.batch_model.specs.Limits.{pool_limit}
+use Rattle.batch_model.specs.Sound.{IsWithinLimits}
+use Rattle.batch_model.specs.WellFormed.{is_pool_valid, has_pool_row, is_deleting_whole}
+use Rattle.batch_model.specs.Variants.{State, PoolRow, SampleRow, ScaleRow}
+use Rattle.batch_model.proofs.Tests.{and_first, or_first, not_true}
+use Rattle.batch_model.proofs.RowLists.{each_weaker, each_found}
+use Rattle.batch_model.proofs.ChangedRows.{each_change_same, any_change_same}
+
+-- a table whose rows change in place has as many rows
+pub change_keeps_length : {R : Type 0} (test : R → Bool) (change : R → R) (limit : ℕ) (rows : List R) → length rows ≤ limit → length (change_where test change rows) ≤ limit
+change_keeps_length test change limit rows h = rw length-map h
+
+module _ (s : State) (pool : PoolRow) where
+  -- pools that have rows still have them
+  row_kept : (id : List ℕ) → has_pool_row s id ≡ true → has_pool_row (put_pool pool s) id ≡ true
+  row_kept id k =
+      any_change_same (is_pool pool.id) (λ (old : PoolRow). pool) (is_pool id) (λ x t. sym (same_equiv.congr x.id pool.id id t)) s.pools ∙ k
+
+  -- a valid pool that is not being deleted, in the place of the one with its key
+  pub limited_pool_put : IsWithinLimits s → is_pool_valid s.moment pool ≡ true → not pool.deleting ≡ true → IsWithinLimits (put_pool pool s)
+  limited_pool_put h valid kept = record {
+    rows = record {
+      moment = h.rows.moment;
+      pools = each_change_same (is_pool pool.id) (λ (old : PoolRow). pool) (is_pool_valid s.moment) (λ x t p. valid) s.pools h.rows.pools;
+      nodes = h.rows.nodes;
+      jobs = h.rows.jobs;
+      tasks = h.rows.tasks;
+      runs = h.rows.runs;
+      samples = h.rows.samples;
+      scales = h.rows.scales;
+    };
+    counts = record {
+      pools = change_keeps_length (is_pool pool.id) (λ (old : PoolRow). pool) pool_limit s.pools h.counts.pools;
+      jobs = h.counts.jobs;
+      tasks = h.counts.tasks;
+      first_node = h.counts.first_node;
+      next_node = h.counts.next_node;
+      first_run = h.counts.first_run;
+      next_run = h.counts.next_run;
+    };
+    quiet = h.quiet;
+    pools = record {
+      deleting = each_change_same (is_pool pool.id) (λ (old : PoolRow). pool) (is_deleting_whole s) (λ x t p. or_first _ kept) s.pools h.pools.deleting;
+      pools_of_scales =
+          each_weaker (λ (scale : ScaleRow). has_pool_row s scale.pool) (λ (scale : ScaleRow). has_pool_row (put_pool pool s) scale.pool)
+          (λ scale. row_kept scale.pool) s.scales h.pools.pools_of_scales;
+      pools_of_samples =
+          each_weaker (λ (sample : SampleRow). has_pool_row s sample.pool) (λ (sample : SampleRow). has_pool_row (put_pool pool s) sample.pool)
+          (λ sample. row_kept sample.pool) s.samples h.pools.pools_of_samples;
+      labels = h.pools.labels;
+      order = h.pools.order;
+      covered = h.pools.covered;
+      kept = h.pools.kept;
+    };
+    built = record { tries = h.built.tries; preps = h.built.preps };
+  }
+
+module _ (s : State) (pool : PoolRow) (test : PoolRow → Bool) (h : IsWithinLimits s) (f : find test s.pools ≡ Some pool) where
+  -- the pool is valid
+  pool_valid : is_pool_valid s.moment pool ≡ true
+  pool_valid = each_found (is_pool_valid s.moment) test pool s.pools f h.rows.pools
+
+  -- a pool that has reached its target is steady
+  pub limited_steady : has_reached s pool ≡ true → IsWithinLimits (pool_steady s pool).state
+  limited_steady k = limited_pool_put s (steady pool) h pool_valid (and_first _ _ (and_first _ _ (and_first _ _ k)))
+
+  -- a pool that has timed out is steady, too
+  pub limited_timed_out : has_timed_out s pool ≡ true → IsWithinLimits (pool_timed_out s pool).state
+  limited_timed_out k = limited_pool_put s (timed_out pool) h pool_valid (and_first _ _ (and_first _ _ k))
