@@ -26,4 +26,5 @@ pub mod LimitsAdded
 pub mod LimitsPools
 pub mod LimitsTasks
 pub mod LimitsPlaced
+pub mod LimitsRuns
 pub mod EventSound
