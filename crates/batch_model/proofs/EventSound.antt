@@ -1,7 +1,8 @@
--- Each event leaves sound tables sound.
-use Rattle.std.proofs.Common.{◌≡◌, ℕ, true, false, nat_le, List, length, Option, Some, None, is_some, inl, inr, refl, sym, subst}
+-- Each event leaves consistent tables consistent, and sound tables sound.
+use Rattle.std.proofs.Common.{◌≡◌, ℕ, ◌≤◌, true, false, nat_le, List, length, Option, Some, None, is_some, inl, inr, refl, sym, subst}
 use Rattle.std.specs.List.{find}
 use Rattle.std.proofs.lemmas.Bool.Decides.{Decides-eqb}
+use Rattle.bt_base.specs.Moments.{last_moment}
 use Rattle.bt_base.proofs.SameIds.{same_equiv}
 use Rattle.bt_rows.specs.declared.event.EventKind.{EventKind}
 use Rattle.bt_rows.specs.declared.event.EventKind.TheVariants.{AddPool, DeletePool, Resize, StopResize, EnableAutoscale, DisableAutoscale, EvaluateAutoscale, AddJob, PatchJob, DisableJob, EnableJob, TerminateJob, DeleteJob, AddTask, AddTasks, DeleteTask, TerminateTask, ReactivateTask, Take, End, Sample, Tick}
@@ -10,13 +11,14 @@ use Rattle.bt_rows.specs.declared.event.JobSpec.{JobSpec}
 use Rattle.bt_rows.specs.declared.event.TaskSpec.{TaskSpec}
 use Rattle.bt_rows.specs.declared.refusal.Refusal.{Refusal}
 use Rattle.bt_rows.specs.declared.refusal.Refusal.TheVariants.{PoolNotFound, JobNotFound, RunNotFound}
+use Rattle.bt_rows.specs.Ranges.{is_event_in_range}
 use Rattle.batch_model.specs.Steps.{Answered}
 use Rattle.batch_model.specs.Rows.{is_pool, is_job, is_task, is_run, pool_of, job_of, task_of, run_of}
 use Rattle.batch_model.specs.Events.{for_row, add_pool, add_job, add_job_in, has_long_needs, add_task, take_run, end_run, event_now, event_step, at_moment}
 use Rattle.batch_model.specs.Pools.{new_pool}
 use Rattle.batch_model.specs.Jobs.{is_past, new_job}
 use Rattle.batch_model.specs.Limits.{pool_limit, job_limit, task_limit}
-use Rattle.batch_model.specs.Sound.{IsConsistent}
+use Rattle.batch_model.specs.Sound.{IsConsistent, IsSound}
 use Rattle.batch_model.specs.WellFormed.{has_job_row}
 use Rattle.batch_model.specs.Variants.{State, PoolRow, JobRow, RunRow, RunState, Waiting, Queued, Taken, Ended, Withdrawn, Ending}
 use Rattle.batch_model.proofs.Tests.{passes_or_not}
@@ -27,6 +29,8 @@ use Rattle.batch_model.proofs.JobAdded.{consistent_job_added}
 use Rattle.batch_model.proofs.TaskAdded.{consistent_task_added}
 use Rattle.batch_model.proofs.RunTaken.{consistent_taken}
 use Rattle.batch_model.proofs.RunEnded.{consistent_ended}
+use Rattle.batch_model.proofs.UnendedRuns.{UnendedRunsHaveNoEnd}
+use Rattle.batch_model.proofs.LimitsEvent.{own_number, limited_by_event}
 
 -- refusals and rows
 
@@ -91,11 +95,6 @@ module _ (seats : ℕ) (s : State) (h : IsConsistent seats s) where
     ]
   ]
 
-  -- the run with a number is the one with its own
-  own_number : (number : ℕ) (run : RunRow) → run_of s number ≡ Some run → find (is_run run.number) s.runs ≡ Some run
-  own_number number run e =
-      subst (λ n. find (is_run n) s.runs ≡ Some run) (sym ((Decides-eqb run.number number).0 (find_test (is_run number) run s.runs e))) e
-
   -- `take`: only a queued run is taken
   by_take_in : (run : RunRow) (state : RunState) → run.state ≡ state → find (is_run run.number) s.runs ≡ Some run → IsConsistent seats (take_run s run).state
   by_take_in run Waiting e there = rw e h
@@ -105,7 +104,7 @@ module _ (seats : ℕ) (s : State) (h : IsConsistent seats s) where
   by_take_in run Withdrawn e there = rw e h
 
   by_take : (number : ℕ) (run : RunRow) → run_of s number ≡ Some run → IsConsistent seats (take_run s run).state
-  by_take number run there = by_take_in run run.state refl (own_number number run there)
+  by_take number run there = by_take_in run run.state refl (own_number s number run there)
 
   -- `end`: only a taken run is ended
   by_end_in : (ending : Ending) (run : RunRow) (state : RunState) → run.state ≡ state → find (is_run run.number) s.runs ≡ Some run → IsConsistent seats (end_run s ending run).state
@@ -116,7 +115,7 @@ module _ (seats : ℕ) (s : State) (h : IsConsistent seats s) where
   by_end_in ending run Withdrawn e there = rw e h
 
   by_end : (number : ℕ) (ending : Ending) (run : RunRow) → run_of s number ≡ Some run → IsConsistent seats (end_run s ending run).state
-  by_end number ending run there = by_end_in ending run run.state refl (own_number number run there)
+  by_end number ending run there = by_end_in ending run run.state refl (own_number s number run there)
 
   -- each event at the tables' moment
   pub consistent_now : (event : EventKind) → IsConsistent seats (event_now event s).state
@@ -143,6 +142,13 @@ module _ (seats : ℕ) (s : State) (h : IsConsistent seats s) where
   consistent_now (Sample pool given) = h
   consistent_now Tick = h
 
--- each event leaves sound tables sound
+-- each event leaves consistent tables consistent
 pub consistent_by_event : (seats moment : ℕ) (event : EventKind) (s : State) → IsConsistent seats s → IsConsistent seats (event_step moment event s).state
 consistent_by_event seats moment event s h = consistent_now seats (at_moment moment s) (consistent_moment seats moment s h) event
+
+-- each event leaves sound tables sound, as long as unended runs have no end
+pub sound_by_event : (seats moment : ℕ) (event : EventKind) (s : State) → moment ≤ last_moment → is_event_in_range event ≡ true → IsSound seats s → UnendedRunsHaveNoEnd s → IsSound seats (event_step moment event s).state
+sound_by_event seats moment event s last in_range h unended = record {
+  consistent = consistent_by_event seats moment event s h.consistent;
+  limited = limited_by_event seats moment event s last in_range h unended;
+}

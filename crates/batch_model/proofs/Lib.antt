@@ -27,4 +27,6 @@ pub mod LimitsPools
 pub mod LimitsTasks
 pub mod LimitsPlaced
 pub mod LimitsRuns
+pub mod UnendedRuns
+pub mod LimitsEvent
 pub mod EventSound

@@ -1,17 +1,17 @@
 -- Tables stay within the limits when the resize of a pool ends.
-use Rattle.std.proofs.Common.{◌≡◌, ℕ, ◌≤◌, Bool, true, false, not, List, Option, Some, find, length, sym, ◌∙◌, subst}
+use Rattle.std.proofs.Common.{◌≡◌, ℕ, ◌≤◌, Bool, true, false, not, List, Option, Some, find, length, ◌⊎◌, inl, inr, sym, ◌∙◌}
 use Rattle.std.proofs.lemmas.List.{length-map}
 use Rattle.bt_base.specs.Ids.{same}
 use Rattle.bt_base.proofs.SameIds.{same_equiv}
 use Rattle.batch_model.specs.Finding.{change_where}
 use Rattle.batch_model.specs.Rows.{is_pool, put_pool}
-use Rattle.batch_model.specs.Dues.{has_reached, steady, pool_steady, has_timed_out, timed_out, pool_timed_out}
+use Rattle.batch_model.specs.Dues.{has_reached, steady, pool_steady, has_timed_out, timed_out, pool_timed_out, ends_resize}
 use Rattle.batch_model.specs.Limits.{pool_limit}
 use Rattle.batch_model.specs.Sound.{IsWithinLimits}
 use Rattle.batch_model.specs.WellFormed.{is_pool_valid, has_pool_row, is_deleting_whole}
 use Rattle.batch_model.specs.Variants.{State, PoolRow, SampleRow, ScaleRow}
-use Rattle.batch_model.proofs.Tests.{and_first, or_first, not_true}
-use Rattle.batch_model.proofs.RowLists.{each_weaker, each_found}
+use Rattle.batch_model.proofs.Tests.{and_first, or_first, or_cases}
+use Rattle.batch_model.proofs.RowLists.{each_weaker, each_found, find_test}
 use Rattle.batch_model.proofs.ChangedRows.{each_change_same, any_change_same}
 
 -- a table whose rows change in place has as many rows
@@ -63,15 +63,23 @@ module _ (s : State) (pool : PoolRow) where
     built = record { tries = h.built.tries; preps = h.built.preps };
   }
 
-module _ (s : State) (pool : PoolRow) (test : PoolRow → Bool) (h : IsWithinLimits s) (f : find test s.pools ≡ Some pool) where
+module _ (s : State) (pool : PoolRow) (h : IsWithinLimits s) (f : find (ends_resize s) s.pools ≡ Some pool) where
   -- the pool is valid
   pool_valid : is_pool_valid s.moment pool ≡ true
-  pool_valid = each_found (is_pool_valid s.moment) test pool s.pools f h.rows.pools
+  pool_valid = each_found (is_pool_valid s.moment) (ends_resize s) pool s.pools f h.rows.pools
+
+  -- it is not being deleted
+  pool_kept : not pool.deleting ≡ true
+  pool_kept = either (or_cases (has_reached s pool) (has_timed_out s pool) (find_test (ends_resize s) pool s.pools f))
+    where
+      either : (has_reached s pool ≡ true) ⊎ (has_timed_out s pool ≡ true) → not pool.deleting ≡ true
+      either (inl k) = and_first _ _ (and_first _ _ (and_first _ _ k))
+      either (inr k) = and_first _ _ (and_first _ _ k)
 
   -- a pool that has reached its target is steady
-  pub limited_steady : has_reached s pool ≡ true → IsWithinLimits (pool_steady s pool).state
-  limited_steady k = limited_pool_put s (steady pool) h pool_valid (and_first _ _ (and_first _ _ (and_first _ _ k)))
+  pub limited_steady : IsWithinLimits (pool_steady s pool).state
+  limited_steady = limited_pool_put s (steady pool) h pool_valid pool_kept
 
   -- a pool that has timed out is steady, too
-  pub limited_timed_out : has_timed_out s pool ≡ true → IsWithinLimits (pool_timed_out s pool).state
-  limited_timed_out k = limited_pool_put s (timed_out pool) h pool_valid (and_first _ _ (and_first _ _ k))
+  pub limited_timed_out : IsWithinLimits (pool_timed_out s pool).state
+  limited_timed_out = limited_pool_put s (timed_out pool) h pool_valid pool_kept
