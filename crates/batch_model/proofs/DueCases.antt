@@ -1,22 +1,28 @@
 -- Which rows a due step comes from.
-use Rattle.std.proofs.Common.{◌≡◌, ℕ, Bool, true, false, not, ◌&&◌, nat_eq, List, [], ◌∷◌, Option, Some, None, find, option_map, option_and_then, ◌⊎◌, inl, inr, refl, subst}
+use Rattle.std.proofs.Common.{◌≡◌, ℕ, Bool, true, false, not, ◌&&◌, nat_eq, List, [], ◌∷◌, Option, Some, None, find, is_some, option_map, option_and_then, cond, ◌⊎◌, inl, inr, refl, subst}
 use Rattle.batch_model.specs.Finding.{or_else, first_of, find_map, only_if, has_number_left}
 use Rattle.batch_model.specs.Rows.{pool_of}
 use Rattle.batch_model.specs.Tasks.{main_ending}
 use Rattle.batch_model.specs.Pools.{free_seat}
-use Rattle.batch_model.specs.Settling.{is_to_complete, complete, settle}
+use Rattle.batch_model.specs.Settling.{complete, is_to_requeue, requeue, is_to_settle, complete_as_ended, settle}
 use Rattle.batch_model.specs.Placing.{places_tasks, is_placeable, fits, place, place_on, place_in, place_of_job, place_first}
-use Rattle.batch_model.specs.Dues.{settle_first, has_reached, pool_steady, end_resize, lacks_node, node_added, add_on, add_node, due_step}
+use Rattle.batch_model.specs.Dues.{settle_first, has_reached, pool_steady, pool_timed_out, ends_resize, resize_ended, end_resize, lacks_node, node_added, add_on, add_node, due_step}
 use Rattle.batch_model.specs.Steps.{DueStep}
 use Rattle.batch_model.specs.Variants.{State, PoolRow, NodeRow, JobRow, TaskRow, Ending}
-use Rattle.batch_model.proofs.Tests.{and_second}
+use Rattle.batch_model.proofs.Tests.{and_first, and_second, not_true}
 
--- a case for each rule, with the rows that it found
+-- a task of the job can be placed
+abbrev pub has_placing : State → JobRow → Bool
+has_placing s job = is_some (place_of_job s job)
+
+-- a case for each rule, with the rows that it found and what its tests say of them
 pub data IsDue (seats : ℕ) (s : State) : DueStep → Type 0 where
-  completes : (task : TaskRow) (ending : Ending) → find (is_to_complete s) s.tasks ≡ Some task → main_ending s task ≡ Some ending → IsDue seats s (complete s task ending)
-  steadies : (pool : PoolRow) → find (has_reached s) s.pools ≡ Some pool → IsDue seats s (pool_steady s pool)
-  adds : (seat : ℕ) (pool : PoolRow) → free_seat seats s ≡ Some seat → find (lacks_node s) s.pools ≡ Some pool → IsDue seats s (node_added s seat pool)
-  places : (job : JobRow) (pool : PoolRow) (node : NodeRow) (task : TaskRow) → pool_of s job.pool ≡ Some pool → nat_eq pool.slots 1 ≡ true → find (fits s pool) s.nodes ≡ Some node → find (is_placeable job) s.tasks ≡ Some task → IsDue seats s (place s node task)
+  requeues : (task : TaskRow) → find (is_to_settle s) s.tasks ≡ Some task → is_to_requeue s task ≡ true → IsDue seats s (requeue s task)
+  completes : (task : TaskRow) (ending : Ending) → find (is_to_settle s) s.tasks ≡ Some task → is_to_requeue s task ≡ false → main_ending s task ≡ Some ending → IsDue seats s (complete s task ending)
+  steadies : (pool : PoolRow) → find (ends_resize s) s.pools ≡ Some pool → has_reached s pool ≡ true → IsDue seats s (pool_steady s pool)
+  times_out : (pool : PoolRow) → find (ends_resize s) s.pools ≡ Some pool → has_reached s pool ≡ false → IsDue seats s (pool_timed_out s pool)
+  adds : (seat : ℕ) (pool : PoolRow) → has_number_left s.next_run ≡ true → has_number_left s.next_node ≡ true → free_seat seats s ≡ Some seat → find (lacks_node s) s.pools ≡ Some pool → IsDue seats s (node_added s seat pool)
+  places : (job : JobRow) (pool : PoolRow) (node : NodeRow) (task : TaskRow) → has_number_left s.next_run ≡ true → find (has_placing s) s.jobs ≡ Some job → places_tasks job ≡ true → pool_of s job.pool ≡ Some pool → pool.deleting ≡ false → nat_eq pool.slots 1 ≡ true → find (fits s pool) s.nodes ≡ Some node → find (is_placeable job) s.tasks ≡ Some task → IsDue seats s (place s node task)
 
 module _ {A B : Type 0} where
   -- a value made of another, which there is
@@ -41,30 +47,45 @@ module _ {A : Type 0} where
   from_only_if false o y h = cc
 
 module _ {A Q : Type 0} where
-  -- what some item gives
-  from_first : (give : Q → Option A) (rows : List Q) (y : A) → find_map give rows ≡ Some y → (x : Q) × (give x ≡ Some y)
+  -- the first row that gives something, and what it gives
+  abbrev First : (Q → Option A) → List Q → A → Type 0
+  First give rows y = (x : Q) × (give x ≡ Some y) × (find (λ row. is_some (give row)) rows ≡ Some x)
+
+  first_cons : (give : Q → Option A) (x : Q) (rows : List Q) (y : A) (o : Option A) → give x ≡ o → or_else o (find_map give rows) ≡ Some y → (find_map give rows ≡ Some y → First give rows y) → First give (x ∷ rows) y
+  first_cons give x rows y None e h ih =
+      let later = ih h in (later.0, later.1, rw e later.2)
+  first_cons give x rows y (Some z) e h ih = let is : give x ≡ Some y = cc in (x, is, rw is refl)
+
+  -- what the first row gives that gives something
+  from_first : (give : Q → Option A) (rows : List Q) (y : A) → find_map give rows ≡ Some y → First give rows y
   from_first give [] y h = cc
-  from_first give (x ∷ rows) y h = either (from_else (give x) (find_map give rows) y h) (from_first give rows y)
-    where
-      either : (give x ≡ Some y) ⊎ (find_map give rows ≡ Some y) → (find_map give rows ≡ Some y → (z : Q) × (give z ≡ Some y)) → (z : Q) × (give z ≡ Some y)
-      either (inl e) ih = (x, e)
-      either (inr e) ih = ih e
+  from_first give (x ∷ rows) y h = first_cons give x rows y (give x) refl h (from_first give rows y)
 
 module _ (seats : ℕ) (s : State) (step : DueStep) where
   -- each rule
 
-  -- a task is completed
+  -- a task is requeued or completed
+  settles : (task : TaskRow) (b : Bool) → find (is_to_settle s) s.tasks ≡ Some task → is_to_requeue s task ≡ b → cond b (Some (requeue s task)) (complete_as_ended s task) ≡ Some step → IsDue seats s step
+  settles task true found e h =
+      let is : requeue s task ≡ step = cc in subst (IsDue seats s) is (requeues task found e)
+  settles task false found e h =
+      let made = from_map (complete s task) (main_ending s task) step h in
+      subst (IsDue seats s) made.1 (completes task made.0 found e made.2)
+
   from_settling : settle_first s ≡ Some step → IsDue seats s step
   from_settling h =
-      let found = from_then (settle s) (find (is_to_complete s) s.tasks) step h in
-      let made = from_map (complete s found.0) (main_ending s found.0) step found.1 in
-      subst (IsDue seats s) made.1 (completes found.0 made.0 found.2 made.2)
+      let found = from_then (settle s) (find (is_to_settle s) s.tasks) step h in
+      settles found.0 (is_to_requeue s found.0) found.2 refl found.1
 
-  -- a pool is steady
+  -- a pool is steady, as it has reached its target or its timeout is over
+  ends : (pool : PoolRow) (b : Bool) → find (ends_resize s) s.pools ≡ Some pool → has_reached s pool ≡ b → cond b (pool_steady s pool) (pool_timed_out s pool) ≡ step → IsDue seats s step
+  ends pool true found e is = subst (IsDue seats s) is (steadies pool found e)
+  ends pool false found e is = subst (IsDue seats s) is (times_out pool found e)
+
   from_resizing : end_resize s ≡ Some step → IsDue seats s step
   from_resizing h =
-      let found = from_map (pool_steady s) (find (has_reached s) s.pools) step h in
-      subst (IsDue seats s) found.1 (steadies found.0 found.2)
+      let found = from_map (resize_ended s) (find (ends_resize s) s.pools) step h in
+      ends found.0 (has_reached s found.0) found.2 refl found.1
 
   -- a pool gets a node
   from_adding : add_node seats s ≡ Some step → IsDue seats s step
@@ -72,7 +93,8 @@ module _ (seats : ℕ) (s : State) (step : DueStep) where
       let left = from_only_if (has_number_left s.next_run && has_number_left s.next_node) (option_and_then (add_on s) (free_seat seats s)) step h in
       let seated = from_then (add_on s) (free_seat seats s) step left.1 in
       let found = from_map (node_added s seated.0) (find (lacks_node s) s.pools) step seated.1 in
-      subst (IsDue seats s) found.1 (adds seated.0 found.0 seated.2 found.2)
+      subst (IsDue seats s) found.1
+      (adds seated.0 found.0 (and_first (has_number_left s.next_run) (has_number_left s.next_node) left.0) (and_second (has_number_left s.next_run) (has_number_left s.next_node) left.0) seated.2 found.2)
 
   -- a task is placed
   from_placing : place_first s ≡ Some step → IsDue seats s step
@@ -85,7 +107,7 @@ module _ (seats : ℕ) (s : State) (step : DueStep) where
       let node = from_then (place_on s job.0) (find (fits s pool.0) s.nodes) step narrow.1 in
       let task = from_map (place s node.0) (find (is_placeable job.0) s.tasks) step node.1 in
       subst (IsDue seats s) {x = place s node.0 task.0} task.1
-      (places job.0 pool.0 node.0 task.0 pool.2 (and_second (not pool.0.deleting) (nat_eq pool.0.slots 1) narrow.0) node.2 task.2)
+      (places job.0 pool.0 node.0 task.0 left.0 job.2 plain.0 pool.2 (not_true pool.0.deleting (and_first (not pool.0.deleting) (nat_eq pool.0.slots 1) narrow.0)) (and_second (not pool.0.deleting) (nat_eq pool.0.slots 1) narrow.0) node.2 task.2)
 
   -- one of two cases
   either : {A B : Type 0} → (A → IsDue seats s step) → (B → IsDue seats s step) → A ⊎ B → IsDue seats s step
