@@ -1,29 +1,31 @@
 -- Each due step lowers the rank.
-use Rattle.std.proofs.Common.{◌≡◌, ℕ, ◌+◌, ◌<◌, ◌≤◌, Bool, true, false, not, ◌&&◌, ◌||◌, List, Some, cond, find, refl, arith}
+use Rattle.std.proofs.Common.{◌≡◌, ℕ, ◌+◌, ◌<◌, ◌≤◌, Bool, true, false, not, ◌&&◌, ◌||◌, List, Option, Some, cond, find, inl, inr, refl, arith}
 use Rattle.std.proofs.lemmas.Bool.Decides.{Decides-ltb, Decides-eqb}
 use Rattle.std.proofs.lemmas.List.Sums.{sum_by_push, sum_by-le-sum_by}
 use Rattle.bt_base.proofs.SameIds.{same_equiv}
 use Rattle.bt_base.proofs.Turns.{lex_lt, lex_first, lex_next}
 use Rattle.bt_rows.specs.Keys.{same_pool, same_pool_equiv, same_task, same_task_equiv}
 use Rattle.bt_rows.proofs.DistinctRows.{found_first, find-passes, sum_by-less}
+use Rattle.batch_model.specs.Rows.{put_pool}
 use Rattle.batch_model.specs.Runs.{is_busy_for, work_run}
 use Rattle.batch_model.specs.Tasks.{is_active, is_placed, is_completed, is_busy, completed}
 use Rattle.batch_model.specs.Pools.{is_resizing, is_steady, staying_count}
 use Rattle.batch_model.specs.Nodes.{stays}
 use Rattle.batch_model.specs.Endings.{closed_by}
-use Rattle.batch_model.specs.Settling.{is_to_complete, complete}
+use Rattle.batch_model.specs.Settling.{is_over, complete, is_to_settle, active_again, requeue}
 use Rattle.batch_model.specs.Placing.{is_placeable, placed, place}
-use Rattle.batch_model.specs.Dues.{has_reached, steady, pool_steady, lacks_node, new_node, node_added, due_step}
+use Rattle.batch_model.specs.Dues.{has_reached, has_timed_out, ends_resize, lacks_node, new_node, node_added, due_step}
 use Rattle.batch_model.specs.Steps.{DueStep}
 use Rattle.batch_model.specs.Measure.{one_unless, steps_of_pool, steps_of_task, rank}
 use Rattle.batch_model.specs.Sound.{IsSound}
-use Rattle.batch_model.specs.Variants.{State, PoolRow, NodeRow, JobRow, TaskRow, Alloc, Steady, Resizing, Stopping, TaskStage, Active, Placed, Completed, Ending, TaskRun, Queued}
+use Rattle.batch_model.specs.Variants.{State, PoolRow, NodeRow, JobRow, TaskRow, Alloc, Steady, Resizing, Stopping, ResizeError, AllocationTimedOut, TaskStage, Active, Placed, Completed, Ending, TaskRun, Queued}
 use Rattle.batch_model.proofs.KeyedLists.{sum_by-put_row}
-use Rattle.batch_model.proofs.DueCases.{IsDue, completes, steadies, adds, places, due_cases}
-use Rattle.batch_model.proofs.Tests.{and_first, and_second, and_true}
+use Rattle.batch_model.proofs.DueCases.{IsDue, requeues, completes, steadies, times_out, adds, places, due_cases}
+use Rattle.batch_model.proofs.Tests.{and_first, and_second, and_true, or_cases, not_true}
 use Rattle.batch_model.proofs.RowLists.{any_append, any_append_new}
+use Rattle.batch_model.proofs.SettledRows.{over_if_settled}
 
--- a pool that becomes steady
+-- a pool whose resize ends
 
 -- a resizing pool isn't steady
 resizing_counts : (alloc : Alloc) → is_resizing alloc ≡ true → one_unless (is_steady alloc) ≡ 1
@@ -35,12 +37,27 @@ resizing_counts Stopping h = cc
 reached_resizes : (s : State) (pool : PoolRow) → has_reached s pool ≡ true → is_resizing pool.alloc ≡ true
 reached_resizes s pool h = and_second (not pool.deleting) _ (and_first _ _ (and_first _ _ h))
 
+-- so is one whose timeout is over
+timed_out_resizes : (s : State) (pool : PoolRow) → has_timed_out s pool ≡ true → is_resizing pool.alloc ≡ true
+timed_out_resizes s pool h = and_second (not pool.deleting) _ (and_first _ _ h)
+
+-- a pool whose resize ends is resizing
+ending_resizes : (s : State) (pool : PoolRow) → ends_resize s pool ≡ true → is_resizing pool.alloc ≡ true
+ending_resizes s pool h = elim (or_cases (has_reached s pool) (has_timed_out s pool) h) [
+  | inl e ↦ reached_resizes s pool e
+  | inr e ↦ timed_out_resizes s pool e
+]
+
+-- the pool at rest, with such an error
+abbrev at_rest : Option ResizeError → PoolRow → PoolRow
+at_rest why pool = record pool { alloc = Steady; error = why }
+
 -- a pool less is to become steady
-steady_falls : (seats : ℕ) (s : State) (pool : PoolRow) → IsSound seats s → find (has_reached s) s.pools ≡ Some pool → lex_lt (rank (pool_steady s pool).state) (rank s) ≡ true
-steady_falls seats s pool h f =
-    let first = found_first same_pool same_pool_equiv (has_reached s) pool s.pools h.keys.pools f in
-    let total = sum_by-put_row same_pool same_pool_equiv pool s.pools h.keys.pools first (steps_of_pool s) (steady pool) (λ x. refl) in
-    let one : one_unless (is_steady pool.alloc) ≡ 1 = resizing_counts pool.alloc (reached_resizes s pool (find-passes (has_reached s) pool s.pools f)) in
+rest_falls : (seats : ℕ) (s : State) (pool : PoolRow) (why : Option ResizeError) → IsSound seats s → find (ends_resize s) s.pools ≡ Some pool → lex_lt (rank (put_pool (at_rest why pool) s)) (rank s) ≡ true
+rest_falls seats s pool why h f =
+    let first = found_first same_pool same_pool_equiv (ends_resize s) pool s.pools h.consistent.keys.pools f in
+    let total = sum_by-put_row same_pool same_pool_equiv pool s.pools h.consistent.keys.pools first (steps_of_pool s) (at_rest why pool) (λ x. refl) in
+    let one : one_unless (is_steady pool.alloc) ≡ 1 = resizing_counts pool.alloc (ending_resizes s pool (find-passes (ends_resize s) pool s.pools f)) in
     lex_first _ _ _ _ (omega (arith, total, one)) refl
 
 -- a node that is added
@@ -84,17 +101,42 @@ placed_counts Completed h = cc
 ends_one : {b : Bool} → b ≡ false → cond {A = ℕ} (not b) 1 0 ≡ 1
 ends_one h = rw h refl
 
--- a task to be completed is placed
-to_complete_placed : (s : State) (task : TaskRow) → is_to_complete s task ≡ true → is_placed task.stage ≡ true
-to_complete_placed s task h = and_first _ _ (and_first _ _ (and_first _ _ (and_first _ _ (and_first _ _ h))))
+-- a task to be settled is placed
+to_settle_placed : (s : State) (task : TaskRow) → find (is_to_settle s) s.tasks ≡ Some task → is_placed task.stage ≡ true
+to_settle_placed s task f = and_first _ _ (over_if_settled s task (find-passes (is_to_settle s) task s.tasks f))
 
 -- a task less is to end, and pools are as they were
-completed_falls : (seats : ℕ) (s : State) (task : TaskRow) (ending : Ending) → IsSound seats s → find (is_to_complete s) s.tasks ≡ Some task → lex_lt (rank (complete s task ending).state) (rank s) ≡ true
+completed_falls : (seats : ℕ) (s : State) (task : TaskRow) (ending : Ending) → IsSound seats s → find (is_to_settle s) s.tasks ≡ Some task → lex_lt (rank (complete s task ending).state) (rank s) ≡ true
 completed_falls seats s task ending h f =
-    let first = found_first same_task same_task_equiv (is_to_complete s) task s.tasks h.keys.tasks f in
-    let total = sum_by-put_row same_task same_task_equiv task s.tasks h.keys.tasks first (λ (t : TaskRow). cond {A = ℕ} (not (is_completed t.stage)) 1 0) (completed (closed_by s.moment ending) task) (λ x. refl) in
-    let one : cond {A = ℕ} (not (is_completed task.stage)) 1 0 ≡ 1 = ends_one (placed_counts task.stage (to_complete_placed s task (find-passes (is_to_complete s) task s.tasks f))) in
+    let first = found_first same_task same_task_equiv (is_to_settle s) task s.tasks h.consistent.keys.tasks f in
+    let total = sum_by-put_row same_task same_task_equiv task s.tasks h.consistent.keys.tasks first (λ (t : TaskRow). cond {A = ℕ} (not (is_completed t.stage)) 1 0) (completed (closed_by s.moment ending) task) (λ x. refl) in
+    let one : cond {A = ℕ} (not (is_completed task.stage)) 1 0 ≡ 1 = ends_one (placed_counts task.stage (to_settle_placed s task f)) in
     lex_next _ _ _ _ (omega arith) (lex_first _ _ _ _ (omega (arith, total, one)) refl)
+
+-- a task that is requeued
+
+-- a placed task isn't active
+placed_inactive : (stage : TaskStage) → is_placed stage ≡ true → is_active stage ≡ false
+placed_inactive Active h = cc
+placed_inactive Placed h = refl
+placed_inactive Completed h = cc
+
+-- a placed task that is not busy is to be settled and placed
+steps_if_over : (s : State) (task : TaskRow) → is_placed task.stage ≡ true → is_busy s task ≡ false → steps_of_task s task ≡ 2
+steps_if_over s task h k = rw (placed_inactive task.stage h, h, k) refl
+
+-- a task is only to be placed that was to be settled before, and pools and ends are as they were
+requeued_falls : (seats : ℕ) (s : State) (task : TaskRow) → IsSound seats s → find (is_to_settle s) s.tasks ≡ Some task → lex_lt (rank (requeue s task).state) (rank s) ≡ true
+requeued_falls seats s task h f =
+    let over : is_over s task ≡ true = over_if_settled s task (find-passes (is_to_settle s) task s.tasks f) in
+    let placed_before : is_placed task.stage ≡ true = and_first (is_placed task.stage) _ over in
+    let free : is_busy s task ≡ false = not_true (is_busy s task) (and_second (is_placed task.stage) _ over) in
+    let first = found_first same_task same_task_equiv (is_to_settle s) task s.tasks h.consistent.keys.tasks f in
+    let ends = sum_by-put_row same_task same_task_equiv task s.tasks h.consistent.keys.tasks first (λ (t : TaskRow). cond {A = ℕ} (not (is_completed t.stage)) 1 0) (active_again task) (λ x. refl) in
+    let one : cond {A = ℕ} (not (is_completed task.stage)) 1 0 ≡ 1 = ends_one (placed_counts task.stage placed_before) in
+    let steps = sum_by-put_row same_task same_task_equiv task s.tasks h.consistent.keys.tasks first (steps_of_task s) (active_again task) (λ x. refl) in
+    let before : steps_of_task s task ≡ 2 = steps_if_over s task placed_before free in
+    lex_next _ _ _ _ (omega arith) (lex_next _ _ _ _ (omega (arith, ends, one)) (lex_first _ _ _ _ (omega (arith, steps, before)) refl))
 
 -- a task that is placed
 
@@ -140,10 +182,10 @@ steps_at_most s node task other =
 placed_falls : (seats : ℕ) (s : State) (job : JobRow) (node : NodeRow) (task : TaskRow) → IsSound seats s → find (is_placeable job) s.tasks ≡ Some task → lex_lt (rank (place s node task).state) (rank s) ≡ true
 placed_falls seats s job node task h f =
     let active : is_active task.stage ≡ true = placeable_active job task (find-passes (is_placeable job) task s.tasks f) in
-    let first = found_first same_task same_task_equiv (is_placeable job) task s.tasks h.keys.tasks f in
-    let ends = sum_by-put_row same_task same_task_equiv task s.tasks h.keys.tasks first (λ (t : TaskRow). cond {A = ℕ} (not (is_completed t.stage)) 1 0) (placed task) (λ x. refl) in
+    let first = found_first same_task same_task_equiv (is_placeable job) task s.tasks h.consistent.keys.tasks f in
+    let ends = sum_by-put_row same_task same_task_equiv task s.tasks h.consistent.keys.tasks first (λ (t : TaskRow). cond {A = ℕ} (not (is_completed t.stage)) 1 0) (placed task) (λ x. refl) in
     let one : cond {A = ℕ} (not (is_completed task.stage)) 1 0 ≡ 1 = ends_one (active_counts task.stage active) in
-    let steps = sum_by-put_row same_task same_task_equiv task s.tasks h.keys.tasks first (steps_of_task (place s node task).state) (placed task) (λ x. refl) in
+    let steps = sum_by-put_row same_task same_task_equiv task s.tasks h.consistent.keys.tasks first (steps_of_task (place s node task).state) (placed task) (λ x. refl) in
     let before : steps_of_task (place s node task).state task ≡ 1 = step_if_active (place s node task).state task active in
     let after : steps_of_task (place s node task).state (placed task) ≡ 0 = step_if_busy (place s node task).state task (new_run_present s node task) in
     let others = sum_by-le-sum_by (steps_of_task (place s node task).state) (steps_of_task s) s.tasks (steps_at_most s node task) in
@@ -153,10 +195,12 @@ placed_falls seats s job node task h f =
 
 -- each rule lowers the rank
 falls : (seats : ℕ) (s : State) (step : DueStep) → IsSound seats s → IsDue seats s step → lex_lt (rank step.state) (rank s) ≡ true
-falls seats s step h (completes task ending f e) = completed_falls seats s task ending h f
-falls seats s step h (steadies pool f) = steady_falls seats s pool h f
-falls seats s step h (adds seat pool free f) = node_falls s pool seat f
-falls seats s step h (places job pool node task p narrow n f) = placed_falls seats s job node task h f
+falls seats s step h (requeues task f e) = requeued_falls seats s task h f
+falls seats s step h (completes task ending f e ended) = completed_falls seats s task ending h f
+falls seats s step h (steadies pool f e) = rest_falls seats s pool pool.error h f
+falls seats s step h (times_out pool f e) = rest_falls seats s pool (Some AllocationTimedOut) h f
+falls seats s step h (adds seat pool runs_left nodes_left free f) = node_falls s pool seat f
+falls seats s step h (places job pool node task left found plain in_pool kept narrow on_node f) = placed_falls seats s job node task h f
 
 -- a due step lowers the rank
 pub falls_by_due : (seats : ℕ) (s : State) (step : DueStep) → IsSound seats s → due_step seats s ≡ Some step → lex_lt (rank step.state) (rank s) ≡ true

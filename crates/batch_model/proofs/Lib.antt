@@ -19,7 +19,9 @@ pub mod RunsMove
 pub mod RunEnded
 pub mod TasksKept
 pub mod RunTaken
+pub mod SettledRows
 pub mod Completed
+pub mod Requeued
 pub mod DueSound
 pub mod LimitsMoment
 pub mod LimitsAdded

@@ -1,11 +1,11 @@
--- Tables stay sound when a pool becomes steady.
-use Rattle.std.proofs.Common.{◌≡◌, ℕ, Bool, true, not, ◌||◌, nat_le, List, Some, find, sym, ◌∙◌}
+-- Tables stay sound when the resize of a pool ends.
+use Rattle.std.proofs.Common.{◌≡◌, ℕ, Bool, true, not, ◌||◌, nat_le, List, Some, find, refl, sym, ◌∙◌}
 use Rattle.bt_base.proofs.SameIds.{same_equiv}
 use Rattle.bt_rows.specs.Keys.{same_pool}
 use Rattle.bt_rows.specs.Lists.{AreDistinct}
-use Rattle.batch_model.specs.Rows.{is_pool}
+use Rattle.batch_model.specs.Rows.{is_pool, put_pool}
 use Rattle.batch_model.specs.Slots.{held_slots}
-use Rattle.batch_model.specs.Dues.{has_reached, steady, pool_steady}
+use Rattle.batch_model.specs.Dues.{steady, pool_steady, timed_out, pool_timed_out, ends_resize}
 use Rattle.batch_model.specs.Sound.{IsConsistent, has_slots_for}
 use Rattle.batch_model.specs.WellFormed.{has_pool_row}
 use Rattle.batch_model.specs.Variants.{State, PoolRow, NodeRow}
@@ -13,38 +13,38 @@ use Rattle.batch_model.proofs.RowLists.{each_weaker, each_found}
 use Rattle.batch_model.proofs.ChangedRows.{each_change_same, any_change_same}
 use Rattle.batch_model.proofs.DistinctLists.{distinct_change}
 
-module _ (s : State) (pool : PoolRow) where
-  -- the steady pool has the key of the pool that it takes the place of
-  has_key_left : (x y : PoolRow) → is_pool pool.id x ≡ true → same_pool (steady pool) y ≡ same_pool x y
-  has_key_left x y t = sym (same_equiv.congr x.id pool.id y.id t)
+module _ (s : State) (row : PoolRow) where
+  -- the row has the key of the pool that it takes the place of
+  has_key_left : (x y : PoolRow) → is_pool row.id x ≡ true → same_pool row y ≡ same_pool x y
+  has_key_left x y t = sym (same_equiv.congr x.id row.id y.id t)
 
   -- the same, on the right
-  has_key_right : (x y : PoolRow) → is_pool pool.id y ≡ true → same_pool x (steady pool) ≡ same_pool x y
-  has_key_right x y t = same_equiv.symm x.id pool.id ∙ sym (same_equiv.congr y.id pool.id x.id t) ∙ same_equiv.symm y.id x.id
+  has_key_right : (x y : PoolRow) → is_pool row.id y ≡ true → same_pool x row ≡ same_pool x y
+  has_key_right x y t = same_equiv.symm x.id row.id ∙ sym (same_equiv.congr y.id row.id x.id t) ∙ same_equiv.symm y.id x.id
 
   -- ids of pools stay distinct
-  pools_distinct : AreDistinct same_pool s.pools → AreDistinct same_pool (pool_steady s pool).state.pools
-  pools_distinct d = distinct_change (is_pool pool.id) (λ (old : PoolRow). steady pool) same_pool has_key_left has_key_right s.pools d
+  pub pools_distinct : AreDistinct same_pool s.pools → AreDistinct same_pool (put_pool row s).pools
+  pools_distinct d = distinct_change (is_pool row.id) (λ (old : PoolRow). row) same_pool has_key_left has_key_right s.pools d
 
   -- pools that have rows still have them
-  pool_row_kept : (id : List ℕ) → has_pool_row s id ≡ true → has_pool_row (pool_steady s pool).state id ≡ true
+  pub pool_row_kept : (id : List ℕ) → has_pool_row s id ≡ true → has_pool_row (put_pool row s) id ≡ true
   pool_row_kept id h =
-      any_change_same (is_pool pool.id) (λ (old : PoolRow). steady pool) (is_pool id) (λ x t. has_key_left x (record pool { id = id }) t) s.pools ∙ h
+      any_change_same (is_pool row.id) (λ (old : PoolRow). row) (is_pool id) (λ x t. has_key_left x (record row { id = id }) t) s.pools ∙ h
 
-  -- a node's slots still suffice
-  slots_kept : find (has_reached s) s.pools ≡ Some pool → (node : NodeRow) → has_slots_for s node ≡ true → has_slots_for (pool_steady s pool).state node ≡ true
-  slots_kept f node h =
-      each_change_same (is_pool pool.id) (λ (old : PoolRow). steady pool) has_slots
-      (λ x t p. each_found has_slots (has_reached s) pool s.pools f h) s.pools h
+  -- a node's slots still suffice, where the row has the slots of the pool that it takes the place of
+  slots_kept : (test : PoolRow → Bool) (pool : PoolRow) → row.id ≡ pool.id → row.slots ≡ pool.slots → find test s.pools ≡ Some pool → (node : NodeRow) → has_slots_for s node ≡ true → has_slots_for (put_pool row s) node ≡ true
+  slots_kept test pool ids slots f node h =
+      each_change_same (is_pool row.id) (λ (old : PoolRow). row) has_slots
+      (λ x t p. rw (ids, slots) (each_found has_slots test pool s.pools f h)) s.pools h
     where
       has_slots : PoolRow → Bool
       has_slots other = not (is_pool node.pool other) || nat_le (held_slots s node.number) other.slots
 
--- a pool that becomes steady keeps tables sound
-pub consistent_steady : (seats : ℕ) (s : State) (pool : PoolRow) → IsConsistent seats s → find (has_reached s) s.pools ≡ Some pool → IsConsistent seats (pool_steady s pool).state
-consistent_steady seats s pool h f = record {
+-- a row in place of a pool with its id and slots keeps tables sound
+pub consistent_pool_put : (seats : ℕ) (s : State) (row pool : PoolRow) (test : PoolRow → Bool) → IsConsistent seats s → row.id ≡ pool.id → row.slots ≡ pool.slots → find test s.pools ≡ Some pool → IsConsistent seats (put_pool row s)
+consistent_pool_put seats s row pool test h ids slots f = record {
   keys = record {
-    pools = pools_distinct s pool h.keys.pools;
+    pools = pools_distinct s row h.keys.pools;
     nodes = h.keys.nodes;
     jobs = h.keys.jobs;
     tasks = h.keys.tasks;
@@ -71,13 +71,21 @@ consistent_steady seats s pool h f = record {
     distinct = h.seated.distinct;
     in_range = h.seated.in_range;
     pools_of_nodes =
-        each_weaker (λ (node : NodeRow). has_pool_row s node.pool) (λ (node : NodeRow). has_pool_row (pool_steady s pool).state node.pool)
-        (λ node. pool_row_kept s pool node.pool) s.nodes h.seated.pools_of_nodes;
+        each_weaker (λ (node : NodeRow). has_pool_row s node.pool) (λ (node : NodeRow). has_pool_row (put_pool row s) node.pool)
+        (λ node. pool_row_kept s row node.pool) s.nodes h.seated.pools_of_nodes;
     nodes_of_runs = h.seated.nodes_of_runs;
   };
   belonging = h.belonging;
   ending = h.ending;
   naming = record { on_nodes = h.naming.on_nodes; of_jobs = h.naming.of_jobs };
-  slots = each_weaker (has_slots_for s) (has_slots_for (pool_steady s pool).state) (slots_kept s pool f) s.nodes h.slots;
+  slots = each_weaker (has_slots_for s) (has_slots_for (put_pool row s)) (slots_kept s row test pool ids slots f) s.nodes h.slots;
   built = record { runs = h.built.runs; nodes = h.built.nodes };
 }
+
+-- a pool that becomes steady keeps tables sound
+pub consistent_steady : (seats : ℕ) (s : State) (pool : PoolRow) → IsConsistent seats s → find (ends_resize s) s.pools ≡ Some pool → IsConsistent seats (pool_steady s pool).state
+consistent_steady seats s pool h f = consistent_pool_put seats s (steady pool) pool (ends_resize s) h refl refl f
+
+-- a pool whose timeout is over keeps tables sound
+pub consistent_timed_out : (seats : ℕ) (s : State) (pool : PoolRow) → IsConsistent seats s → find (ends_resize s) s.pools ≡ Some pool → IsConsistent seats (pool_timed_out s pool).state
+consistent_timed_out seats s pool h f = consistent_pool_put seats s (timed_out pool) pool (ends_resize s) h refl refl f
