@@ -1,19 +1,24 @@
 -- Tests of whole scripts: after each step the tables are sound, and each due step lowers the numbers that due steps lower.
 -- The tests of soundness are those of `batch_model`, which computes here.
-use Rattle.std.specs.Prelude.{ℕ, zero, suc, Bool, true, false, not, ◌&&◌, ◌||◌, nat_lt, List, [], ◌∷◌, Some, None}
+use Rattle.std.specs.Prelude.{ℕ, zero, suc, ◌+◌, Bool, true, false, not, ◌&&◌, ◌||◌, nat_eq, nat_lt, nat_le, List, [], ◌∷◌, length, Some, None}
 use Rattle.std.specs.List.{list_any, list_all}
 use Rattle.bt_base.proofs.Turns.{lex_lt}
+use Rattle.bt_base.specs.Moments.{last_moment}
 use Rattle.bt_rows.specs.Ranges.{is_from_to}
 use Rattle.bt_rows.specs.Keys.{same_pool, same_node, same_job, same_task, same_run, same_prep, same_sample, same_scale}
-use Rattle.batch_model.specs.Variants.{State, empty_state, NodeRow, RunRow}
+use Rattle.batch_model.specs.Variants.{State, empty_state, NodeRow, RunRow, SampleRow, ScaleRow}
 use Rattle.batch_model.specs.Runs.{is_main, is_unended}
 use Rattle.batch_model.specs.Nodes.{is_usable}
+use Rattle.batch_model.specs.WellFormed as well
 use Rattle.batch_model.specs.Sound as sound
+use Rattle.batch_model.specs.Finding.{last_number}
+use Rattle.batch_model.specs.Limits.{pool_limit, job_limit, task_limit}
+use Rattle.batch_model.specs.Opening.{opening}
 use Rattle.batch_model.specs.Measure.{rank}
 use Rattle.batch_model.specs.Steps.{DueStep}
 use Rattle.batch_model.specs.Dues.{due_step}
 use Rattle.batch_model.specs.Events.{event_step}
-use Rattle.model_scripts.specs.Scripts.{Call, seat_count}
+use Rattle.model_scripts.specs.Scripts.{Call, seat_count, state_after}
 
 -- no two rows are related
 abbrev pub are_distinct : {R : Type 0} → (R → R → Bool) → List R → Bool
@@ -51,13 +56,13 @@ has_new_numbers s = all_of
 -- tasks fit their stages, and rows that others name are there
 abbrev pub has_fitting_rows : State → Bool
 has_fitting_rows s = all_of
-    (list_all sound.has_fitting_marks s.tasks
-    ∷ list_all sound.is_closed_if_completed s.tasks
+    (list_all well.has_fitting_marks s.tasks
+    ∷ list_all well.is_closed_if_completed s.tasks
     ∷ list_all (λ task. nat_lt task.attempt s.next_run) s.tasks
-    ∷ list_all (λ task. sound.has_job_row s task.job) s.tasks
-    ∷ list_all (sound.has_named_job s) s.runs
-    ∷ list_all (sound.has_named_task s) s.runs
-    ∷ are_distinct sound.are_one_attempt s.runs
+    ∷ list_all (λ task. well.has_job_row s task.job) s.tasks
+    ∷ list_all (well.has_named_job s) s.runs
+    ∷ list_all (well.has_named_task s) s.runs
+    ∷ are_distinct well.are_one_attempt s.runs
     ∷ [])
 
 -- nodes sit on distinct seats and hold no more slots than their pools have, and runs are where they belong
@@ -65,7 +70,7 @@ abbrev pub has_fitting_nodes : State → Bool
 has_fitting_nodes s = all_of
     (are_distinct sound.share_seat s.nodes
     ∷ list_all (λ node. is_from_to 1 seat_count node.seat) s.nodes
-    ∷ list_all (λ node. sound.has_pool_row s node.pool) s.nodes
+    ∷ list_all (λ node. well.has_pool_row s node.pool) s.nodes
     ∷ list_all (λ node. is_usable node.stage) s.nodes
     ∷ list_all (sound.has_slots_for s) s.nodes
     ∷ list_all (sound.has_node_while_unended s) s.runs
@@ -76,9 +81,55 @@ has_fitting_nodes s = all_of
     ∷ list_all (sound.can_be_settled s) s.tasks
     ∷ [])
 
--- all of these
+-- values are in their ranges, and moments are past
+abbrev pub has_valid_rows : State → Bool
+has_valid_rows s = all_of
+    (nat_le s.moment last_moment
+    ∷ list_all (well.is_pool_valid s.moment) s.pools
+    ∷ list_all well.is_node_in_range s.nodes
+    ∷ list_all (well.is_job_valid s.moment) s.jobs
+    ∷ list_all (well.is_task_valid s.moment) s.tasks
+    ∷ list_all (well.is_run_valid s.moment) s.runs
+    ∷ list_all (well.is_sample_valid s.moment) s.samples
+    ∷ list_all well.is_scale_in_range s.scales
+    ∷ [])
+
+-- no more rows than the tables take, and counters in their ranges
+abbrev pub has_counts_in_range : State → Bool
+has_counts_in_range s = all_of
+    (nat_le (length s.pools) pool_limit
+    ∷ nat_le (length s.jobs) job_limit
+    ∷ nat_le (length s.tasks) task_limit
+    ∷ is_from_to 1 (last_number + 1) s.next_node
+    ∷ is_from_to 1 (last_number + 64) s.next_run
+    ∷ [])
+
+-- quiet jobs place nothing, pools, formulas and samples fit each other, and nothing is prepared
+abbrev pub has_fitting_pools : State → Bool
+has_fitting_pools s = all_of
+    (list_all (well.has_no_placed_if_quiet s) s.jobs
+    ∷ list_all (well.is_deleting_whole s) s.pools
+    ∷ list_all (λ (scale : ScaleRow). well.has_pool_row s scale.pool) s.scales
+    ∷ list_all (λ (sample : SampleRow). well.has_pool_row s sample.pool) s.samples
+    ∷ list_all well.has_label s.samples
+    ∷ are_distinct well.are_labels_out_of_order s.samples
+    ∷ list_all (well.is_covered s) s.samples
+    ∷ list_all (well.has_kept s) s.samples
+    ∷ list_all (λ (node : NodeRow). nat_eq node.tries 0) s.nodes
+    ∷ nat_eq (length s.preps) 0
+    ∷ [])
+
+-- the rows fit each other
+abbrev pub is_consistent : State → Bool
+is_consistent s = has_distinct_keys s && has_new_numbers s && has_fitting_rows s && has_fitting_nodes s
+
+-- the values of the rows are such as the service makes
+abbrev pub is_within_limits : State → Bool
+is_within_limits s = has_valid_rows s && has_counts_in_range s && has_fitting_pools s
+
+-- both of these
 abbrev pub is_sound : State → Bool
-is_sound s = has_distinct_keys s && has_new_numbers s && has_fitting_rows s && has_fitting_nodes s
+is_sound s = is_consistent s && is_within_limits s
 
 -- the tables after due steps to rest, and whether each of these steps was good
 pub record Tested : Type 0 where
@@ -108,3 +159,7 @@ are_good_from s (call ∷ calls) =
 -- so from empty tables
 abbrev pub is_good : List Call → Bool
 is_good calls = are_good_from empty_state calls
+
+-- the tables that the earlier calls leave are sound once they are opened, and the calls are good from there
+abbrev pub is_good_opened : List Call → List Call → Bool
+is_good_opened earlier calls = is_sound (opening (state_after earlier)) && are_good_from (opening (state_after earlier)) calls

@@ -1,7 +1,7 @@
 -- What is not built yet.
 use Rattle.std.specs.Prelude.{List, [], ◌∷◌, map, replicate, Some, None, pos, negsuc, codes, true, false}
 use Rattle.bt_rows.specs.declared.event.EventKind.{EventKind}
-use Rattle.bt_rows.specs.declared.event.EventKind.TheVariants.{AddPool, DeletePool, StopResize, DisableAutoscale, EnableJob, TerminateJob, DeleteJob, AddJob, AddTask, AddTasks, DeleteTask, TerminateTask, ReactivateTask, Take, End, Tick}
+use Rattle.bt_rows.specs.declared.event.EventKind.TheVariants.{AddPool, DeletePool, StopResize, DisableAutoscale, EnableJob, TerminateJob, DeleteJob, AddJob, AddTask, AddTasks, DeleteTask, TerminateTask, ReactivateTask, Take, End}
 use Rattle.bt_rows.specs.declared.reply.Reply.{Reply}
 use Rattle.bt_rows.specs.declared.reply.Reply.TheVariants.{Status, Refused}
 use Rattle.bt_rows.specs.declared.refusal.Refusal.TheVariants as refusal
@@ -210,11 +210,10 @@ unbuilt =
     ∷ DeleteTask (codes "j") (codes "t")
     ∷ TerminateTask (codes "j") (codes "t")
     ∷ ReactivateTask (codes "j") (codes "t")
-    ∷ Tick
     ∷ []
 
 abbrev pub replies_to_unbuilt : List Reply
 replies_to_unbuilt = map (λ event. (event_step 0 event empty_state).reply) unbuilt
 
 abbrev pub all_unreadable : List Reply
-all_unreadable = replicate 11 (Refused refusal.UnreadableBody)
+all_unreadable = replicate 10 (Refused refusal.UnreadableBody)
