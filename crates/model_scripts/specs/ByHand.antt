@@ -6,11 +6,11 @@ use Rattle.bt_rows.specs.declared.event.EventKind.TheVariants.{AddPool, AddJob, 
 use Rattle.bt_rows.specs.declared.reply.Reply.{Reply}
 use Rattle.bt_rows.specs.declared.reply.Reply.TheVariants.{Status, Refused}
 use Rattle.bt_rows.specs.declared.refusal.Refusal.TheVariants as refusal
-use Rattle.bt_rows.specs.declared.due.Outcome.TheVariants.{Success}
-use Rattle.bt_rows.specs.declared.due.ResizeEnd.TheVariants.{Reached}
+use Rattle.bt_rows.specs.declared.due.Outcome.TheVariants.{Success, Again}
+use Rattle.bt_rows.specs.declared.due.ResizeEnd.TheVariants.{Reached, TimedOut}
 use Rattle.bt_rows.specs.declared.due.Due.{Due}
 use Rattle.bt_rows.specs.declared.due.Due.TheVariants.{TaskSettled, PoolResized, NodeAdded, TaskPlaced}
-use Rattle.batch_model.specs.Variants.{State, empty_state, Alloc, Steady, Resizing, Stopping, ByRequeue, PoolRow, NodeStage, Starting, StartFailed, Leaving, NodeRow, JobState, JobActive, Disabling, Disabled, Enabling, Terminating, JobCompleted, Deleting, JobRow, Code, RunState, Waiting, Queued, Taken, Ended, Withdrawn, RunRow}
+use Rattle.batch_model.specs.Variants.{State, empty_state, Alloc, Steady, Resizing, Stopping, ByRequeue, PoolRow, NodeStage, Starting, StartFailed, Leaving, NodeRow, JobState, JobActive, Disabling, Disabled, Enabling, Terminating, JobCompleted, Deleting, JobRow, Want, WantRequeue, WantTerminate, WantWall, WantDelete, TaskRow, Code, RunState, Waiting, Queued, Taken, Ended, Withdrawn, RunRow}
 use Rattle.batch_model.specs.Steps.{DueStep}
 use Rattle.batch_model.specs.Dues.{due_step}
 use Rattle.batch_model.specs.Events.{event_step}
@@ -65,6 +65,9 @@ with_pools_in one s = record s { pools = map (λ (pool : PoolRow). record pool {
 
 abbrev pub with_pools_deleted : State → State
 with_pools_deleted s = record s { pools = map (λ (pool : PoolRow). record pool { deleting = true }) s.pools }
+
+abbrev pub moved_to : ℕ → State → State
+moved_to now s = record s { moment = now }
 
 -- runs that can be taken or ended
 
@@ -188,13 +191,63 @@ due_of_stopping = due_of (with_pools_in Stopping lacking)
 abbrev pub due_of_deleted : Option Due
 due_of_deleted = due_of (with_pools_deleted lacking)
 
+-- the ends of a resize
+
+-- a pool that has its node counts as such, also where its timeout is over
+abbrev pub due_of_reached : Option Due
+due_of_reached = due_of (moved_to 900000 (with_pools_in Resizing placed_task))
+
+abbrev pub reached_due : Option Due
+reached_due = Some (PoolResized (codes "p") Reached)
+
+-- a pool that lacks a node gets none where its timeout is over
+abbrev pub due_of_late : Option Due
+due_of_late = due_of (moved_to 900000 lacking)
+
+abbrev pub timed_out_due : Option Due
+timed_out_due = Some (PoolResized (codes "p") TimedOut)
+
+-- one that is being deleted, or is steady, does not time out
+abbrev pub due_of_late_deleted : Option Due
+due_of_late_deleted = due_of (with_pools_deleted (moved_to 900000 lacking))
+
+abbrev pub due_of_late_steady : Option Due
+due_of_late_steady = due_of (with_pools_in Steady (moved_to 900000 lacking))
+
+-- wanted ends of a task whose main run has ended
+
+-- each task with this wanted end, after two failures
+abbrev pub with_wanted : Option Want → State → State
+with_wanted want s = record s { tasks = map (λ (task : TaskRow). record task { wanted = want; failures = 2 }) s.tasks }
+
+-- the task's main run has ended
+abbrev pub over : State
+over = with_runs_in (Ended (Code (pos 0))) placed_task
+
+abbrev pub wants : List (Option Want)
+wants = None ∷ Some WantRequeue ∷ Some WantTerminate ∷ Some WantWall ∷ Some WantDelete ∷ []
+
+abbrev pub dues_by_want : List (Option Due)
+dues_by_want = map (λ want. due_of (with_wanted want over)) wants
+
+-- the other wanted ends are not built yet
+abbrev pub all_by_want : List (Option Due)
+all_by_want =
+    Some (TaskSettled (codes "j") (codes "t") Success)
+    ∷ Some (TaskSettled (codes "j") (codes "t") (Again 2))
+    ∷ None
+    ∷ None
+    ∷ None
+    ∷ []
+
+-- a task that runs is not requeued yet
+abbrev pub due_while_running : Option Due
+due_while_running = due_of (with_wanted (Some WantRequeue) placed_task)
+
 -- a refusal
 
 abbrev pub after_refusal : State
 after_refusal = (event_step 7 (AddPool (pool_body (codes "P") 2)) lacking).state
-
-abbrev pub moved_to : ℕ → State → State
-moved_to now s = record s { moment = now }
 
 abbrev pub moved_alone : State
 moved_alone = moved_to 7 lacking

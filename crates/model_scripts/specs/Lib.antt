@@ -5,6 +5,8 @@ pub mod Checks
 pub mod EndingScripts
 pub mod FirstPath
 pub mod LaterScripts
+pub mod OpeningScripts
 pub mod PlacingScripts
 pub mod PoolScripts
 pub mod Scripts
+pub mod TickScripts

@@ -8,6 +8,7 @@ use Rattle.batch_model.specs.Variants.{State, empty_state, Alloc, PoolRow, NodeS
 use Rattle.batch_model.specs.Steps.{Answered, DueStep}
 use Rattle.batch_model.specs.Dues.{due_step}
 use Rattle.batch_model.specs.Events.{event_step}
+use Rattle.batch_model.specs.Opening.{opening}
 
 -- calls
 
@@ -125,3 +126,17 @@ sheet_of s = record {
 -- the rows after the calls from empty tables
 abbrev pub rows_after : List Call → Sheet
 rows_after calls = sheet_of (state_after calls)
+
+-- opened tables
+
+-- what the calls show from the opening of the tables that earlier calls leave
+abbrev pub run_opened : List Call → List Call → Shown
+run_opened earlier calls = run seat_count calls (opening (state_after earlier))
+
+-- their lines
+abbrev pub lines_opened : List Call → List Call → List Line
+lines_opened earlier calls = (run_opened earlier calls).lines
+
+-- the rows after them
+abbrev pub rows_opened : List Call → List Call → Sheet
+rows_opened earlier calls = sheet_of (run_opened earlier calls).state

@@ -39,6 +39,20 @@ pub fn only_resizing_pools_get_nodes()
     ensures deleted { row.due_of_deleted ≡ None }
 {}
 
+/// A pool that has its nodes reached its target, also late; one that lacks some gets none after its timeout.
+pub fn resizes_end_in_two_ways()
+    ensures reached { row.due_of_reached ≡ row.reached_due }
+    ensures late { row.due_of_late ≡ row.timed_out_due }
+    ensures deleted { row.due_of_late_deleted ≡ None }
+    ensures steady { row.due_of_late_steady ≡ None }
+{}
+
+/// A wanted requeue goes before the ending of the main run, and waits until no run of the attempt is unended.
+pub fn a_wanted_requeue_goes_first()
+    ensures ended { row.dues_by_want ≡ row.all_by_want }
+    ensures running { row.due_while_running ≡ None }
+{}
+
 /// A leaving node does not count for the target, keeps its seat, and keeps the pool from being steady.
 pub fn leaving_nodes_do_not_count()
     ensures { row.dues_of_leaving ≡ row.leaving_dues }

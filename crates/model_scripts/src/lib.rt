@@ -8,8 +8,10 @@ mod by_hand;
 mod endings;
 mod first_path;
 mod later;
+mod openings;
 mod placing;
 mod pools;
+mod ticks;
 
 pub use adding::{
     a_moment_below_the_last_leaves_it, ids_are_spelled_as_the_rows, jobs_are_refused,
@@ -17,9 +19,10 @@ pub use adding::{
 };
 pub use by_hand::{
     a_job_is_not_added_to_a_deleted_pool, a_refusal_changes_the_moment_alone,
-    finished_jobs_take_no_tasks, leaving_nodes_do_not_count, numbers_come_to_an_end,
-    only_active_jobs_place_tasks, only_resizing_pools_get_nodes, rules_begin_again,
-    runs_are_refused_by_state, tasks_go_on_usable_nodes,
+    a_wanted_requeue_goes_first, finished_jobs_take_no_tasks, leaving_nodes_do_not_count,
+    numbers_come_to_an_end, only_active_jobs_place_tasks, only_resizing_pools_get_nodes,
+    resizes_end_in_two_ways, rules_begin_again, runs_are_refused_by_state,
+    tasks_go_on_usable_nodes,
 };
 pub use endings::{any_other_ending_is_a_failure, the_limit_of_the_task_goes_before};
 pub use first_path::{
@@ -29,6 +32,10 @@ pub use later::{
     events_are_not_read_yet, jobs_are_not_heeded_yet, pools_of_two_slots_are_not_heeded_yet,
     retries_are_not_made_yet, tasks_are_not_placed_yet,
 };
+pub use openings::{
+    a_taken_run_is_made_again, an_ending_is_settled_after_the_opening, empty_tables_open_as_empty,
+    pools_are_filled_again, tasks_that_were_cut_short_are_requeued,
+};
 pub use placing::{
     nodes_are_taken_in_order, pools_are_apart, tasks_take_turns_on_a_node,
     the_earlier_job_goes_first,
@@ -37,3 +44,4 @@ pub use pools::{
     a_pool_gets_its_nodes, at_most_64_pools, ids_of_pools_have_no_case, nodes_are_as_many_as_seats,
     pools_share_seats,
 };
+pub use ticks::{a_resize_times_out, a_tick_moves_the_moment};
