@@ -28,7 +28,7 @@ pub struct PrepRow {
     pub release: ReleaseState,
 }
 
-#[derive(Drop)]
+#[derive(Clone, Drop)]
 pub struct PrepKey {
     pub job: Id,
     pub node: u64,
@@ -36,6 +36,12 @@ pub struct PrepKey {
 
 impl Duplicate for PrepRow {
     fn copy(&self) -> Result<PrepRow, NoMemory> {
+        Ok(self.clone()?)
+    }
+}
+
+impl Duplicate for PrepKey {
+    fn copy(&self) -> Result<PrepKey, NoMemory> {
         Ok(self.clone()?)
     }
 }

@@ -26,7 +26,7 @@ pub struct SampleRow {
     pub value: Num,
 }
 
-#[derive(Drop)]
+#[derive(Clone, Drop)]
 pub struct SampleKey {
     pub pool: Id,
     pub metric: Metric,
@@ -35,6 +35,12 @@ pub struct SampleKey {
 
 impl Duplicate for SampleRow {
     fn copy(&self) -> Result<SampleRow, NoMemory> {
+        Ok(self.clone()?)
+    }
+}
+
+impl Duplicate for SampleKey {
+    fn copy(&self) -> Result<SampleKey, NoMemory> {
         Ok(self.clone()?)
     }
 }

@@ -135,10 +135,16 @@ fn copy_multi(multi: &Option<Multi>) -> Result<Option<Multi>, NoMemory>
     }
 }
 
-#[derive(Drop)]
+#[derive(Clone, Drop)]
 pub struct TaskKey {
     pub job: Id,
     pub id: Id,
+}
+
+impl Duplicate for TaskKey {
+    fn copy(&self) -> Result<TaskKey, NoMemory> {
+        Ok(self.clone()?)
+    }
 }
 
 impl Row for TaskRow {
