@@ -32,3 +32,5 @@ pub mod LimitsRuns
 pub mod UnendedRuns
 pub mod LimitsEvent
 pub mod EventSound
+pub mod WellFormedTables
+pub mod OpeningSound
