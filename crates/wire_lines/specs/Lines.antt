@@ -1,6 +1,7 @@
 -- What a line of a script asks.
-use Rattle.std.specs.Prelude.{ℕ, Bool, true, List, [], ◌∷◌, length, Option, Some, None, Result, Ok, Err, nat_lt, ◌==◌, if◌then◌else◌}
+use Rattle.std.specs.Prelude.{ℕ, Bool, true, List, [], ◌∷◌, length, Option, Some, None, Result, Ok, Err, nat_lt, ◌==◌, codes, if◌then◌else◌}
 use Rattle.std.specs.Result.{result_ok}
+use Rattle.std.specs.Str.{bytes_eq}
 use Rattle.bt_base.specs.Fails.{◌>>=◌}
 use Rattle.bt_base.specs.Utf8.{utf8_text}
 use Rattle.bt_base.specs.Ids.{read_id}
@@ -55,11 +56,15 @@ event_with words.End text = do
   Ok (events.End run ending)
 
 -- a word, a space and its arguments
-unfoldable pub event_in : List ℕ → Result EventKind Refusal
-event_in text = do
+unfoldable pub event_with_arguments : List ℕ → Result EventKind Refusal
+event_with_arguments text = do
   parts ← or_unreadable (two_parts text)
   word ← or_unreadable (word_in parts.0)
   event_with word parts.1
+
+-- a word and its arguments; `tick` takes none
+unfoldable pub event_in : List ℕ → Result EventKind Refusal
+event_in text = if bytes_eq text (codes "tick") then Ok events.Tick else event_with_arguments text
 
 -- a moment, a space and an event
 unfoldable pub call_in : List ℕ → Result LineRequest Refusal

@@ -2,7 +2,7 @@
 ghost use Rattle.std.specs.Prelude.{◌≡◌, true, IfOk};
 ghost use Rattle.bt_base.specs.Fails.{Gives};
 ghost use Rattle.bt_rows.specs.Ranges.{is_event_in_range};
-ghost use Rattle.wire_lines.specs.Lines.{or_unreadable, id_argument, event_with, event_in, call_in, line_of, is_skipped};
+ghost use Rattle.wire_lines.specs.Lines.{or_unreadable, id_argument, event_with, event_with_arguments, event_in, call_in, line_of, is_skipped};
 
 use crate::line_word::LineWord;
 use crate::number::{read_ending, read_moment, read_number};
@@ -65,14 +65,25 @@ fn event_with(alloc: Global, word: LineWord, text: &[u8]) -> Result<EventKind, F
     }
 }
 
-#[tactic(auto, unfolding(crate::specs::Lines::event_in))]
-fn event(alloc: Global, text: &[u8]) -> Result<Event, Fail<Refusal>>
-    ensures { Gives result (event_in text.now) }
+#[tactic(auto, unfolding(crate::specs::Lines::event_with_arguments))]
+fn event_with_arguments(alloc: Global, text: &[u8]) -> Result<Event, Fail<Refusal>>
+    ensures { Gives result (event_with_arguments text.now) }
 {
     let (word, rest) = split_two(text).ok_or(UNREADABLE)?;
     let word = LineWord::read(word).ok_or(UNREADABLE)?;
     let kind = event_with(alloc, word, rest)?;
     Ok(Event::new(kind))
+}
+
+#[tactic(auto, unfolding(crate::specs::Lines::event_in))]
+fn event(alloc: Global, text: &[u8]) -> Result<Event, Fail<Refusal>>
+    ensures { Gives result (event_in text.now) }
+{
+    if text == b"tick".as_slice() {
+        Ok(Event::new(EventKind::Tick))
+    } else {
+        event_with_arguments(alloc, text)
+    }
 }
 
 #[tactic(auto, unfolding(crate::specs::Lines::call_in))]
@@ -100,7 +111,8 @@ fn is_skipped(line: &[u8]) -> bool
 /// of the year 9999), a space and one of
 ///
 /// - `add-pool BODY`, `add-job BODY`, `add-task JOB BODY`, where a body is a JSON object up to the end of the line;
-/// - `take RUN` and `end RUN ENDING`, where an ending is a code of 32 bits, `none` or `notstarted`.
+/// - `take RUN` and `end RUN ENDING`, where an ending is a code of 32 bits, `none` or `notstarted`;
+/// - `tick`.
 ///
 /// A line that is not so, or that has over 1,048,576 bytes, is `UnreadableBody`; a job's id that is none is
 /// `InvalidPropertyValue(Id)`, before the faults of the body behind it.

@@ -19,6 +19,7 @@ enum Wanted<'a> {
     Task(&'a str, &'a str, &'a str),
     Take(u64),
     End(u64, Ending),
+    Tick,
 }
 
 fn is_refused(refusal: Refusal, wanted: Wanted) -> bool {
@@ -53,6 +54,7 @@ fn is_event(kind: &EventKind, wanted: Wanted) -> bool {
             EventKind::End(ended, how) => *ended == run && *how == ending,
             _ => false,
         },
+        Wanted::Tick => matches!(kind, EventKind::Tick),
         _ => false,
     }
 }
@@ -106,6 +108,7 @@ fn taken_lines(rt: HostRuntime) {
         ),
         ("7 end 1 none", Wanted::End(1, Ending::NoCode)),
         ("7 end 1 notstarted", Wanted::End(1, Ending::NotStarted)),
+        ("7 tick", Wanted::Tick),
     ];
     for (line, wanted) in rows {
         assert!(rt; asks(&rt, line.as_bytes(), wanted), "{line}");
@@ -121,7 +124,9 @@ fn unreadable_lines(rt: HostRuntime) {
         "7  take 1",
         "+7 take 1",
         "253402300800000 take 1",
-        "7 tick",
+        "7 tick ",
+        "7 tick 1",
+        "7 Tick",
         "7 delete-pool p",
         "7 take",
         "7 take ",
