@@ -1,5 +1,5 @@
 -- The ranges of values that come from outside.
-use Rattle.std.specs.Prelude.{ℕ, ◌^◌, Bool, true, not, ◌&&◌, ◌||◌, nat_eq, nat_lt, nat_le, int_le, ℤ, pos, negsuc, List, length, sum_by, Option, is_some, is_none}
+use Rattle.std.specs.Prelude.{ℕ, ◌^◌, Bool, true, false, not, ◌&&◌, ◌||◌, nat_eq, nat_lt, nat_le, int_le, ℤ, pos, negsuc, List, [], ◌∷◌, length, sum_by, Option, is_some, is_none}
 use Rattle.std.specs.Option.{option_map_or}
 use Rattle.std.specs.List.{list_all}
 use Rattle.bt_rows.specs.declared.pool.StartTask.{StartTask}
@@ -113,9 +113,19 @@ abbrev pub is_patch_in_range : JobPatch → Bool
 is_patch_in_range patch =
     passes_if_some is_priority patch.priority && passes_if_some is_parallel patch.parallel && passes_if_some are_limits_in_range patch.limits
 
--- 1 to 256 bytes
+-- the bytes begin a character from U+0080 to U+009F, whose first is 194
+abbrev pub begins_control : ℕ → List ℕ → Bool
+begins_control byte [] = false
+begins_control byte (next ∷ bytes) = nat_eq byte 194 && nat_lt next 160
+
+-- a control character stands in the text: one below U+0020, U+007F, or one from U+0080 to U+009F
+abbrev pub has_control : List ℕ → Bool
+has_control [] = false
+has_control (byte ∷ bytes) = nat_lt byte 32 || nat_eq byte 127 || begins_control byte bytes || has_control bytes
+
+-- 1 to 256 bytes, without control characters
 abbrev pub is_reason : List ℕ → Bool
-is_reason reason = is_from_to 1 256 (length reason)
+is_reason reason = is_from_to 1 256 (length reason) && not (has_control reason)
 
 -- from a number to one that is not below it
 abbrev pub is_span_in_range : ℕ × ℕ → Bool
