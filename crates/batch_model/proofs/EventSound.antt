@@ -29,7 +29,6 @@ use Rattle.batch_model.proofs.JobAdded.{consistent_job_added}
 use Rattle.batch_model.proofs.TaskAdded.{consistent_task_added}
 use Rattle.batch_model.proofs.RunTaken.{consistent_taken}
 use Rattle.batch_model.proofs.RunEnded.{consistent_ended}
-use Rattle.batch_model.proofs.UnendedRuns.{UnendedRunsHaveNoEnd}
 use Rattle.batch_model.proofs.LimitsEvent.{own_number, limited_by_event}
 
 -- refusals and rows
@@ -146,9 +145,12 @@ module _ (seats : ℕ) (s : State) (h : IsConsistent seats s) where
 pub consistent_by_event : (seats moment : ℕ) (event : EventKind) (s : State) → IsConsistent seats s → IsConsistent seats (event_step moment event s).state
 consistent_by_event seats moment event s h = consistent_now seats (at_moment moment s) (consistent_moment seats moment s h) event
 
--- each event leaves sound tables sound, as long as unended runs have no end
-pub sound_by_event : (seats moment : ℕ) (event : EventKind) (s : State) → moment ≤ last_moment → is_event_in_range event ≡ true → IsSound seats s → UnendedRunsHaveNoEnd s → IsSound seats (event_step moment event s).state
-sound_by_event seats moment event s last in_range h unended = record {
-  consistent = consistent_by_event seats moment event s h.consistent;
-  limited = limited_by_event seats moment event s last in_range h unended;
-}
+-- each event leaves sound tables sound
+pub sound_by_event : (seats moment : ℕ) (event : EventKind) (s : State) → moment ≤ last_moment → is_event_in_range event ≡ true → IsSound seats s → IsSound seats (event_step moment event s).state
+sound_by_event seats moment event s last in_range h =
+    let limited = limited_by_event seats moment event s last in_range h in
+    record {
+      consistent = consistent_by_event seats moment event s h.consistent;
+      limited = limited.limits;
+      unended = limited.unended;
+    }

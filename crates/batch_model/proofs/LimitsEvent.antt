@@ -18,14 +18,14 @@ use Rattle.batch_model.specs.Rows.{is_run, pool_of, job_of, task_of, run_of}
 use Rattle.batch_model.specs.Jobs.{is_past}
 use Rattle.batch_model.specs.Events.{for_row, add_pool, add_job, add_job_in, has_long_needs, add_task, take_run, end_run, event_now, event_step, at_moment}
 use Rattle.batch_model.specs.Limits.{pool_limit, job_limit, task_limit}
-use Rattle.batch_model.specs.Sound.{IsWithinLimits, IsSound}
+use Rattle.batch_model.specs.Sound.{IsWithinLimits, UnendedRunsHaveNoEnd, IsSound}
 use Rattle.batch_model.specs.Variants.{State, PoolRow, JobRow, RunRow, RunState, Waiting, Queued, Taken, Ended, Withdrawn, Ending}
 use Rattle.batch_model.proofs.Tests.{passes_or_not}
 use Rattle.batch_model.proofs.RowLists.{find_test}
 use Rattle.batch_model.proofs.LimitsMoment.{limited_moment}
 use Rattle.batch_model.proofs.LimitsAdded.{limited_pool_added, limited_job_added, limited_task_added}
 use Rattle.batch_model.proofs.LimitsRuns.{limited_taken, limited_ended}
-use Rattle.batch_model.proofs.UnendedRuns.{UnendedRunsHaveNoEnd, found_without_end, unended_taken, unended_ended}
+use Rattle.batch_model.proofs.UnendedRuns.{found_without_end, unended_taken, unended_ended}
 
 -- within the limits, and no unended run has an end
 pub record IsLimited (s : State) : Type 0 where
@@ -133,12 +133,6 @@ module _ (s : State) (keys : AreDistinct same_run s.runs) (h : IsLimited s) wher
   limited_now Tick k = h
 
 -- each event leaves sound tables within the limits, and unended runs without ends
-both_by_event : (seats moment : ℕ) (event : EventKind) (s : State) → moment ≤ last_moment → is_event_in_range event ≡ true → IsSound seats s → UnendedRunsHaveNoEnd s → IsLimited (event_step moment event s).state
-both_by_event seats moment event s last in_range h unended =
-    limited_now (at_moment moment s) h.consistent.keys.runs (record { limits = limited_moment moment s last h.limited; unended = unended }) event in_range
-
-pub limited_by_event : (seats moment : ℕ) (event : EventKind) (s : State) → moment ≤ last_moment → is_event_in_range event ≡ true → IsSound seats s → UnendedRunsHaveNoEnd s → IsWithinLimits (event_step moment event s).state
-limited_by_event seats moment event s last in_range h unended = (both_by_event seats moment event s last in_range h unended).limits
-
-pub unended_by_event : (seats moment : ℕ) (event : EventKind) (s : State) → moment ≤ last_moment → is_event_in_range event ≡ true → IsSound seats s → UnendedRunsHaveNoEnd s → UnendedRunsHaveNoEnd (event_step moment event s).state
-unended_by_event seats moment event s last in_range h unended = (both_by_event seats moment event s last in_range h unended).unended
+pub limited_by_event : (seats moment : ℕ) (event : EventKind) (s : State) → moment ≤ last_moment → is_event_in_range event ≡ true → IsSound seats s → IsLimited (event_step moment event s).state
+limited_by_event seats moment event s last in_range h =
+    limited_now (at_moment moment s) h.consistent.keys.runs (record { limits = limited_moment moment s last h.limited; unended = h.unended }) event in_range

@@ -14,7 +14,7 @@ use Rattle.batch_model.specs.Jobs.{is_quiet}
 use Rattle.batch_model.specs.Pools.{is_stopping, is_resizing}
 use Rattle.batch_model.specs.Slots.{owns}
 use Rattle.batch_model.specs.Opening.{opening, is_refilled, refilled, is_emptied, emptied, is_cut_short, requeued, withdrawn}
-use Rattle.batch_model.specs.Sound.{IsConsistent, IsWithinLimits, IsSound, has_node_row, has_node_while_unended, belongs, can_be_settled, fits_nodes, names_no_task}
+use Rattle.batch_model.specs.Sound.{IsConsistent, IsWithinLimits, IsSound, has_node_row, has_node_while_unended, belongs, can_be_settled, fits_nodes, names_no_task, has_no_end_yet}
 use Rattle.batch_model.specs.WellFormed.{KeysAreDistinct, RowsAreValid, CountsAreInRange, TasksAreFitting, NamedRowsAreThere, PoolsAreFitting, IsWellFormed, is_pool_valid, is_task_valid, is_run_valid, is_run_in_range, is_past_if_some, is_ended_in_order, has_fitting_marks, is_closed_if_completed, has_pool_row, has_job_row, has_named_job, has_named_task, is_task_of_attempt, are_one_attempt, has_no_placed_if_quiet, is_deleting_whole, scales}
 use Rattle.batch_model.specs.Variants.{State, PoolRow, Alloc, Steady, Resizing, Stopping, JobRow, TaskRow, RunRow, RunState, Waiting, Queued, Taken, Ended, Withdrawn, SampleRow, ScaleRow}
 use Rattle.batch_model.proofs.Tests.{and_first, or_first, or_second, true_not}
@@ -296,4 +296,8 @@ module _ (s : State) (h : IsWellFormed s) where
 
 -- the opening of well-formed tables is sound, whatever the seats
 pub sound_by_opening : (seats : ℕ) (s : State) → IsWellFormed s → IsSound seats (opening s)
-sound_by_opening seats s h = record { consistent = opening_consistent s h seats; limited = opening_limited s h }
+sound_by_opening seats s h = record {
+  consistent = opening_consistent s h seats;
+  limited = opening_limited s h;
+  unended = each_weaker is_over has_no_end_yet (λ run. or_first (is_none run.ended)) (opening s).runs (runs_over s.moment s.runs);
+}

@@ -3,24 +3,16 @@ use Rattle.std.proofs.Common.{◌≡◌, Bool, true, false, not, ◌&&◌, ◌||
 use Rattle.std.specs.List.{find}
 use Rattle.bt_rows.specs.Keys.{same_run}
 use Rattle.bt_rows.specs.Lists.{AreDistinct}
-use Rattle.batch_model.specs.Finding.{Each}
 use Rattle.batch_model.specs.Rows.{is_run}
 use Rattle.batch_model.specs.Runs.{is_unended, work_run}
 use Rattle.batch_model.specs.Events.{taken_run, run_taken, ended_run, run_ended}
 use Rattle.batch_model.specs.Placing.{placed, place}
+use Rattle.batch_model.specs.Sound.{has_no_end_yet, UnendedRunsHaveNoEnd}
 use Rattle.batch_model.specs.Variants.{State, NodeRow, TaskRow, Ending, RunRow, TaskRun, Queued}
 use Rattle.batch_model.proofs.Tests.{and_first, and_second, asked}
 use Rattle.batch_model.proofs.RowLists.{each_append, each_and, each_found}
 use Rattle.batch_model.proofs.ChangedRows.{each_change, each_change_same}
 use Rattle.batch_model.proofs.LimitsRuns.{each_without_end}
-
--- no end, if the run has not ended
-abbrev pub has_no_end_yet : RunRow → Bool
-has_no_end_yet run = not (is_unended run.state) || is_none run.ended
-
--- each run is so
-abbrev pub UnendedRunsHaveNoEnd : State → Type 0
-UnendedRunsHaveNoEnd s = Each has_no_end_yet s.runs
 
 -- a run that is found and has not ended
 pub found_without_end : (s : State) (test : RunRow → Bool) (run : RunRow) → UnendedRunsHaveNoEnd s → find test s.runs ≡ Some run → is_unended run.state ≡ true → is_none run.ended ≡ true

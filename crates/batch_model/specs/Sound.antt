@@ -117,7 +117,16 @@ pub record IsWithinLimits (s : State) : Type 0 where
   pub pools : PoolsAreFitting s
   pub built : NothingIsPrepared s
 
--- both of these, for so many seats; such tables are also well formed
+-- no end, if the run has not ended
+abbrev pub has_no_end_yet : RunRow → Bool
+has_no_end_yet run = not (is_unended run.state) || is_none run.ended
+
+-- runs that have not ended have no moment at which they ended
+abbrev pub UnendedRunsHaveNoEnd : State → Type 0
+UnendedRunsHaveNoEnd s = Each has_no_end_yet s.runs
+
+-- all of these, for so many seats; such tables are also well formed
 pub record IsSound (seats : ℕ) (s : State) : Type 0 where
   pub consistent : IsConsistent seats s
   pub limited : IsWithinLimits s
+  pub unended : UnendedRunsHaveNoEnd s
