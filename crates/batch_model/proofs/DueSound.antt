@@ -1,25 +1,66 @@
 -- Each due step keeps tables sound.
 use Rattle.std.proofs.Common.{◌≡◌, ℕ, Some}
+use Rattle.bt_rows.specs.Keys.{same_job}
+use Rattle.bt_rows.specs.Lists.{AreDistinct}
+use Rattle.batch_model.specs.Settling.{is_to_settle}
 use Rattle.batch_model.specs.Dues.{due_step}
 use Rattle.batch_model.specs.Steps.{DueStep}
-use Rattle.batch_model.specs.Sound.{IsConsistent}
+use Rattle.batch_model.specs.Sound.{IsConsistent, IsWithinLimits, UnendedRunsHaveNoEnd, IsSound}
 use Rattle.batch_model.specs.Variants.{State}
-use Rattle.batch_model.proofs.DueCases.{IsDue, requeues, completes, steadies, times_out, adds, places, due_cases}
+use Rattle.batch_model.proofs.DueCases.{has_placing, IsDue, requeues, completes, steadies, times_out, adds, places, due_cases}
 use Rattle.batch_model.proofs.Completed.{consistent_completed}
 use Rattle.batch_model.proofs.Requeued.{consistent_requeued}
 use Rattle.batch_model.proofs.PoolSteady.{consistent_steady, consistent_timed_out}
 use Rattle.batch_model.proofs.NodeAdded.{consistent_node_added}
 use Rattle.batch_model.proofs.TaskPlaced.{consistent_placed}
+use Rattle.batch_model.proofs.LimitsPools.{limited_steady, limited_timed_out}
+use Rattle.batch_model.proofs.LimitsTasks.{limited_completed, limited_requeued}
+use Rattle.batch_model.proofs.LimitsPlaced.{limited_node_added, limited_placed}
+use Rattle.batch_model.proofs.UnendedRuns.{unended_placed}
 
--- each rule keeps tables sound
-by_case : (seats : ℕ) (s : State) (step : DueStep) → IsConsistent seats s → IsDue seats s step → IsConsistent seats step.state
-by_case seats s step h (requeues task f e) = consistent_requeued seats s task h f
-by_case seats s step h (completes task ending f e ended) = consistent_completed seats s task ending h f
-by_case seats s step h (steadies pool f e) = consistent_steady seats s pool h f
-by_case seats s step h (times_out pool f e) = consistent_timed_out seats s pool h f
-by_case seats s step h (adds seat pool runs_left nodes_left free f) = consistent_node_added seats s pool seat h free f
-by_case seats s step h (places job pool node task left found plain in_pool kept narrow on_node f) = consistent_placed seats s job node task h f pool in_pool narrow on_node
+-- each rule keeps tables consistent
+consistent_by_case : (seats : ℕ) (s : State) (step : DueStep) → IsConsistent seats s → IsDue seats s step → IsConsistent seats step.state
+consistent_by_case seats s step h (requeues task f e) = consistent_requeued seats s task h f
+consistent_by_case seats s step h (completes task ending f e ended) = consistent_completed seats s task ending h f
+consistent_by_case seats s step h (steadies pool f e) = consistent_steady seats s pool h f
+consistent_by_case seats s step h (times_out pool f e) = consistent_timed_out seats s pool h f
+consistent_by_case seats s step h (adds seat pool runs_left nodes_left free f) = consistent_node_added seats s pool seat h free f
+consistent_by_case seats s step h (places job pool node task left found plain in_pool kept narrow on_node f) = consistent_placed seats s job node task h f pool in_pool narrow on_node
+
+-- a due step keeps tables consistent
+pub consistent_by_due : (seats : ℕ) (s : State) (step : DueStep) → IsConsistent seats s → due_step seats s ≡ Some step → IsConsistent seats step.state
+consistent_by_due seats s step h e = consistent_by_case seats s step h (due_cases seats s step e)
+
+-- each rule keeps tables within the limits, where ids of jobs are distinct
+limited_by_case : (seats : ℕ) (s : State) (step : DueStep) → AreDistinct same_job s.jobs → IsWithinLimits s → IsDue seats s step → IsWithinLimits step.state
+limited_by_case seats s step keys h (requeues task f e) = limited_requeued s task (is_to_settle s) h f
+limited_by_case seats s step keys h (completes task ending f e ended) = limited_completed s task (is_to_settle s) h f ending
+limited_by_case seats s step keys h (steadies pool f e) = limited_steady s pool h f
+limited_by_case seats s step keys h (times_out pool f e) = limited_timed_out s pool h f
+limited_by_case seats s step keys h (adds seat pool runs_left nodes_left free f) = limited_node_added s pool seat h nodes_left
+limited_by_case seats s step keys h (places job pool node task left found plain in_pool kept narrow on_node f) = limited_placed s job node task (has_placing s) h keys found plain f left
+
+-- a due step keeps tables within the limits
+pub limited_by_due : (seats : ℕ) (s : State) (step : DueStep) → IsSound seats s → due_step seats s ≡ Some step → IsWithinLimits step.state
+limited_by_due seats s step h e = limited_by_case seats s step h.consistent.keys.jobs h.limited (due_cases seats s step e)
+
+-- each rule leaves runs that have not ended without an end
+unended_by_case : (seats : ℕ) (s : State) (step : DueStep) → UnendedRunsHaveNoEnd s → IsDue seats s step → UnendedRunsHaveNoEnd step.state
+unended_by_case seats s step h (requeues task f e) = h
+unended_by_case seats s step h (completes task ending f e ended) = h
+unended_by_case seats s step h (steadies pool f e) = h
+unended_by_case seats s step h (times_out pool f e) = h
+unended_by_case seats s step h (adds seat pool runs_left nodes_left free f) = h
+unended_by_case seats s step h (places job pool node task left found plain in_pool kept narrow on_node f) = unended_placed s node task h
+
+-- so does a due step
+pub unended_by_due : (seats : ℕ) (s : State) (step : DueStep) → UnendedRunsHaveNoEnd s → due_step seats s ≡ Some step → UnendedRunsHaveNoEnd step.state
+unended_by_due seats s step h e = unended_by_case seats s step h (due_cases seats s step e)
 
 -- a due step keeps tables sound
-pub consistent_by_due : (seats : ℕ) (s : State) (step : DueStep) → IsConsistent seats s → due_step seats s ≡ Some step → IsConsistent seats step.state
-consistent_by_due seats s step h e = by_case seats s step h (due_cases seats s step e)
+pub sound_by_due : (seats : ℕ) (s : State) (step : DueStep) → IsSound seats s → due_step seats s ≡ Some step → IsSound seats step.state
+sound_by_due seats s step h e = record {
+  consistent = consistent_by_due seats s step h.consistent e;
+  limited = limited_by_due seats s step h e;
+  unended = unended_by_due seats s step h.unended e;
+}

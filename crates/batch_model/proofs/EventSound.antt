@@ -1,7 +1,6 @@
 -- Each event leaves consistent tables consistent, and sound tables sound.
-use Rattle.std.proofs.Common.{◌≡◌, ℕ, ◌≤◌, true, false, nat_le, List, length, Option, Some, None, is_some, inl, inr, refl, sym, subst}
+use Rattle.std.proofs.Common.{◌≡◌, ℕ, ◌≤◌, true, false, nat_le, List, length, Option, Some, None, is_some, inl, inr, refl}
 use Rattle.std.specs.List.{find}
-use Rattle.std.proofs.lemmas.Bool.Decides.{Decides-eqb}
 use Rattle.bt_base.specs.Moments.{last_moment}
 use Rattle.bt_base.proofs.SameIds.{same_equiv}
 use Rattle.bt_rows.specs.declared.event.EventKind.{EventKind}
@@ -22,7 +21,7 @@ use Rattle.batch_model.specs.Sound.{IsConsistent, IsSound}
 use Rattle.batch_model.specs.WellFormed.{has_job_row}
 use Rattle.batch_model.specs.Variants.{State, PoolRow, JobRow, RunRow, RunState, Waiting, Queued, Taken, Ended, Withdrawn, Ending}
 use Rattle.batch_model.proofs.Tests.{passes_or_not}
-use Rattle.batch_model.proofs.RowLists.{find_none, find_test, any_found}
+use Rattle.batch_model.proofs.RowLists.{find_none, any_found}
 use Rattle.batch_model.proofs.SoundMoment.{consistent_moment}
 use Rattle.batch_model.proofs.PoolAdded.{consistent_pool_added}
 use Rattle.batch_model.proofs.JobAdded.{consistent_job_added}

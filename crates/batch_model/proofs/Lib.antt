@@ -22,7 +22,6 @@ pub mod RunTaken
 pub mod SettledRows
 pub mod Completed
 pub mod Requeued
-pub mod DueSound
 pub mod LimitsMoment
 pub mod LimitsAdded
 pub mod LimitsPools
@@ -31,6 +30,7 @@ pub mod LimitsPlaced
 pub mod LimitsRuns
 pub mod UnendedRuns
 pub mod LimitsEvent
+pub mod DueSound
 pub mod EventSound
 pub mod WellFormedTables
 pub mod OpeningSound

@@ -14,7 +14,7 @@ use Rattle.batch_model.specs.Limits.{pool_limit, job_limit, task_limit}
 use Rattle.batch_model.specs.Events.{has_long_needs}
 use Rattle.batch_model.specs.Sound.{IsWithinLimits}
 use Rattle.batch_model.specs.WellFormed.{is_pool_in_range, is_pool_valid, is_job_valid, is_task_valid, has_pool_row, has_no_placed_if_quiet, is_deleting_whole}
-use Rattle.batch_model.specs.Variants.{State, JobRow, TaskRow, SampleRow, ScaleRow}
+use Rattle.batch_model.specs.Variants.{State, SampleRow, ScaleRow}
 use Rattle.batch_model.proofs.Tests.{and_true, and_first, and_second}
 use Rattle.batch_model.proofs.RowLists.{each_append, each_weaker, any_append_old, any_append_same}
 

@@ -1,5 +1,5 @@
 -- Each event leaves tables within the limits.
-use Rattle.std.proofs.Common.{◌≡◌, ℕ, ◌≤◌, true, false, nat_le, List, length, Option, Some, None, is_some, inl, inr, refl, sym, subst}
+use Rattle.std.proofs.Common.{◌≡◌, ℕ, ◌≤◌, true, nat_le, List, length, Option, Some, None, is_some, inl, inr, refl, sym, subst}
 use Rattle.std.specs.List.{find}
 use Rattle.std.proofs.lemmas.Bool.Decides.{Decides-eqb}
 use Rattle.bt_base.specs.Moments.{last_moment}

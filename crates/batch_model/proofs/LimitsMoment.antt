@@ -1,5 +1,5 @@
 -- The first tables are within the limits, and tables stay so when the last moment rises.
-use Rattle.std.proofs.Common.{◌≡◌, ℕ, ◌≤◌, Bool, true, false, nat_le, max, Option, Some, None, refl, arith}
+use Rattle.std.proofs.Common.{◌≡◌, ℕ, ◌≤◌, true, nat_le, max, Option, Some, None, refl, arith}
 use Rattle.std.proofs.lemmas.Bool.Decides.{nat_tests}
 use Rattle.bt_base.specs.Moments.{last_moment}
 use Rattle.bt_rows.specs.Ranges.{passes_if_some}

@@ -1,5 +1,5 @@
 -- Tables stay within the limits when a pool gets a node, and when a task is placed.
-use Rattle.std.proofs.Common.{◌≡◌, ℕ, ◌+◌, ◌≤◌, Bool, true, false, not, ◌&&◌, ◌||◌, nat_eq, nat_le, List, [], ◌∷◌, Some, find, refl, sym, ◌∙◌, arith}
+use Rattle.std.proofs.Common.{◌≡◌, ℕ, ◌+◌, ◌≤◌, Bool, true, false, not, ◌&&◌, ◌||◌, nat_eq, nat_le, Some, find, refl, sym, ◌∙◌, arith}
 use Rattle.std.specs.List.{list_any}
 use Rattle.std.proofs.lemmas.Bool.Decides.{nat_tests}
 use Rattle.bt_base.specs.Ids.{same}
@@ -9,7 +9,7 @@ use Rattle.bt_rows.specs.Lists.{AreDistinct}
 use Rattle.bt_rows.specs.Ranges.{is_from_to, is_slot_count}
 use Rattle.bt_rows.proofs.DistinctRows.{found_first}
 use Rattle.batch_model.specs.Finding.{last_number, has_number_left}
-use Rattle.batch_model.specs.Rows.{is_task, put_task}
+use Rattle.batch_model.specs.Rows.{is_task}
 use Rattle.batch_model.specs.Runs.{work_run}
 use Rattle.batch_model.specs.Tasks.{is_placed_in}
 use Rattle.batch_model.specs.Jobs.{is_job_active, is_quiet}

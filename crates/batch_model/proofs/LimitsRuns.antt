@@ -1,6 +1,6 @@
 -- Tables stay within the limits when a run is taken, and when it ends.
-use Rattle.std.proofs.Common.{◌≡◌, ℕ, Bool, true, false, not, ◌&&◌, ◌||◌, nat_le, List, Option, Some, None, is_none, refl, ◌∙◌, ap}
-use Rattle.std.specs.List.{list_any, find}
+use Rattle.std.proofs.Common.{◌≡◌, ℕ, Bool, true, not, ◌&&◌, ◌||◌, nat_le, List, Option, Some, None, is_none, refl, ◌∙◌, ap}
+use Rattle.std.specs.List.{find}
 use Rattle.std.specs.Option.{unwrap_or}
 use Rattle.bt_rows.specs.Keys.{same_run, same_run_equiv}
 use Rattle.bt_rows.specs.Lists.{AreDistinct}
@@ -13,7 +13,7 @@ use Rattle.batch_model.specs.Events.{taken_run, started_task, is_task_of_run, ru
 use Rattle.batch_model.specs.Limits.{task_limit}
 use Rattle.batch_model.specs.Sound.{IsWithinLimits}
 use Rattle.batch_model.specs.WellFormed.{is_past_if_some, is_ended_in_order, is_task_valid, is_run_valid, has_no_placed_if_quiet}
-use Rattle.batch_model.specs.Variants.{State, JobRow, TaskRow, Ending, RunRow}
+use Rattle.batch_model.specs.Variants.{State, TaskRow, Ending, RunRow}
 use Rattle.batch_model.proofs.Tests.{and_true, and_first, and_second, asked}
 use Rattle.batch_model.proofs.RowLists.{each_weaker, each_and}
 use Rattle.batch_model.proofs.ChangedRows.{each_change, each_change_same, any_change_same}

@@ -1,8 +1,7 @@
 -- Tables stay within the limits when a task is settled.
-use Rattle.std.proofs.Common.{◌≡◌, ℕ, Bool, true, false, not, ◌&&◌, ◌||◌, nat_le, List, [], ◌∷◌, Some, find, refl}
+use Rattle.std.proofs.Common.{◌≡◌, Bool, true, false, not, ◌&&◌, nat_le, Some, find, refl}
 use Rattle.std.specs.List.{list_any}
 use Rattle.bt_rows.specs.Ranges.{passes_if_some}
-use Rattle.batch_model.specs.Finding.{change_where}
 use Rattle.batch_model.specs.Rows.{is_task, put_task}
 use Rattle.batch_model.specs.Tasks.{is_placed, is_placed_in, completed}
 use Rattle.batch_model.specs.Jobs.{is_quiet}
@@ -13,7 +12,7 @@ use Rattle.batch_model.specs.Sound.{IsWithinLimits}
 use Rattle.batch_model.specs.WellFormed.{is_task_in_range, is_closed_past, is_task_valid, has_no_placed_if_quiet}
 use Rattle.batch_model.specs.Variants.{State, JobRow, TaskRow, Ending}
 use Rattle.batch_model.proofs.Tests.{and_true, and_first, and_second}
-use Rattle.batch_model.proofs.RowLists.{each_weaker, each_found, each_cons, each_head, each_tail, any_none, none_any}
+use Rattle.batch_model.proofs.RowLists.{each_weaker, each_found, any_none, none_any}
 use Rattle.batch_model.proofs.ChangedRows.{each_change_same}
 use Rattle.batch_model.proofs.LimitsAdded.{is_not_after_itself}
 use Rattle.batch_model.proofs.LimitsPools.{change_keeps_length}

@@ -1,8 +1,7 @@
 -- Puts of rows are what the definitions say of the rows.
-use Rattle.std.proofs.Common.{◌≡◌, Bool, true, false, ◌||◌, List, [], ◌∷◌, ◌++◌, Option, Some, None, cond, map, refl, sym, ◌∙◌, ap, subst, arith}
+use Rattle.std.proofs.Common.{◌≡◌, Bool, true, false, ◌||◌, List, [], ◌∷◌, ◌++◌, Some, None, cond, refl, sym, ◌∙◌, ap}
 use Rattle.std.specs.List.{list_any, find}
 use Rattle.std.specs.Cmp.{IsEquivalence}
-use Rattle.std.proofs.lemmas.Grind.{common_steps}
 use Rattle.bt_rows.specs.Lists.{put_row, AreDistinct}
 use Rattle.batch_model.specs.Finding.{change_where}
 

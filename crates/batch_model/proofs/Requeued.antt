@@ -1,9 +1,9 @@
 -- The requeue of a task keeps the tables sound.
-use Rattle.std.proofs.Common.{◌≡◌, ℕ, true, false, Option, Some, None, is_none, refl, sym, ap, subst}
+use Rattle.std.proofs.Common.{◌≡◌, ℕ, true, Option, Some, None, refl, sym, ap, subst}
 use Rattle.std.specs.List.{find}
 use Rattle.bt_rows.proofs.DistinctRows.{find-passes}
 use Rattle.batch_model.specs.Rows.{put_task}
-use Rattle.batch_model.specs.Tasks.{is_placed, cleared}
+use Rattle.batch_model.specs.Tasks.{is_placed}
 use Rattle.batch_model.specs.Settling.{is_over, is_to_settle, active_again, requeue}
 use Rattle.batch_model.specs.Sound.{IsConsistent}
 use Rattle.batch_model.specs.WellFormed.{is_closed_if_completed}

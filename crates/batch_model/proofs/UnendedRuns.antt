@@ -1,5 +1,5 @@
 -- Runs that have not ended have no moment at which they ended: each step keeps them so.
-use Rattle.std.proofs.Common.{◌≡◌, Bool, true, false, not, ◌&&◌, ◌||◌, List, Some, is_none, refl}
+use Rattle.std.proofs.Common.{◌≡◌, Bool, true, not, ◌&&◌, ◌||◌, Some, is_none, refl}
 use Rattle.std.specs.List.{find}
 use Rattle.bt_rows.specs.Keys.{same_run}
 use Rattle.bt_rows.specs.Lists.{AreDistinct}
