@@ -1,5 +1,5 @@
 -- What a keeper's calls do to the tables that it tells, and when they fail.
-use Rattle.std.specs.Prelude.{◌≡◌, ℕ, ◌≤◌, Option, Result, IsErrOf, List}
+use Rattle.std.specs.Prelude.{ℕ, ◌≤◌, Option, Result, IsErrOf, List}
 use Rattle.std.specs.Option.{option_map}
 use Rattle.bt_base.specs.Causes.{Rose}
 use Rattle.bt_rows.specs.State.{State}
