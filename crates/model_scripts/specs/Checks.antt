@@ -127,9 +127,9 @@ is_consistent s = has_distinct_keys s && has_new_numbers s && has_fitting_rows s
 abbrev pub is_within_limits : State → Bool
 is_within_limits s = has_valid_rows s && has_counts_in_range s && has_fitting_pools s
 
--- both of these
+-- all of these, and runs that have not ended have no moment at which they ended
 abbrev pub is_sound : State → Bool
-is_sound s = is_consistent s && is_within_limits s
+is_sound s = is_consistent s && is_within_limits s && list_all sound.has_no_end_yet s.runs
 
 -- the tables after due steps to rest, and whether each of these steps was good
 pub record Tested : Type 0 where
