@@ -1,5 +1,7 @@
 pub mod DuePlans
 pub mod DuePuts
 pub mod EventPuts
+pub mod OpeningMade
 pub mod Placements
+pub mod PutsInPlace
 pub mod Readiness

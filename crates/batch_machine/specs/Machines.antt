@@ -25,9 +25,9 @@ pub data IsMade (seats : ℕ) (s : State) (plan : Plan) : Type 0 where
   of_due : IsStepOf (due_step seats s) s plan → IsMade seats s plan
 
 -- a machine over opened tables, which the changes of the opening lead to from the tables before
-pub record IsOpened (seats : ℕ) (s : State) (machine : Machine) (changes : List Change) : Type 0 where
-  pub machine : machine ≡ record { state = opening s; seats = seats; reserved = None }
-  pub changes : apply_changes changes s ≡ opening s
+pub record IsOpened (seats : ℕ) (s : State) (opened : Machine) (made : List Change) : Type 0 where
+  pub machine : opened ≡ record { state = opening s; seats = seats; reserved = None }
+  pub changes : apply_changes made s ≡ opening s
 
 -- the tables are sound, and a reserved plan has its room and leaves them sound
 pub record IsReady (free : ℕ) (m : Machine) : Type 0 where

@@ -24,7 +24,7 @@ pub fn is_placed(stage: TaskStage) -> bool
 }
 
 /// Whether the run is waiting, queued or taken.
-fn is_unended(state: RunState) -> bool
+pub fn is_unended(state: RunState) -> bool
     ensures { result ≡ is_unended state }
 {
     !matches!(state, RunState::Ended(_) | RunState::Withdrawn)

@@ -9,6 +9,7 @@ mod event;
 mod job;
 mod machine;
 mod node;
+mod open;
 mod place;
 mod plan;
 mod pool;

@@ -10,7 +10,7 @@ ghost use Rattle.batch_machine.specs.Machines.{IsMade, IsOpened};
 
 use crate::open::opening_changes;
 use crate::{due, event};
-use bt_base::{List, Moment, NoMemory};
+use bt_base::{Duplicate, List, Moment, NoMemory};
 use bt_rows::event::Event;
 use bt_rows::plan::Plan;
 use bt_rows::reply::Reply;

@@ -1,0 +1,11 @@
+use Rattle.std.proofs.Common.{◌≡◌, [], ◌∙◌, ap}
+use Rattle.bt_rows.specs.Changes.{apply_changes}
+use Rattle.batch_machine.specs.Openings.{with_opening}
+use Rattle.batch_machine.proofs.OpeningMade.{opening_made}
+use Rattle.batch_machine.proofs.open.opening_changes.Goals as goal
+
+pub returns : goal.returns
+returns c =
+    let s = c.args.tables.now.state in
+    let made = c.of_vec.ensures ∙ c.in_ok-add_opening.ensures ∙ ap (with_opening s) c.new-changes.ensures.items in
+    ap (λ changes. apply_changes changes s) made ∙ opening_made s c.requires.keys
