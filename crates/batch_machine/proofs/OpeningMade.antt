@@ -1,18 +1,18 @@
 -- The puts and drops of the opening lead to opened tables.
-use Rattle.std.proofs.Common.{◌≡◌, ℕ, Bool, true, false, not, ◌&&◌, nat_eq, List, [], ◌∷◌, ◌++◌, Option, Some, None, is_none, cond, map, unwrap_or, refl, sym, ◌∙◌, ap}
+use Rattle.std.proofs.Common.{◌≡◌, ℕ, Bool, true, false, not, ◌&&◌, nat_eq, List, [], ◌∷◌, ◌++◌, Option, Some, None, is_some, is_none, cond, map, unwrap_or, refl, sym, ◌∙◌, ap, subst}
 use Rattle.std.specs.Cmp.{nat_eq_equiv}
 use Rattle.std.proofs.lemmas.Bool.Decides.{Decides-eqb}
-use Rattle.bt_base.proofs.SameIds.{same_equiv}
 use Rattle.bt_rows.specs.Changes.{apply_change, apply_changes}
 use Rattle.bt_rows.specs.Keys.{same_pool, same_pool_equiv, same_task, same_task_equiv, same_run, same_run_equiv, node_has_number, prep_has_key, same_prep_equiv}
 use Rattle.bt_rows.specs.declared.tables.Change.{Change}
-use Rattle.bt_rows.specs.declared.tables.Change.TheVariants.{PutPool, PutTask, PutRun, DropNode, DropPrep}
+use Rattle.bt_rows.specs.declared.tables.Change.TheVariants.{PutPool, PutTask, PutRun}
 use Rattle.batch_model.specs.Finding.{only_if, change_where}
 use Rattle.batch_model.specs.Runs.{is_unended}
-use Rattle.batch_model.specs.Pools.{is_resizing}
+use Rattle.batch_model.specs.Tasks.{is_placed, is_undisturbed, main_ending}
+use Rattle.batch_model.specs.Pools.{is_resizing, is_stopping}
 use Rattle.batch_model.specs.Opening.{opening, is_refilled, refilled, is_emptied, emptied, is_cut_short, requeued, withdrawn}
 use Rattle.batch_model.specs.WellFormed.{KeysAreDistinct}
-use Rattle.batch_model.specs.Variants.{State, PoolRow, Alloc, Steady, Resizing, Stopping, ResizeError, NodeRow, TaskRow, RunRow, PrepRow}
+use Rattle.batch_model.specs.Variants.{State, PoolRow, Alloc, Steady, Resizing, Stopping, ResizeError, NodeRow, TaskRow, Want, RunRow, RunState, PrepRow}
 use Rattle.batch_model.proofs.Tests.{and_first, and_second}
 use Rattle.batch_machine.specs.Openings.{puts_of, put_if_some, is_fresh, opened_pool, opened_task, opened_run, pool_puts, task_puts, run_puts, node_drops, drop_of_node, prep_drops, drop_of_prep, key_of_prep, with_opening}
 use Rattle.batch_machine.proofs.PutsInPlace.{put_if_some as put_row_if_some, put_each, put_in_place, put_is_change_where, drop_each, drop_all}
@@ -75,6 +75,60 @@ pools_opened : (now : ℕ) (pools : List PoolRow) → map (λ pool. unwrap_or (o
 pools_opened now [] = refl
 pools_opened now (pool ∷ pools) =
     rw (opened_by now pool (is_refilled pool) (is_fresh now pool) (is_emptied pool) refl refl, pools_opened now pools) refl
+
+-- rows that the opening leaves as they are give no puts
+
+puts_none : {R : Type 0} (put : R → Change) (give : R → Option R) (f : R → R) → ((x : R) → f x ≡ x → give x ≡ None) → (xs : List R) → map f xs ≡ xs → puts_of put give xs ≡ []
+puts_none put give f none [] same = refl
+puts_none put give f none (x ∷ xs) same =
+    let first : f x ≡ x = cc in
+    let others : map f xs ≡ xs = cc in
+    rw (none x first, puts_none put give f none xs others) refl
+
+-- a pool that the refill leaves as it is
+fresh_if_same : (now : ℕ) (pool : PoolRow) → refilled now pool ≡ pool → is_fresh now pool ≡ true
+fresh_if_same now pool same =
+    subst (λ other. is_fresh now other ≡ true) same
+    (rw (nat_eq_equiv.refl now, nat_eq_equiv.refl pool.usual_timeout) refl)
+
+-- a stopping pool is not steady
+stopping_alone : (alloc : Alloc) → Steady ≡ alloc → is_stopping alloc ≡ false
+stopping_alone alloc e = subst (λ other. is_stopping other ≡ false) e refl
+
+unchanged_by : (now : ℕ) (pool : PoolRow) (r f z : Bool) → is_fresh now pool ≡ f → is_emptied pool ≡ z → unwrap_or (cond r (only_if (not f) (Some (refilled now pool))) (only_if z (Some (emptied pool)))) pool ≡ pool → cond r (only_if (not f) (Some (refilled now pool))) (only_if z (Some (emptied pool))) ≡ None
+unchanged_by now pool true true z i e same = refl
+unchanged_by now pool true false z i e same = let fresh : is_fresh now pool ≡ true = fresh_if_same now pool same in cc
+unchanged_by now pool false f true i e same =
+    let off : is_stopping pool.alloc ≡ false = stopping_alone pool.alloc (ap (λ (other : PoolRow). other.alloc) same) in
+    let on : is_stopping pool.alloc ≡ true = and_first (is_stopping pool.alloc) (nat_eq pool.dedicated 0) e in
+    cc
+unchanged_by now pool false f false i e same = refl
+
+unchanged_pool : (now : ℕ) (pool : PoolRow) → unwrap_or (opened_pool now pool) pool ≡ pool → opened_pool now pool ≡ None
+unchanged_pool now pool same = unchanged_by now pool (is_refilled pool) (is_fresh now pool) (is_emptied pool) refl refl same
+
+-- a task that is cut short has no wanted end
+unchanged_task_by : (s : State) (task : TaskRow) (b : Bool) → is_cut_short s task ≡ b → cond b (requeued task) task ≡ task → only_if b (Some (requeued task)) ≡ None
+unchanged_task_by s task true i same =
+    let wants : is_none task.wanted ≡ false = subst (λ (wanted : Option Want). is_none wanted ≡ false) (ap (λ (other : TaskRow). other.wanted) same) refl in
+    let none : is_none task.wanted ≡ true =
+    and_first (is_none task.wanted) (is_none task.fail)
+    (and_second (is_placed task.stage) (is_undisturbed task) (and_first (is_placed task.stage && is_undisturbed task) (not (is_some (main_ending s task))) i)) in
+    cc
+unchanged_task_by s task false i same = refl
+
+unchanged_task : (s : State) (task : TaskRow) → cond (is_cut_short s task) (requeued task) task ≡ task → opened_task s task ≡ None
+unchanged_task s task same = unchanged_task_by s task (is_cut_short s task) refl same
+
+-- an unended run is not withdrawn
+unchanged_run_by : (now : ℕ) (run : RunRow) (b : Bool) → is_unended run.state ≡ b → cond b (withdrawn now run) run ≡ run → only_if b (Some (withdrawn now run)) ≡ None
+unchanged_run_by now run true i same =
+    let over : is_unended run.state ≡ false = subst (λ (state : RunState). is_unended state ≡ false) (ap (λ (other : RunRow). other.state) same) refl in
+    cc
+unchanged_run_by now run false i same = refl
+
+unchanged_run : (now : ℕ) (run : RunRow) → cond (is_unended run.state) (withdrawn now run) run ≡ run → opened_run now run ≡ None
+unchanged_run now run same = unchanged_run_by now run (is_unended run.state) refl same
 
 -- puts and drops change one list of the tables
 
@@ -170,3 +224,30 @@ module _ (s : State) (keys : KeysAreDistinct s) where
       ∙ runs_open)
       ∙ nodes_open)
       ∙ preps_open
+
+  -- where the opening leaves the tables as they are, no change is made
+
+  no_pool_puts : opening s ≡ s → pool_puts s ≡ []
+  no_pool_puts same =
+      puts_none PutPool (opened_pool s.moment) (λ pool. unwrap_or (opened_pool s.moment pool) pool) (unchanged_pool s.moment) s.pools
+      (pools_opened s.moment s.pools ∙ ap (λ (t : State). t.pools) same)
+
+  no_task_puts : opening s ≡ s → task_puts s ≡ []
+  no_task_puts same =
+      puts_none PutTask (opened_task s) (λ task. cond (is_cut_short s task) (requeued task) task) (unchanged_task s) s.tasks
+      (ap (λ (t : State). t.tasks) same)
+
+  no_run_puts : opening s ≡ s → run_puts s ≡ []
+  no_run_puts same =
+      puts_none PutRun (opened_run s.moment) (λ run. cond (is_unended run.state) (withdrawn s.moment run) run) (unchanged_run s.moment) s.runs
+      (ap (λ (t : State). t.runs) same)
+
+  no_node_drops : opening s ≡ s → node_drops s ≡ []
+  no_node_drops same = ap (map drop_of_node) (sym (ap (λ (t : State). t.nodes) same))
+
+  no_prep_drops : opening s ≡ s → prep_drops s ≡ []
+  no_prep_drops same = ap (map drop_of_prep) (sym (ap (λ (t : State). t.preps) same))
+
+  pub opening_none : opening s ≡ s → with_opening s [] ≡ []
+  opening_none same =
+      rw (no_pool_puts same, no_task_puts same, no_run_puts same, no_node_drops same, no_prep_drops same) refl

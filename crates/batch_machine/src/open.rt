@@ -208,7 +208,8 @@ fn add_opening(changes: &mut Vec<Change>, tables: &Tables) -> Result<(), NoMemor
 /// There are none where it leaves the tables as they are.
 pub fn opening_changes(alloc: Global, tables: &Tables) -> Result<List<Change>, NoMemory>
     requires { IsWellFormed tables.now.state }
-    ensures { IfOk result (λ changes. apply_changes changes tables.now.state ≡ opening tables.now.state) }
+    ensures state { IfOk result (λ changes. apply_changes changes tables.now.state ≡ opening tables.now.state) }
+    ensures none { opening tables.now.state ≡ tables.now.state → IfOk result (λ changes. changes ≡ []) }
 {
     let mut changes = Vec::new(alloc);
     add_opening(&mut changes, tables)?;

@@ -7,7 +7,7 @@ use Rattle.batch_machine.proofs.machine.Machine.open.Goals as goal
 pub invariant_of-machine : goal.invariant_of-machine
 invariant_of-machine c =
     let s = c.args.tables.state in
-    let leads : c.apply.new.self.state ≡ opening s = rw (c.apply.ensures, c.in_ok-made.ensures, c.reserve.ensures.state) c.in_ok-changes.ensures in
+    let leads : c.apply.new.self.state ≡ opening s = rw (c.apply.ensures, c.in_ok-made.ensures, c.reserve.ensures.state) c.in_ok-changes.ensures.state in
     record {
       few = c.requires.few;
       sound = subst (IsSound c.args.seats) (sym leads) (sound_by_opening c.args.seats s c.requires.well_formed);
