@@ -1,11 +1,12 @@
 //! What an event would do.
-ghost use Rattle.std.specs.Prelude.{IfOk};
+ghost use Rattle.std.specs.Prelude.{◌≡◌, true, IfOk};
+ghost use Rattle.bt_rows.specs.Ranges.{is_event_in_range};
 ghost use Rattle.batch_model.specs.Events.{event_step};
 ghost use Rattle.batch_model.specs.WellFormed.{KeysAreDistinct};
 ghost use Rattle.batch_machine.specs.Plans.{IsPlanOf};
 
 use crate::job::add_job;
-use crate::plan::refuse;
+use crate::plan::{accept_none, refuse};
 use crate::pool::add_pool;
 use crate::run::{end_run, take_run};
 use crate::task::add_task;
@@ -25,7 +26,8 @@ pub fn plan_event(
     event: &Event,
 ) -> Result<Plan, NoMemory>
     requires { KeysAreDistinct tables.now.state }
-    ensures { IfOk result (IsPlanOf (event_step moment event.now tables.now.state) tables.now.state) }
+    ensures plan { IfOk result (IsPlanOf (event_step moment event.now tables.now.state) tables.now.state) }
+    ensures ranges { is_event_in_range event.now ≡ true }
 {
     match event.kind() {
         EventKind::AddPool(spec) => add_pool(alloc, tables, moment, spec),
@@ -33,6 +35,7 @@ pub fn plan_event(
         EventKind::AddTask(job, spec) => add_task(alloc, tables, moment, job, spec),
         EventKind::Take(number) => take_run(alloc, tables, moment, *number),
         EventKind::End(number, ending) => end_run(alloc, tables, moment, *number, *ending),
+        EventKind::Tick => accept_none(alloc, tables, moment, 200),
         EventKind::DeletePool(_)
         | EventKind::Resize(_, _)
         | EventKind::StopResize(_)
@@ -48,7 +51,6 @@ pub fn plan_event(
         | EventKind::DeleteTask(_, _)
         | EventKind::TerminateTask(_, _)
         | EventKind::ReactivateTask(_, _)
-        | EventKind::Sample(_, _)
-        | EventKind::Tick => refuse(alloc, tables, moment, Refusal::UnreadableBody),
+        | EventKind::Sample(_, _) => refuse(alloc, tables, moment, Refusal::UnreadableBody),
     }
 }

@@ -3,7 +3,7 @@ ghost use Rattle.std.specs.Prelude.{◌≡◌, [], ◌∷◌, IfOk, max};
 ghost use Rattle.bt_rows.specs.Changes.{apply_change};
 ghost use Rattle.bt_rows.specs.declared.tables.Change.TheVariants.{Now};
 ghost use Rattle.bt_rows.specs.declared.reply.Reply.TheVariants.{Status, Step};
-ghost use Rattle.batch_model.specs.Events.{at_moment, refuse};
+ghost use Rattle.batch_model.specs.Events.{at_moment, accept, refuse};
 ghost use Rattle.batch_machine.specs.Plans.{IsPlanOf};
 
 use bt_base::{List, NoMemory};
@@ -33,6 +33,22 @@ pub fn refuse(
     let changes = vec![in alloc; moved(tables, moment)]?;
     Ok(Plan {
         reply: Reply::Refused(refusal),
+        changes: List::of_vec(changes),
+    })
+}
+
+/// A status, and no change but that of the last moment.
+pub fn accept_none(
+    alloc: Global,
+    tables: &Tables,
+    moment: u64,
+    status: u16,
+) -> Result<Plan, NoMemory>
+    ensures { IfOk result (IsPlanOf (accept status (at_moment moment tables.now.state)) tables.now.state) }
+{
+    let changes = vec![in alloc; moved(tables, moment)]?;
+    Ok(Plan {
+        reply: Reply::Status(status),
         changes: List::of_vec(changes),
     })
 }

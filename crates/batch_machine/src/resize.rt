@@ -1,7 +1,7 @@
-//! The due step that ends a resize: a pool with as many nodes as its target is steady.
-ghost use Rattle.std.specs.Prelude.{◌≡◌, IfOk, Some, find};
+//! The due step that ends a resize: a pool with as many nodes as its target is steady, and so is one whose timeout is over.
+ghost use Rattle.std.specs.Prelude.{◌≡◌, ◌+◌, nat_le, IfOk, Some, find};
 ghost use Rattle.std.specs.Option.{option_copied};
-ghost use Rattle.batch_model.specs.Dues.{has_reached, steady, pool_steady, end_resize};
+ghost use Rattle.batch_model.specs.Dues.{has_reached, steady, pool_steady, has_timed_out, timed_out, pool_timed_out, ends_resize, resize_ended, end_resize};
 ghost use Rattle.batch_model.specs.WellFormed.{KeysAreDistinct};
 ghost use Rattle.batch_machine.specs.Plans.{IsPlanOf, IsRule, answer_of_step};
 
@@ -10,7 +10,7 @@ use crate::plan::step_one;
 use bt_base::{Duplicate, NoMemory};
 use bt_rows::due::{Due, ResizeEnd};
 use bt_rows::plan::Plan;
-use bt_rows::pool::{Alloc, PoolRow};
+use bt_rows::pool::{Alloc, PoolRow, ResizeError};
 use bt_rows::tables::{Change, Tables};
 use std::alloc::Global;
 
@@ -24,11 +24,32 @@ fn has_reached(tables: &Tables, pool: &PoolRow) -> bool
         && staying_count(tables, &pool.id) == pool.dedicated as usize
 }
 
-/// The first pool whose resize is to end.
-fn first_reached<'a>(tables: &'a Tables) -> Option<&'a PoolRow>
-    ensures { option_copied result ≡ find (has_reached tables.now.state) tables.now.state.pools }
+/// Whether what began then has lasted so long.
+fn is_out(began: u64, timeout: u64, now: u64) -> bool
+    ensures { result ≡ nat_le (began + timeout) now }
 {
-    tables.pools().iter().find(|pool| has_reached(tables, pool))
+    timeout <= now && began <= now - timeout
+}
+
+/// Whether the pool resizes and its timeout is over.
+fn has_timed_out(tables: &Tables, pool: &PoolRow) -> bool
+    ensures { result ≡ has_timed_out tables.now.state pool.now }
+{
+    !pool.deleting && is_resizing(pool.alloc) && is_out(pool.began, pool.timeout, tables.moment())
+}
+
+/// Whether the pool's resize is to end, in one way or the other.
+fn ends_resize(tables: &Tables, pool: &PoolRow) -> bool
+    ensures { result ≡ ends_resize tables.now.state pool.now }
+{
+    has_reached(tables, pool) || has_timed_out(tables, pool)
+}
+
+/// The first pool whose resize is to end.
+fn first_ending<'a>(tables: &'a Tables) -> Option<&'a PoolRow>
+    ensures { option_copied result ≡ find (ends_resize tables.now.state) tables.now.state.pools }
+{
+    tables.pools().iter().find(|pool| ends_resize(tables, pool))
 }
 
 /// The pool, steady.
@@ -43,20 +64,53 @@ fn steady(pool: &PoolRow) -> Result<PoolRow, NoMemory>
 /// The plan that makes the pool steady.
 fn pool_steady(alloc: Global, tables: &Tables, pool: &PoolRow) -> Result<Plan, NoMemory>
     requires keys { KeysAreDistinct tables.now.state }
-    requires found { find (has_reached tables.now.state) tables.now.state.pools ≡ Some pool.now }
+    requires found { find (ends_resize tables.now.state) tables.now.state.pools ≡ Some pool.now }
     ensures { IfOk result (IsPlanOf (answer_of_step (pool_steady tables.now.state pool.now)) tables.now.state) }
 {
     let due = Due::PoolResized(pool.id.copy()?, ResizeEnd::Reached);
     step_one(alloc, due, Change::PutPool(steady(pool)?))
 }
 
-/// The plan that ends the first resize that has reached its target.
+/// The pool, steady, with why it has too few or too many nodes.
+fn timed_out(pool: &PoolRow) -> Result<PoolRow, NoMemory>
+    ensures { IfOk result (λ row. row ≡ timed_out pool.now) }
+{
+    let mut row = pool.copy()?;
+    row.alloc = Alloc::Steady;
+    row.error = Some(ResizeError::AllocationTimedOut);
+    Ok(row)
+}
+
+/// The plan that makes the pool steady since its timeout is over.
+fn pool_timed_out(alloc: Global, tables: &Tables, pool: &PoolRow) -> Result<Plan, NoMemory>
+    requires keys { KeysAreDistinct tables.now.state }
+    requires found { find (ends_resize tables.now.state) tables.now.state.pools ≡ Some pool.now }
+    ensures { IfOk result (IsPlanOf (answer_of_step (pool_timed_out tables.now.state pool.now)) tables.now.state) }
+{
+    let due = Due::PoolResized(pool.id.copy()?, ResizeEnd::TimedOut);
+    step_one(alloc, due, Change::PutPool(timed_out(pool)?))
+}
+
+/// The plan that ends the pool's resize.
+fn resize_ended(alloc: Global, tables: &Tables, pool: &PoolRow) -> Result<Plan, NoMemory>
+    requires keys { KeysAreDistinct tables.now.state }
+    requires found { find (ends_resize tables.now.state) tables.now.state.pools ≡ Some pool.now }
+    ensures { IfOk result (IsPlanOf (answer_of_step (resize_ended tables.now.state pool.now)) tables.now.state) }
+{
+    if has_reached(tables, pool) {
+        pool_steady(alloc, tables, pool)
+    } else {
+        pool_timed_out(alloc, tables, pool)
+    }
+}
+
+/// The plan that ends the first resize that has reached its target or lasted as long as its timeout.
 pub fn end_resize(alloc: Global, tables: &Tables) -> Result<Option<Plan>, NoMemory>
     requires { KeysAreDistinct tables.now.state }
     ensures { IfOk result (IsRule (end_resize tables.now.state) tables.now.state) }
 {
-    match first_reached(tables) {
+    match first_ending(tables) {
         None => Ok(None),
-        Some(pool) => Ok(Some(pool_steady(alloc, tables, pool)?)),
+        Some(pool) => Ok(Some(resize_ended(alloc, tables, pool)?)),
     }
 }

@@ -1,11 +1,12 @@
-//! The due step that settles a placed task whose present attempt has no unended run.
+//! The due step that settles a placed task whose present attempt has no unended run: it is active again where its requeue
+//! is wanted, and else completed.
 ghost use Rattle.std.specs.Prelude.{◌≡◌, IfOk, Some, find};
 ghost use Rattle.std.specs.Option.{option_copied};
 ghost use Rattle.bt_rows.specs.declared.due.Due.TheVariants.{TaskSettled};
-ghost use Rattle.batch_model.specs.Tasks.{is_undisturbed, main_ending, completed, retry_limit};
+ghost use Rattle.batch_model.specs.Tasks.{is_undisturbed, main_ending, cleared, completed, retry_limit};
 ghost use Rattle.batch_model.specs.Rows.{job_of};
 ghost use Rattle.batch_model.specs.Endings.{is_success, closed_by};
-ghost use Rattle.batch_model.specs.Settling.{is_over, has_no_conditions, is_zero_limit, is_tried_once, has_plain_job, is_to_complete, outcome_of, complete, settle};
+ghost use Rattle.batch_model.specs.Settling.{is_over, has_no_conditions, is_zero_limit, is_tried_once, has_plain_job, is_to_complete, outcome_of, complete, wants_requeue, is_to_requeue, active_again, requeue, is_to_settle, complete_as_ended, settle};
 ghost use Rattle.batch_model.specs.Dues.{settle_first};
 ghost use Rattle.batch_model.specs.WellFormed.{KeysAreDistinct};
 ghost use Rattle.batch_machine.specs.Plans.{IsPlanOf, IsRule, answer_of_step};
@@ -19,7 +20,7 @@ use bt_rows::lists;
 use bt_rows::plan::Plan;
 use bt_rows::run::Ending;
 use bt_rows::tables::{Change, Tables};
-use bt_rows::task::{Closed, How, TaskRow, TaskStage};
+use bt_rows::task::{Closed, How, TaskRow, TaskStage, Want};
 use std::alloc::Global;
 
 /// Whether the task is placed, and no run of its present attempt is unended.
@@ -88,14 +89,35 @@ fn is_to_complete(tables: &Tables, task: &TaskRow) -> bool
         && main_ending(tables, task).is_some()
 }
 
-/// The first task that is to be completed.
-fn first_to_complete<'a>(tables: &'a Tables) -> Option<&'a TaskRow>
-    ensures { option_copied result ≡ find (is_to_complete tables.now.state) tables.now.state.tasks }
+/// Whether a requeue of the task is wanted.
+fn wants_requeue(wanted: Option<Want>) -> bool
+    ensures { result ≡ wants_requeue wanted }
+{
+    wanted == Some(Want::Requeue)
+}
+
+/// Whether the task is over, and is to be active again.
+fn is_to_requeue(tables: &Tables, task: &TaskRow) -> bool
+    ensures { result ≡ is_to_requeue tables.now.state task.now }
+{
+    is_over(tables, task) && wants_requeue(task.wanted)
+}
+
+/// Whether the task is to be requeued or completed.
+fn is_to_settle(tables: &Tables, task: &TaskRow) -> bool
+    ensures { result ≡ is_to_settle tables.now.state task.now }
+{
+    is_to_requeue(tables, task) || is_to_complete(tables, task)
+}
+
+/// The first task that is to be settled.
+fn first_to_settle<'a>(tables: &'a Tables) -> Option<&'a TaskRow>
+    ensures { option_copied result ≡ find (is_to_settle tables.now.state) tables.now.state.tasks }
 {
     tables
         .tasks()
         .iter()
-        .find(|task| is_to_complete(tables, task))
+        .find(|task| is_to_settle(tables, task))
 }
 
 /// Whether the ending is by code 0.
@@ -129,16 +151,33 @@ fn outcome_of(success: bool) -> Outcome
     }
 }
 
+/// The task with no end wanted and no start failed.
+fn cleared(task: &TaskRow) -> Result<TaskRow, NoMemory>
+    ensures { IfOk result (λ row. row ≡ cleared task.now) }
+{
+    let mut row = task.copy()?;
+    row.wanted = None;
+    row.fail = None;
+    row.started = None;
+    Ok(row)
+}
+
 /// The task, completed in such a way.
 fn completed(closed: Closed, task: &TaskRow) -> Result<TaskRow, NoMemory>
     ensures { IfOk result (λ row. row ≡ completed closed task.now) }
 {
-    let mut row = task.copy()?;
+    let mut row = cleared(task)?;
     row.stage = TaskStage::Completed;
-    row.wanted = None;
-    row.fail = None;
-    row.started = None;
     row.closed = Some(closed);
+    Ok(row)
+}
+
+/// The task, active again with the failures that it has.
+fn active_again(task: &TaskRow) -> Result<TaskRow, NoMemory>
+    ensures { IfOk result (λ row. row ≡ active_again task.now) }
+{
+    let mut row = cleared(task)?;
+    row.stage = TaskStage::Active;
     Ok(row)
 }
 
@@ -158,7 +197,7 @@ fn complete(
     ending: Ending,
 ) -> Result<Plan, NoMemory>
     requires keys { KeysAreDistinct tables.now.state }
-    requires found { find (is_to_complete tables.now.state) tables.now.state.tasks ≡ Some task.now }
+    requires found { find (is_to_settle tables.now.state) tables.now.state.tasks ≡ Some task.now }
     ensures { IfOk result (IsPlanOf (answer_of_step (complete tables.now.state task.now ending)) tables.now.state) }
 {
     let due = settled(task, outcome_of(is_success(ending)))?;
@@ -167,10 +206,14 @@ fn complete(
 }
 
 /// The plan that completes the task, if its main run ended.
-fn settle(alloc: Global, tables: &Tables, task: &TaskRow) -> Result<Option<Plan>, NoMemory>
+fn complete_as_ended(
+    alloc: Global,
+    tables: &Tables,
+    task: &TaskRow,
+) -> Result<Option<Plan>, NoMemory>
     requires keys { KeysAreDistinct tables.now.state }
-    requires found { find (is_to_complete tables.now.state) tables.now.state.tasks ≡ Some task.now }
-    ensures { IfOk result (IsRule (settle tables.now.state task.now) tables.now.state) }
+    requires found { find (is_to_settle tables.now.state) tables.now.state.tasks ≡ Some task.now }
+    ensures { IfOk result (IsRule (complete_as_ended tables.now.state task.now) tables.now.state) }
 {
     match main_ending(tables, task) {
         None => Ok(None),
@@ -178,12 +221,35 @@ fn settle(alloc: Global, tables: &Tables, task: &TaskRow) -> Result<Option<Plan>
     }
 }
 
-/// The plan that settles the first task that is over.
+/// The plan that makes the task active again.
+fn requeue(alloc: Global, tables: &Tables, task: &TaskRow) -> Result<Plan, NoMemory>
+    requires keys { KeysAreDistinct tables.now.state }
+    requires found { find (is_to_settle tables.now.state) tables.now.state.tasks ≡ Some task.now }
+    ensures { IfOk result (IsPlanOf (answer_of_step (requeue tables.now.state task.now)) tables.now.state) }
+{
+    let due = settled(task, Outcome::Again(task.failures))?;
+    step_one(alloc, due, Change::PutTask(active_again(task)?))
+}
+
+/// The plan that settles the task: a wanted requeue goes before the ending of the main run.
+fn settle(alloc: Global, tables: &Tables, task: &TaskRow) -> Result<Option<Plan>, NoMemory>
+    requires keys { KeysAreDistinct tables.now.state }
+    requires found { find (is_to_settle tables.now.state) tables.now.state.tasks ≡ Some task.now }
+    ensures { IfOk result (IsRule (settle tables.now.state task.now) tables.now.state) }
+{
+    if is_to_requeue(tables, task) {
+        Ok(Some(requeue(alloc, tables, task)?))
+    } else {
+        complete_as_ended(alloc, tables, task)
+    }
+}
+
+/// The plan that settles the first task that is to be settled.
 pub fn settle_first(alloc: Global, tables: &Tables) -> Result<Option<Plan>, NoMemory>
     requires { KeysAreDistinct tables.now.state }
     ensures { IfOk result (IsRule (settle_first tables.now.state) tables.now.state) }
 {
-    match first_to_complete(tables) {
+    match first_to_settle(tables) {
         None => Ok(None),
         Some(task) => settle(alloc, tables, task),
     }

@@ -1,11 +1,12 @@
 //! Events of tasks.
-ghost use Rattle.std.specs.Prelude.{◌≡◌, IfOk, is_some, false};
+ghost use Rattle.std.specs.Prelude.{◌≡◌, not, nat_le, IfOk, is_some, false};
 ghost use Rattle.std.specs.Option.{option_copied};
 ghost use Rattle.bt_rows.specs.declared.refusal.Refusal.TheVariants.{JobNotFound};
-ghost use Rattle.batch_model.specs.Events.{accept, add_task, at_moment, for_row};
+ghost use Rattle.batch_model.specs.Events.{accept, add_task, at_moment, for_row, has_long_needs};
 ghost use Rattle.batch_model.specs.Jobs.{is_past};
 ghost use Rattle.batch_model.specs.Rows.{job_of, task_of, add_task_row};
 ghost use Rattle.batch_model.specs.Tasks.{new_task};
+ghost use Rattle.batch_model.specs.WellFormed.{needs_length};
 ghost use Rattle.batch_machine.specs.Plans.{IsPlanOf};
 
 use crate::job::find_job;
@@ -21,6 +22,9 @@ use std::alloc::Global;
 
 /// How many tasks there may be.
 const TASK_LIMIT: u64 = 1_000_000;
+
+/// How many characters the ids of one list of dependencies have together, at most.
+const NEEDS_LIMIT: usize = 64_000;
 
 /// The job's task with this id, but for case.
 fn find_task<'a>(tables: &'a Tables, job: &Id, id: &Id) -> Option<&'a TaskRow>
@@ -40,6 +44,28 @@ fn is_past(state: JobState) -> bool
         state,
         JobState::Terminating | JobState::Completed | JobState::Deleting
     )
+}
+
+/// Whether the ids have more characters together than the limit.
+fn are_long(needs: &[Id]) -> bool
+    ensures { result ≡ not (nat_le (needs_length needs.now) 64000) }
+{
+    let mut left = NEEDS_LIMIT;
+    for need in needs {
+        let length = need.as_str().len();
+        if length > left {
+            return true;
+        }
+        left -= length;
+    }
+    false
+}
+
+/// Whether the ids that the task depends on have more characters together than the limit.
+fn has_long_needs(spec: &TaskSpec) -> bool
+    ensures { result ≡ has_long_needs spec.now }
+{
+    are_long(spec.needs.as_slice())
 }
 
 /// A copy of what a task with several instances asks.
@@ -128,6 +154,9 @@ fn add_task_to(
     if find_task(tables, &job.id, &spec.id).is_some() {
         return refuse(alloc, tables, moment, Refusal::TaskExists);
     }
+    if has_long_needs(spec) {
+        return refuse(alloc, tables, moment, Refusal::DependencyListTooLong);
+    }
     if tables.tasks().len() as u64 >= TASK_LIMIT {
         return refuse(
             alloc,
@@ -140,8 +169,8 @@ fn add_task_to(
 }
 
 /// The plan of `add-task`. A job that is not there is refused as `JobNotFound`, one that is terminating, completed or
-/// deleting as `JobStateRefuses`, an id that a task of the job has as `TaskExists`, and one task more than 1,000,000 as
-/// `TableFull`, in this order.
+/// deleting as `JobStateRefuses`, an id that a task of the job has as `TaskExists`, dependencies whose ids have more than
+/// 64,000 characters together as `DependencyListTooLong`, and one task more than 1,000,000 as `TableFull`, in this order.
 pub fn add_task(
     alloc: Global,
     tables: &Tables,

@@ -3,7 +3,7 @@ use Rattle.bt_rows.specs.declared.due.Due.TheVariants.{PoolResized}
 use Rattle.bt_rows.specs.declared.due.ResizeEnd.TheVariants.{Reached}
 use Rattle.bt_rows.specs.declared.tables.Change.TheVariants.{PutPool}
 use Rattle.bt_rows.specs.Changes.{apply_change}
-use Rattle.batch_model.specs.Dues.{has_reached, steady, pool_steady}
+use Rattle.batch_model.specs.Dues.{ends_resize, steady, pool_steady}
 use Rattle.batch_machine.proofs.DuePlans.{of_step}
 use Rattle.batch_machine.proofs.DuePuts.{pool_changed}
 use Rattle.batch_machine.proofs.resize.pool_steady.Goals as goal
@@ -14,4 +14,4 @@ returns c =
     (pool_steady c.args.tables.now.state c.args.pool.now) c.step_one.ensures.reply c.step_one.ensures.changes
     (ap (λ id. PoolResized id Reached) c.in_ok-copy.ensures)
     (ap (λ row. apply_change (PutPool row) c.args.tables.now.state) c.in_ok-steady.ensures
-    ∙ pool_changed (has_reached c.args.tables.now.state) c.args.pool.now (steady c.args.pool.now) c.args.tables.now.state c.requires.keys c.requires.found refl)
+    ∙ pool_changed (ends_resize c.args.tables.now.state) c.args.pool.now (steady c.args.pool.now) c.args.tables.now.state c.requires.keys c.requires.found refl)

@@ -4,7 +4,7 @@ use Rattle.bt_rows.specs.declared.tables.Change.TheVariants.{PutTask}
 use Rattle.bt_rows.specs.Changes.{apply_change}
 use Rattle.batch_model.specs.Endings.{is_success, closed_by}
 use Rattle.batch_model.specs.Tasks.{completed}
-use Rattle.batch_model.specs.Settling.{is_to_complete, outcome_of, complete}
+use Rattle.batch_model.specs.Settling.{is_to_settle, outcome_of, complete}
 use Rattle.batch_machine.proofs.DuePlans.{of_step}
 use Rattle.batch_machine.proofs.DuePuts.{task_changed}
 use Rattle.batch_machine.proofs.settle.complete.Goals as goal
@@ -19,4 +19,4 @@ returns c =
     (c.in_ok-due.ensures ∙ ap (λ outcome. TaskSettled task.job task.id outcome) (c.outcome_of.ensures ∙ ap outcome_of c.is_success.ensures))
     (ap (λ row. apply_change (PutTask row) s)
     (c.in_ok-row.ensures ∙ ap (λ closing. completed closing task) (c.closed_by.ensures ∙ ap (λ now. closed_by now c.args.ending) c.moment.ensures))
-    ∙ task_changed (is_to_complete s) task (completed closed task) s c.requires.keys c.requires.found refl refl)
+    ∙ task_changed (is_to_settle s) task (completed closed task) s c.requires.keys c.requires.found refl refl)

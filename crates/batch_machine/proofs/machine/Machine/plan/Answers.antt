@@ -6,4 +6,4 @@ use Rattle.batch_machine.proofs.machine.Machine.plan.Goals as goal
 pub returns-clause-made : goal.returns-clause-made
 returns-clause-made c =
     subst (λ (m : Machine). IfOk c.plan_event.result (IsMade m.seats m.state)) c.self.view_is
-    (made_by_event c.self.inside.seats c.self.inside.tables.state c.ms.result c.args.event.now c.plan_event.result c.plan_event.ensures)
+    (made_by_event c.self.inside.seats c.self.inside.tables.state c.ms.result c.args.event.now c.plan_event.result c.ms.ensures.bound c.plan_event.ensures.ranges c.plan_event.ensures.plan)
