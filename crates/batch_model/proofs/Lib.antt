@@ -34,3 +34,4 @@ pub mod DueSound
 pub mod EventSound
 pub mod WellFormedTables
 pub mod OpeningSound
+pub mod RefusedEvents
