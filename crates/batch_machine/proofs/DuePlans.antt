@@ -1,5 +1,5 @@
 -- Plans of due steps, from the line and the changes that they are made of.
-use Rattle.std.proofs.Common.{◌≡◌, List, Option, Some, Result, Ok, Err, refl, sym, ◌∙◌, ap, subst}
+use Rattle.std.proofs.Common.{◌≡◌, List, Option, Some, Result, Ok, Err, ◌∙◌, ap}
 use Rattle.std.specs.Prelude.{IfOk}
 use Rattle.bt_base.specs.declared.memory.NoMemory.{NoMemory}
 use Rattle.bt_rows.specs.declared.due.Due.{Due}
@@ -16,6 +16,7 @@ pub of_step : (result : Result Plan NoMemory) (told : Due) (changes : List Chang
 of_step (Ok plan) told changes s step replied made due state = record {
   reply = replied ∙ ap Step due;
   state = ap (λ each. apply_changes each s) made ∙ state;
+  quiet = λ refusal told_so k. cc;
 }
 of_step (Err error) told changes s step replied made due state = tt
 

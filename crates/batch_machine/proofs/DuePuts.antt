@@ -1,5 +1,5 @@
 -- What due steps put into the tables.
-use Rattle.std.proofs.Common.{◌≡◌, ℕ, ◌+◌, Bool, false, not, nat_eq, nat_lt, List, [], ◌∷◌, ◌++◌, Some, refl, sym, ◌∙◌, ap}
+use Rattle.std.proofs.Common.{◌≡◌, ℕ, ◌+◌, Bool, false, not, nat_eq, nat_lt, List, [], ◌∷◌, ◌++◌, Some, refl, ap}
 use Rattle.std.specs.List.{list_any, find}
 use Rattle.bt_rows.specs.Changes.{apply_change, apply_changes}
 use Rattle.bt_rows.specs.Keys.{same_pool, same_pool_equiv, same_node, same_task, same_task_equiv, same_run}

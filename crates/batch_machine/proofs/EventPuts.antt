@@ -1,31 +1,20 @@
 -- What events put into the tables.
-use Rattle.std.proofs.Common.{◌≡◌, ℕ, true, false, ◌&&◌, List, Option, Some, None, is_some, Result, Ok, Err, refl, sym, ◌∙◌, ap, subst}
-use Rattle.std.specs.Result.{IfOk}
+use Rattle.std.proofs.Common.{◌≡◌, ℕ, true, false, ◌&&◌, List, Option, Some, None, is_some, refl, sym, ◌∙◌, ap, subst}
 use Rattle.std.specs.List.{find}
 use Rattle.std.proofs.lemmas.Bool.Decides.{Decides-eqb}
 use Rattle.bt_base.specs.Ids.{same}
-use Rattle.bt_base.specs.declared.memory.NoMemory.{NoMemory}
 use Rattle.bt_base.proofs.SameIds.{same_equiv}
-use Rattle.bt_rows.specs.declared.plan.Plan.{Plan}
-use Rattle.bt_rows.specs.declared.tables.Change.{Change}
 use Rattle.bt_rows.specs.declared.tables.Change.TheVariants.{PutPool, PutJob, PutTask, PutRun}
-use Rattle.bt_rows.specs.Changes.{apply_change, apply_changes}
+use Rattle.bt_rows.specs.Changes.{apply_change}
 use Rattle.bt_rows.specs.Keys.{same_run, same_run_equiv, same_task, same_task_equiv}
 use Rattle.batch_model.specs.Finding.{names}
 use Rattle.batch_model.specs.Rows.{is_pool, is_job, is_task, is_run, pool_of, job_of, task_of, run_of, add_pool_row, add_job_row, add_task_row, change_runs}
 use Rattle.batch_model.specs.Events.{taken_run, ended_run, started_task, is_task_of_run, run_taken, run_ended}
 use Rattle.batch_model.specs.WellFormed.{KeysAreDistinct}
-use Rattle.batch_model.specs.Steps.{Answered}
 use Rattle.batch_model.specs.Variants.{State, PoolRow, JobRow, TaskRow, RunRow, Ending}
 use Rattle.batch_model.proofs.Tests.{and_first, and_second}
 use Rattle.batch_model.proofs.RowLists.{find_test}
-use Rattle.batch_machine.specs.Plans.{IsPlanOf}
 use Rattle.batch_model.proofs.Putting.{put_row-new, any-not_found, put_row-found, change_where-none}
-
--- a plan with the reply and the changes of an answer
-pub planned : (result : Result Plan NoMemory) (answered : Answered) (s : State) (changes : List Change) → IfOk result (λ plan. plan.reply ≡ answered.reply) → IfOk result (λ plan. plan.changes ≡ changes) → apply_changes changes s ≡ answered.state → IfOk result (IsPlanOf answered s)
-planned (Ok plan) answered s changes reply made leads = record { reply = reply; state = ap (λ these. apply_changes these s) made ∙ leads }
-planned (Err error) answered s changes reply made leads = tt
 
 -- nothing is there
 is_nothing : {A : Type 0} (o : Option A) → is_some o ≡ false → o ≡ None

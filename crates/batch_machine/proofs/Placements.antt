@@ -1,9 +1,9 @@
 -- The changes of a placing.
-use Rattle.std.proofs.Common.{◌≡◌, ℕ, ◌+◌, ◌≤◌, ◌<◌, ◌^◌, Bool, true, false, not, ◌&&◌, nat_eq, nat_lt, nat_le, List, [], ◌∷◌, ◌++◌, Option, Some, None, Result, Ok, Err, IfOk, find, refl, sym, ◌∙◌, ap, arith}
+use Rattle.std.proofs.Common.{◌≡◌, ℕ, ◌+◌, ◌≤◌, ◌<◌, ◌^◌, Bool, false, not, nat_eq, nat_lt, List, [], ◌∷◌, Option, Some, None, Result, Ok, Err, IfOk, find, refl, ◌∙◌, ap, arith}
 use Rattle.std.specs.List.{list_any}
 use Rattle.std.specs.Prelude.{option_and_then}
 use Rattle.bt_rows.specs.Keys.{same_task, same_task_equiv, same_run}
-use Rattle.bt_rows.specs.Lists.{put_row, AreDistinct}
+use Rattle.bt_rows.specs.Lists.{AreDistinct}
 use Rattle.bt_rows.specs.Changes.{apply_changes}
 use Rattle.bt_base.specs.declared.memory.NoMemory.{NoMemory}
 use Rattle.bt_rows.specs.declared.due.Due.{Due}
@@ -12,8 +12,7 @@ use Rattle.bt_rows.specs.declared.reply.Reply.TheVariants.{Step}
 use Rattle.bt_rows.specs.declared.tables.Change.{Change}
 use Rattle.bt_rows.specs.declared.tables.Change.TheVariants.{PutTask, PutRun, Counters}
 use Rattle.bt_rows.proofs.DistinctRows.{found_first}
-use Rattle.batch_model.specs.Finding.{Each, change_where}
-use Rattle.batch_model.specs.Rows.{put_task}
+use Rattle.batch_model.specs.Finding.{Each}
 use Rattle.batch_model.specs.Runs.{work_run}
 use Rattle.batch_model.specs.Placing.{placed, place}
 use Rattle.batch_model.specs.Variants.{State, NodeRow, TaskRow, RunRow, TaskRun, Queued}
@@ -69,5 +68,5 @@ module _ {A B : Type 0} where
 
 -- a plan with the line and the changes of a step is its plan
 pub step_planned : (r : Result Plan NoMemory) (line : Due) (changes : List Change) (s : State) (step : DueStep) → IfOk r (λ plan. plan.reply ≡ Step line) → IfOk r (λ plan. plan.changes ≡ changes) → line ≡ step.due → apply_changes changes s ≡ step.state → IfOk r (IsPlanOf (answer_of_step step) s)
-step_planned (Ok plan) line changes s step reply made e f = record { reply = reply ∙ ap (λ d. Step d) e; state = ap (λ cs. apply_changes cs s) made ∙ f }
+step_planned (Ok plan) line changes s step reply made e f = record { reply = reply ∙ ap (λ d. Step d) e; state = ap (λ cs. apply_changes cs s) made ∙ f; quiet = λ refusal told k. cc }
 step_planned (Err failed) line changes s step reply made e f = tt

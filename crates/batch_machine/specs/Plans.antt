@@ -1,15 +1,24 @@
 -- What a plan stands for: a reply, and changes whose application is the step.
-use Rattle.std.specs.Prelude.{◌≡◌, ℕ, Option, Some, None}
+use Rattle.std.specs.Prelude.{◌≡◌, ℕ, nat_lt, List, [], ◌∷◌, Option, Some, None, if◌then◌else◌}
 use Rattle.bt_rows.specs.Changes.{apply_changes}
 use Rattle.bt_rows.specs.State.{State}
 use Rattle.bt_rows.specs.declared.plan.Plan.{Plan}
-use Rattle.bt_rows.specs.declared.reply.Reply.TheVariants.{Step}
+use Rattle.bt_rows.specs.declared.refusal.Refusal.{Refusal}
+use Rattle.bt_rows.specs.declared.reply.Reply.TheVariants.{Refused, Step}
+use Rattle.bt_rows.specs.declared.tables.Change.{Change}
+use Rattle.bt_rows.specs.declared.tables.Change.TheVariants.{Now}
 use Rattle.batch_model.specs.Steps.{Answered, DueStep}
 
--- the plan has the reply of the answer, and its changes lead to the tables of the answer
+-- the plan has the reply of the answer, and its changes lead to the tables of the answer; a refusal that leaves the tables
+-- makes no change
 pub record IsPlanOf (answered : Answered) (s : State) (plan : Plan) : Type 0 where
   pub reply : plan.reply ≡ answered.reply
   pub state : apply_changes plan.changes s ≡ answered.state
+  pub quiet : (refusal : Refusal) → answered.reply ≡ Refused refusal → answered.state ≡ s → plan.changes ≡ []
+
+-- the change of the last moment, where it rises
+abbrev pub moved_to : ℕ → State → List Change
+moved_to moment s = if nat_lt s.moment moment then Now moment ∷ [] else []
 
 -- a due step as an answer: its reply tells the step
 abbrev pub answer_of_step : DueStep → Answered

@@ -1,9 +1,10 @@
 //! What an event would do.
 ghost use Rattle.std.specs.Prelude.{◌≡◌, true, IfOk};
+ghost use Rattle.bt_rows.specs.declared.event.EventKind.TheVariants.{Tick};
 ghost use Rattle.bt_rows.specs.Ranges.{is_event_in_range};
 ghost use Rattle.batch_model.specs.Events.{event_step};
 ghost use Rattle.batch_model.specs.WellFormed.{KeysAreDistinct};
-ghost use Rattle.batch_machine.specs.Plans.{IsPlanOf};
+ghost use Rattle.batch_machine.specs.Plans.{IsPlanOf, moved_to};
 
 use crate::job::add_job;
 use crate::plan::{accept_none, refuse};
@@ -27,6 +28,7 @@ pub fn plan_event(
 ) -> Result<Plan, NoMemory>
     requires { KeysAreDistinct tables.now.state }
     ensures plan { IfOk result (IsPlanOf (event_step moment event.now tables.now.state) tables.now.state) }
+    ensures tick { event.now ≡ Tick → IfOk result (λ plan. plan.changes ≡ moved_to moment tables.now.state) }
     ensures ranges { is_event_in_range event.now ≡ true }
 {
     match event.kind() {

@@ -1,11 +1,14 @@
 //! The machine: tables, seats, and a plan that may be reserved.
 ghost use Rattle.std.specs.Prelude.{◌≡◌, ◌≤◌, Some, None, IfOk, OnOk, OnErr, IsSome, IfSome};
+ghost use Rattle.bt_rows.specs.declared.event.EventKind.TheVariants.{Tick};
+ghost use Rattle.bt_rows.specs.declared.refusal.Refusal.{Refusal};
+ghost use Rattle.bt_rows.specs.declared.reply.Reply.TheVariants.{Refused};
 ghost use Rattle.bt_rows.specs.Changes.{apply_changes};
 ghost use Rattle.batch_model.specs.Dues.{due_step};
-ghost use Rattle.batch_model.specs.Events.{event_step};
+ghost use Rattle.batch_model.specs.Events.{at_moment, event_step};
 ghost use Rattle.batch_model.specs.Sound.{IsSound};
 ghost use Rattle.batch_model.specs.WellFormed.{IsWellFormed};
-ghost use Rattle.batch_machine.specs.Plans.{IsPlanOf, IsRule};
+ghost use Rattle.batch_machine.specs.Plans.{IsPlanOf, IsRule, moved_to};
 ghost use Rattle.batch_machine.specs.Machines.{IsMade, IsOpened};
 
 use crate::open::opening_changes;
@@ -69,9 +72,12 @@ impl Machine {
         &self.tables
     }
 
-    /// The reply to an event at a moment, and the changes that it makes. A refusal is a reply.
+    /// The reply to an event at a moment, and the changes that it makes. A refusal is a reply; it changes nothing but the
+    /// last moment, and there are no changes where that stays. A tick likewise.
     pub fn plan(&self, alloc: Global, moment: Moment, event: &Event) -> Result<Plan, NoMemory>
         ensures plan { IfOk result (IsPlanOf (event_step moment event.now self.now.state) self.now.state) }
+        ensures refused { IfOk result (λ plan. (refusal : Refusal) → plan.reply ≡ Refused refusal → apply_changes plan.changes self.now.state ≡ at_moment moment self.now.state) }
+        ensures tick { event.now ≡ Tick → IfOk result (λ plan. plan.changes ≡ moved_to moment self.now.state) }
         ensures made { IfOk result (IsMade self.now.seats self.now.state) }
     {
         event::plan_event(alloc, &self.tables, moment.ms(), event)
@@ -111,11 +117,12 @@ impl Machine {
         reply
     }
 
-    /// The changes of the reserved plan, which leave sound tables. It takes no memory.
+    /// The changes of the reserved plan, which leave sound and so well-formed tables. It takes no memory.
     pub fn reserved(&self) -> &[Change]
         requires { IsSome self.now.reserved }
         ensures changes { IfSome self.now.reserved (λ plan. result.now ≡ plan.changes) }
         ensures sound { IfSome self.now.reserved (λ plan. IsSound self.now.seats (apply_changes plan.changes self.now.state)) }
+        ensures well_formed { IfSome self.now.reserved (λ plan. IsWellFormed (apply_changes plan.changes self.now.state)) }
     {
         match &self.reserved {
             Some(plan) => plan.changes.as_slice(),

@@ -1,10 +1,9 @@
 //! Plans of one or two changes, and of none.
-ghost use Rattle.std.specs.Prelude.{◌≡◌, [], ◌∷◌, IfOk, max};
+ghost use Rattle.std.specs.Prelude.{◌≡◌, [], ◌∷◌, ◌++◌, IfOk};
 ghost use Rattle.bt_rows.specs.Changes.{apply_change};
-ghost use Rattle.bt_rows.specs.declared.tables.Change.TheVariants.{Now};
 ghost use Rattle.bt_rows.specs.declared.reply.Reply.TheVariants.{Status, Step};
 ghost use Rattle.batch_model.specs.Events.{at_moment, accept, refuse};
-ghost use Rattle.batch_machine.specs.Plans.{IsPlanOf};
+ghost use Rattle.batch_machine.specs.Plans.{IsPlanOf, moved_to};
 
 use bt_base::{List, NoMemory};
 use bt_rows::due::Due;
@@ -14,11 +13,15 @@ use bt_rows::reply::Reply;
 use bt_rows::tables::{Change, Tables};
 use std::alloc::Global;
 
-/// The change of the last moment, which does not fall.
-fn moved(tables: &Tables, moment: u64) -> Change
-    ensures { result ≡ Now (max tables.now.state.moment moment) }
+/// The change of the last moment, where it rises.
+fn moved(alloc: Global, tables: &Tables, moment: u64) -> Result<Vec<Change>, NoMemory>
+    ensures { IfOk result (λ changes. changes.items ≡ moved_to moment tables.now.state) }
 {
-    Change::Now(tables.moment().max(moment))
+    if tables.moment() < moment {
+        Ok(vec![in alloc; Change::Now(moment)]?)
+    } else {
+        Ok(Vec::new(alloc))
+    }
 }
 
 /// A refusal changes the last moment alone.
@@ -30,7 +33,7 @@ pub fn refuse(
 ) -> Result<Plan, NoMemory>
     ensures { IfOk result (IsPlanOf (refuse refusal (at_moment moment tables.now.state)) tables.now.state) }
 {
-    let changes = vec![in alloc; moved(tables, moment)]?;
+    let changes = moved(alloc, tables, moment)?;
     Ok(Plan {
         reply: Reply::Refused(refusal),
         changes: List::of_vec(changes),
@@ -44,9 +47,10 @@ pub fn accept_none(
     moment: u64,
     status: u16,
 ) -> Result<Plan, NoMemory>
-    ensures { IfOk result (IsPlanOf (accept status (at_moment moment tables.now.state)) tables.now.state) }
+    ensures plan { IfOk result (IsPlanOf (accept status (at_moment moment tables.now.state)) tables.now.state) }
+    ensures changes { IfOk result (λ plan. plan.changes ≡ moved_to moment tables.now.state) }
 {
-    let changes = vec![in alloc; moved(tables, moment)]?;
+    let changes = moved(alloc, tables, moment)?;
     Ok(Plan {
         reply: Reply::Status(status),
         changes: List::of_vec(changes),
@@ -63,11 +67,29 @@ pub fn accept_one(
 ) -> Result<Plan, NoMemory>
     ensures { IfOk result (IsPlanOf (record { reply = Status status; state = apply_change change (at_moment moment tables.now.state) }) tables.now.state) }
 {
-    let changes = vec![in alloc; moved(tables, moment), change]?;
+    let mut changes = moved(alloc, tables, moment)?;
+    changes.push(change)?;
     Ok(Plan {
         reply: Reply::Status(status),
         changes: List::of_vec(changes),
     })
+}
+
+/// Two changes behind that of the last moment.
+fn moved_and_two(
+    alloc: Global,
+    tables: &Tables,
+    moment: u64,
+    first: Change,
+    second: Change,
+) -> Result<Vec<Change>, NoMemory>
+    ensures { IfOk result (λ changes. changes.items ≡ moved_to moment tables.now.state ++ first ∷ second ∷ []) }
+{
+    if tables.moment() < moment {
+        Ok(vec![in alloc; Change::Now(moment), first, second]?)
+    } else {
+        Ok(vec![in alloc; first, second]?)
+    }
 }
 
 /// A status, and two changes behind that of the last moment.
@@ -80,9 +102,9 @@ pub fn accept_two(
     second: Change,
 ) -> Result<Plan, NoMemory>
     ensures reply { IfOk result (λ plan. plan.reply ≡ Status status) }
-    ensures changes { IfOk result (λ plan. plan.changes ≡ Now (max tables.now.state.moment moment) ∷ first ∷ second ∷ []) }
+    ensures changes { IfOk result (λ plan. plan.changes ≡ moved_to moment tables.now.state ++ first ∷ second ∷ []) }
 {
-    let changes = vec![in alloc; moved(tables, moment), first, second]?;
+    let changes = moved_and_two(alloc, tables, moment, first, second)?;
     Ok(Plan {
         reply: Reply::Status(status),
         changes: List::of_vec(changes),

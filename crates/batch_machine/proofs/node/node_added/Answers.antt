@@ -1,4 +1,4 @@
-use Rattle.std.proofs.Common.{◌≡◌, ◌+◌, ◌∷◌, [], ◌∙◌, ap, refl}
+use Rattle.std.proofs.Common.{◌+◌, ◌∷◌, [], ◌∙◌, ap, refl}
 use Rattle.bt_rows.specs.declared.due.Due.TheVariants.{NodeAdded}
 use Rattle.bt_rows.specs.declared.tables.Change.TheVariants.{PutNode, Counters}
 use Rattle.bt_rows.specs.Changes.{apply_changes}

@@ -1,4 +1,4 @@
-use Rattle.std.proofs.Common.{◌≡◌, ◌+◌, [], ◌∷◌, ap, refl, rules}
+use Rattle.std.proofs.Common.{◌+◌, [], ◌∷◌, refl}
 use Rattle.bt_rows.specs.declared.due.Due.TheVariants.{TaskPlaced}
 use Rattle.bt_rows.specs.declared.tables.Change.TheVariants.{PutTask, PutRun, Counters}
 use Rattle.batch_model.specs.Placing.{place}

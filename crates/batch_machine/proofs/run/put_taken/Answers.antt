@@ -1,10 +1,11 @@
 use Rattle.std.proofs.Common.{◌≡◌, max, [], ◌∷◌, sym, ap, subst, ◌∙◌}
 use Rattle.std.specs.Result.{IfOk}
 use Rattle.bt_rows.specs.Changes.{apply_change}
-use Rattle.bt_rows.specs.declared.tables.Change.TheVariants.{Now, PutRun, PutTask}
+use Rattle.bt_rows.specs.declared.tables.Change.TheVariants.{PutRun, PutTask}
 use Rattle.batch_model.specs.Events.{accept, at_moment, taken_run, started_task, run_taken}
 use Rattle.batch_machine.specs.Plans.{IsPlanOf}
-use Rattle.batch_machine.proofs.EventPuts.{planned, taken_alone, taken_both}
+use Rattle.batch_machine.proofs.EventPuts.{taken_alone, taken_both}
+use Rattle.batch_machine.proofs.Moves.{moved_plan}
 use Rattle.batch_machine.proofs.run.put_taken.Goals as goal
 
 pub returns-in_ok-started-in-Some : goal.returns-in_ok-started-in-Some
@@ -15,8 +16,8 @@ returns-in_ok-started-in-Some c =
     let now : c.max-now.result ≡ max s.moment c.args.moment = cc in
     let taken : c.in_ok-taken.taken ≡ taken_run (max s.moment c.args.moment) run = c.in_ok-taken.ensures ∙ ap (λ at. taken_run at run) now in
     let started : c.in_ok-started-in-Some.started ≡ started_task (max s.moment c.args.moment) task = c.in_ok-started-in-Some.ensures ∙ ap (λ at. started_task at task) now in
-    planned c.accept_two.result (accept 200 (run_taken (at_moment c.args.moment s) run)) s
-    (Now (max s.moment c.args.moment) ∷ PutRun c.in_ok-taken.taken ∷ PutTask c.in_ok-started-in-Some.started ∷ [])
+    moved_plan c.accept_two.result c.args.moment (accept 200 (run_taken (at_moment c.args.moment s) run)) s
+    (PutRun c.in_ok-taken.taken ∷ PutTask c.in_ok-started-in-Some.started ∷ []) (λ refusal e. cc)
     c.accept_two.ensures.reply c.accept_two.ensures.changes
     (ap (λ row. apply_change (PutTask c.in_ok-started-in-Some.started) (apply_change (PutRun row) (at_moment c.args.moment s))) taken
     ∙ (ap (λ row. apply_change (PutTask row) (apply_change (PutRun (taken_run (max s.moment c.args.moment) run)) (at_moment c.args.moment s))) started

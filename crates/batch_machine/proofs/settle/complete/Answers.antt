@@ -1,8 +1,8 @@
-use Rattle.std.proofs.Common.{◌≡◌, ◌∷◌, [], ◌∙◌, ap, refl}
+use Rattle.std.proofs.Common.{◌∷◌, [], ◌∙◌, ap, refl}
 use Rattle.bt_rows.specs.declared.due.Due.TheVariants.{TaskSettled}
 use Rattle.bt_rows.specs.declared.tables.Change.TheVariants.{PutTask}
 use Rattle.bt_rows.specs.Changes.{apply_change}
-use Rattle.batch_model.specs.Endings.{is_success, closed_by}
+use Rattle.batch_model.specs.Endings.{closed_by}
 use Rattle.batch_model.specs.Tasks.{completed}
 use Rattle.batch_model.specs.Settling.{is_to_settle, outcome_of, complete}
 use Rattle.batch_machine.proofs.DuePlans.{of_step}

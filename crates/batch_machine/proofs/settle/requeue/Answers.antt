@@ -1,4 +1,4 @@
-use Rattle.std.proofs.Common.{◌≡◌, ◌∷◌, [], ◌∙◌, ap, refl}
+use Rattle.std.proofs.Common.{◌∷◌, [], ◌∙◌, ap, refl}
 use Rattle.bt_rows.specs.declared.tables.Change.TheVariants.{PutTask}
 use Rattle.bt_rows.specs.Changes.{apply_change}
 use Rattle.batch_model.specs.Settling.{is_to_settle, active_again, requeue}

@@ -1,4 +1,3 @@
-use Rattle.std.proofs.Common.{◌≡◌, ◌≤◌, length}
 use Rattle.batch_machine.proofs.Readiness.{sound_by_plan}
 use Rattle.batch_machine.proofs.machine.Machine.reserve.Goals as goal
 
