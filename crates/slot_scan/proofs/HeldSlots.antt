@@ -45,7 +45,7 @@ module _ {X : Type 0} where
   or_any p q [] = refl
   or_any p q (x ∷ xs) = ap (λ r. (p x || q x) || r) (or_any p q xs) ∙ or_swap (p x) (q x) (list_any p xs) (list_any q xs)
 
-  agree : (p q : X → Bool) → ((x : X) → p x ≡ q x) → (xs : List X) → list_any p xs ≡ list_any q xs
+  pub agree : (p q : X → Bool) → ((x : X) → p x ≡ q x) → (xs : List X) → list_any p xs ≡ list_any q xs
   agree p q same [] = refl
   agree p q same (x ∷ xs) = ap (λ b. b || list_any p xs) (same x) ∙ ap (λ r. q x || r) (agree p q same xs)
 
@@ -60,7 +60,7 @@ module _ {X : Type 0} where
   positive_cons f x rest r false h = h
 
   -- a sum is positive where one of its parts is
-  positive : (f : X → ℕ) (p : X → Bool) (xs : List X) → nat_lt 0 (sum_by f (filter p xs)) ≡ list_any (λ x. p x && nat_lt 0 (f x)) xs
+  pub positive : (f : X → ℕ) (p : X → Bool) (xs : List X) → nat_lt 0 (sum_by f (filter p xs)) ≡ list_any (λ x. p x && nat_lt 0 (f x)) xs
   positive f p [] = refl
   positive f p (x ∷ xs) = positive_cons f x (filter p xs) (list_any (λ y. p y && nat_lt 0 (f y)) xs) (p x) (positive f p xs)
 

@@ -1,1 +1,3 @@
 pub mod HeldSlots
+pub mod HeldNodes
+pub mod FreeNodes
