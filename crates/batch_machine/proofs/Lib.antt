@@ -2,7 +2,9 @@ pub mod DuePlans
 pub mod DuePuts
 pub mod EventPuts
 pub mod Moves
+pub mod NotPlaced
 pub mod OpeningMade
 pub mod Placements
 pub mod PutsInPlace
 pub mod Readiness
+pub mod ReadyJobs

@@ -1,3 +1,4 @@
 pub mod Machines
 pub mod Openings
 pub mod Plans
+pub mod ReadyJobs

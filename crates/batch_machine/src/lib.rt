@@ -13,6 +13,7 @@ mod open;
 mod place;
 mod plan;
 mod pool;
+mod ready;
 mod resize;
 mod run;
 mod settle;
