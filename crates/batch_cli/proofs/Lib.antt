@@ -1,4 +1,5 @@
-pub mod CallsMade
-pub mod DuesMade
+pub mod Advancing
 pub mod GoingOn
+pub mod Headlines
+pub mod OptionsRead
 pub mod RefusalLines

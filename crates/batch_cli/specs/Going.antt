@@ -1,58 +1,68 @@
--- A run on its way through a script.
-use Rattle.std.specs.Prelude.{◌≡◌, ◌⊎◌, ℕ, List, [], ◌++◌, map, Option, Result}
+-- A desk on its way through a script.
+use Rattle.std.specs.Prelude.{◌≡◌, ◌<◌, ◌≤◌, ℕ, List, [], ◌++◌, map, take, length, Option}
+use Rattle.std.specs.Str.Lines.{lines}
 use Rattle.bt_base.specs.Content.{Gains, GainsFront}
-use Rattle.bt_rows.specs.declared.event.EventKind.{EventKind}
-use Rattle.bt_rows.specs.declared.refusal.Refusal.{Refusal}
-use Rattle.bt_rows.specs.State.{empty_state}
-use Rattle.batch_model.specs.Variants.{State}
-use Rattle.wire_lines.specs.declared.line.LineRequest.{LineRequest}
-use Rattle.batch_cli.specs.History.{Entry, IsLegal, asked_of}
-use Rattle.batch_cli.specs.Shown.{outputs, line_shown, calls_of, call_in}
+use Rattle.batch_desk.specs.declared.entry.Entry.{Entry}
+use Rattle.batch_desk.specs.Kept.{Desk}
+use Rattle.batch_desk.specs.History.{asked_of, fault_count}
+use Rattle.batch_desk.specs.Answers.{HasSameOpening}
+use Rattle.batch_cli.specs.Shown.{outputs, calls_of, has_refused, memory_stops}
+use Rattle.batch_cli.specs.Advance.{RoseBy, room_of}
+use Rattle.batch_cli.specs.Ending.{script_limit, ending_of}
+use Rattle.batch_cli.specs.declared.status.Status.{Status}
+use Rattle.batch_cli.specs.declared.status.Status.TheVariants.{Done, Memory, Usage, SourceFault, SinkFault, KeeperFault, UnreadableLines, ScriptTooLong, JournalFull}
+use Rattle.batch_cli.specs.declared.tally.Tally.{Tally}
 
--- The line leads from these tables to those, with this text, whatever comes after it.
-pub record Advances (seats : ℕ) (old new : State) (n : ℕ) (request : Result LineRequest Refusal) (text : List ℕ) : Type 0 where
-  pub added : List Entry
-  pub shows : (rest : List Entry → State → List ℕ) (more : List Entry) → line_shown seats rest n request (added ++ more) old ≡ text ++ rest more new
-  pub legal : (more : List Entry) → IsLegal seats new more → IsLegal seats old (added ++ more)
-  pub calls : map asked_of added ≡ call_in request
-
--- the line was done, and its text written
-pub record Did (seats : ℕ) (old new : State) (n : ℕ) (request : Result LineRequest Refusal) (before now : Option (List ℕ)) : Type 0 where
-  pub text : List ℕ
-  pub step : Advances seats old new n request text
-  pub written : Gains before now text
-
--- the line's call was made, and a front of its text written
-pub record CutShort (seats : ℕ) (old new : State) (n : ℕ) (request : Result LineRequest Refusal) (before now : Option (List ℕ)) : Type 0 where
-  pub text : List ℕ
-  pub step : Advances seats old new n request text
-  pub written : GainsFront before now text
-
--- the run ends at the line: nothing of it was written, or a front
-abbrev pub Halts : ℕ → State → State → ℕ → Result LineRequest Refusal → Option (List ℕ) → Option (List ℕ) → Type 0
-Halts seats old new n request before now = Gains before now [] ⊎ CutShort seats old new n request before now
-
--- Whatever entries come, what was written and what shows the rest of the lines shows all of them; a legal rest of the
--- history makes all of it legal; and the calls made and those of the rest are all calls.
-pub record Going (seats : ℕ) (script rest : List (List ℕ)) (n : ℕ) (before now : Option (List ℕ)) (s : State) : Type 0 where
-  pub made : List Entry
+-- Whatever entries come, what was written and what shows the rest of the lines shows all of them; and the calls made and
+-- those of the rest are all calls that the journal takes.
+pub record Going {K : Type 0} (faults : K → ℕ) (start now : Desk K) (script rest : List (List ℕ)) (n : ℕ) (before taken : Option (List ℕ)) : Type 0 where
   pub front : List ℕ
-  pub gained : Gains before now front
-  pub shows : (more : List Entry) → outputs seats 1 script (made ++ more) empty_state ≡ front ++ outputs seats n rest more s
-  pub legal : (more : List Entry) → IsLegal seats s more → IsLegal seats empty_state (made ++ more)
-  pub calls : calls_of script ≡ map asked_of made ++ calls_of rest
+  pub gained : Gains before taken front
+  pub shows : (more : List Entry) → outputs start.seats 1 script start.limit (now.entries ++ more) start.state ≡ front ++ outputs start.seats n rest (room_of now) more now.state
+  pub calls : take start.limit (calls_of script) ≡ map asked_of now.entries ++ take (room_of now) (calls_of rest)
+  pub rose : RoseBy (fault_count now.entries) (faults start.keeper) (faults now.keeper)
+  pub settled : memory_stops now.entries ≡ 0
+  pub same : HasSameOpening start now
 
--- a legal history of all calls, and all that shows it was written
-pub record Whole (seats : ℕ) (script : List (List ℕ)) (before now : Option (List ℕ)) : Type 0 where
-  pub history : List Entry
-  pub legal : IsLegal seats empty_state history
-  pub calls : map asked_of history ≡ calls_of script
-  pub written : Gains before now (outputs seats 1 script history empty_state)
+-- all calls that the journal takes were made, and all that shows them was written
+pub record Whole {K : Type 0} (faults : K → ℕ) (start now : Desk K) (script : List (List ℕ)) (before taken : Option (List ℕ)) : Type 0 where
+  pub written : Gains before taken (outputs start.seats 1 script start.limit now.entries start.state)
+  pub calls : map asked_of now.entries ≡ take start.limit (calls_of script)
+  pub rose : RoseBy (fault_count now.entries) (faults start.keeper) (faults now.keeper)
+  pub settled : memory_stops now.entries ≡ 0
+  pub same : HasSameOpening start now
 
--- a legal history of the first calls, and a front of what shows it was written
-pub record Part (seats : ℕ) (script : List (List ℕ)) (before now : Option (List ℕ)) : Type 0 where
-  pub history : List Entry
-  pub later : List (ℕ × EventKind)
-  pub legal : IsLegal seats empty_state history
-  pub calls : calls_of script ≡ map asked_of history ++ later
-  pub written : GainsFront before now (outputs seats 1 script history empty_state)
+-- the first calls were made, and a front of what shows them was written
+pub record Part {K : Type 0} (faults : K → ℕ) (start now : Desk K) (script : List (List ℕ)) (before taken : Option (List ℕ)) : Type 0 where
+  pub written : GainsFront before taken (outputs start.seats 1 script start.limit now.entries start.state)
+  pub calls : map asked_of now.entries ≡ take (length now.entries) (calls_of script)
+  pub rose : RoseBy (fault_count now.entries) (faults start.keeper) (faults now.keeper)
+  pub same : HasSameOpening start now
+
+-- how many calls the lines ask, and whether one of them is no request
+pub record CountsAll (script : List (List ℕ)) (t : Tally) : Type 0 where
+  pub calls : t.calls ≡ length (calls_of script)
+  pub refused : t.refused ≡ has_refused script
+
+-- nothing was called, and nothing written
+pub record NothingDone {K : Type 0} (start now : Desk K) (before taken : Option (List ℕ)) : Type 0 where
+  pub same : now ≡ start
+  pub written : Gains before taken []
+
+-- the script was done to its end, with this status
+pub record EndsWith {K : Type 0} (faults : K → ℕ) (start now : Desk K) (script : List ℕ) (before taken : Option (List ℕ)) (status : Status) : Type 0 where
+  pub few : length script ≤ script_limit
+  pub whole : Whole faults start now (lines script) before taken
+  pub ending : status ≡ ending_of start.limit (lines script) now.entries
+
+-- what a status says of an opened desk, of the bytes of the source, and of what the sink told before and tells now
+abbrev pub DeskRan : {K : Type 0} → (K → ℕ) → Desk K → Desk K → List ℕ → Option (List ℕ) → Option (List ℕ) → Status → Type 0
+DeskRan faults start now script before taken Usage = ⊥
+DeskRan faults start now script before taken SourceFault = NothingDone start now before taken
+DeskRan faults start now script before taken ScriptTooLong = (script_limit < length script) × NothingDone start now before taken
+DeskRan faults start now script before taken Memory = Part faults start now (lines script) before taken
+DeskRan faults start now script before taken SinkFault = (length script ≤ script_limit) × Part faults start now (lines script) before taken
+DeskRan faults start now script before taken KeeperFault = EndsWith faults start now script before taken KeeperFault
+DeskRan faults start now script before taken JournalFull = EndsWith faults start now script before taken JournalFull
+DeskRan faults start now script before taken UnreadableLines = EndsWith faults start now script before taken UnreadableLines
+DeskRan faults start now script before taken Done = EndsWith faults start now script before taken Done

@@ -1,58 +1,64 @@
--- What a script's run was.
-use Rattle.std.specs.Prelude.{◌≡◌, ℕ, ◌≤◌, ◌<◌, List, [], ◌∷◌, ◌++◌, codes, length, map, Option, if◌then◌else◌}
+-- What a script's run was, and what it left.
+use Rattle.std.specs.Prelude.{◌≡◌, ◌⊎◌, ◌≤◌, ◌<◌, ℕ, List, [], length, map, take, Option, Some, None}
 use Rattle.std.specs.Str.Lines.{lines}
 use Rattle.bt_base.specs.Content.{Gains, GainsFront}
-use Rattle.bt_rows.specs.State.{empty_state}
-use Rattle.bt_rows.specs.declared.event.EventKind.{EventKind}
-use Rattle.batch_cli.specs.History.{Entry, IsLegal, asked_of}
-use Rattle.batch_cli.specs.Shown.{outputs, calls_of, has_refused}
+use Rattle.batch_model.specs.Opening.{opening}
+use Rattle.batch_model.specs.Variants.{State}
+use Rattle.batch_desk.specs.declared.entry.Entry.{Entry}
+use Rattle.batch_desk.specs.Kept.{Tells}
+use Rattle.batch_desk.specs.History.{IsLegal, after_all, asked_of, fault_count}
+use Rattle.batch_cli.specs.Shown.{outputs, calls_of, memory_stops}
+use Rattle.batch_cli.specs.Advance.{RoseBy}
+use Rattle.batch_cli.specs.Ending.{script_limit, ending_of}
+use Rattle.batch_cli.specs.declared.options.Options.{Options}
 use Rattle.batch_cli.specs.declared.status.Status.{Status}
-use Rattle.batch_cli.specs.declared.status.Status.TheVariants.{Done, Memory, Usage, SourceFault, SinkFault, UnreadableLines, ScriptTooLong}
+use Rattle.batch_cli.specs.declared.status.Status.TheVariants.{Done, Memory, Usage, SourceFault, SinkFault, KeeperFault, UnreadableLines, ScriptTooLong, JournalFull}
 
--- the one command that there is
-abbrev pub IsReplay : List (List ℕ) → Type 0
-IsReplay words = words ≡ codes "replay" ∷ []
-
--- the seats of the machine
-abbrev pub seat_count : ℕ
-seat_count = 8
-
--- the bytes that a script may have
-abbrev pub script_limit : ℕ
-script_limit = 67108864
-
--- the status of a script that was done to its end: whether a line was no request
-abbrev pub ending_of : List (List ℕ) → Status
-ending_of script = if has_refused script then UnreadableLines else Done
-
--- The script was done to its end: the calls of its lines are one legal history from empty tables, and what was written
--- shows them.
-pub record IsDone (script : List (List ℕ)) (before now : Option (List ℕ)) (status : Status) : Type 0 where
+-- The script was done to its end: its calls, as many as the journal takes, are one legal history from the opened tables,
+-- what was written shows them, and the keeper tells the tables after them.
+pub record IsDone (options : Options) (script : List ℕ) (opened : State) (before now : Option (List ℕ)) (told : Option State) (faults_before faults_now : ℕ) (status : Status) : Type 0 where
+  pub few : length script ≤ script_limit
   pub history : List Entry
-  pub legal : IsLegal seat_count empty_state history
-  pub calls : map asked_of history ≡ calls_of script
-  pub written : Gains before now (outputs seat_count 1 script history empty_state)
-  pub ending : status ≡ ending_of script
+  pub legal : IsLegal options.seats opened history
+  pub calls : map asked_of history ≡ take options.limit (calls_of (lines script))
+  -- no due steps stopped for want of memory
+  pub settled : memory_stops history ≡ 0
+  pub written : Gains before now (outputs options.seats 1 (lines script) options.limit history opened)
+  pub kept : Tells told (after_all options.seats opened history)
+  -- each keeper fault of the history had a rise of the keeper's count for itself
+  pub counted : RoseBy (fault_count history) faults_before faults_now
+  pub ending : status ≡ ending_of options.limit (lines script) history
 
--- The script was begun: the first of its calls are one legal history from empty tables, and a front of what shows them
--- was written.
-pub record IsBegun (script : List (List ℕ)) (before now : Option (List ℕ)) : Type 0 where
+-- The script was begun: the first of its calls are one legal history from the opened tables, a front of what shows them
+-- was written, and the keeper tells the tables after them.
+pub record IsBegun (options : Options) (script : List ℕ) (opened : State) (before now : Option (List ℕ)) (told : Option State) (faults_before faults_now : ℕ) : Type 0 where
   pub history : List Entry
-  pub later : List (ℕ × EventKind)
-  pub legal : IsLegal seat_count empty_state history
-  pub calls : calls_of script ≡ map asked_of history ++ later
-  pub written : GainsFront before now (outputs seat_count 1 script history empty_state)
+  pub legal : IsLegal options.seats opened history
+  pub calls : map asked_of history ≡ take (length history) (calls_of (lines script))
+  pub written : GainsFront before now (outputs options.seats 1 (lines script) options.limit history opened)
+  pub kept : Tells told (after_all options.seats opened history)
+  -- each keeper fault of the history had a rise of the keeper's count for itself
+  pub counted : RoseBy (fault_count history) faults_before faults_now
 
--- nothing was written
-abbrev pub IsUntouched : Option (List ℕ) → Option (List ℕ) → Type 0
-IsUntouched before now = Gains before now []
+-- nothing was called or written, and the keeper tells these tables
+pub record IsUntouched (s : State) (before now : Option (List ℕ)) (told : Option State) : Type 0 where
+  pub written : Gains before now []
+  pub kept : Tells told s
 
--- what a status says of the words, the bytes of the source, and what the sink told before and tells now
-abbrev pub Ran : List (List ℕ) → List ℕ → Option (List ℕ) → Option (List ℕ) → Status → Type 0
-Ran words script before now Usage = (IsReplay words → ⊥) × IsUntouched before now
-Ran words script before now SourceFault = IsReplay words × IsUntouched before now
-Ran words script before now ScriptTooLong = IsReplay words × (script_limit < length script) × IsUntouched before now
-Ran words script before now SinkFault = IsReplay words × (length script ≤ script_limit) × IsBegun (lines script) before now
-Ran words script before now Memory = IsReplay words × IsBegun (lines script) before now
-Ran words script before now UnreadableLines = IsReplay words × (length script ≤ script_limit) × IsDone (lines script) before now UnreadableLines
-Ran words script before now Done = IsReplay words × (length script ≤ script_limit) × IsDone (lines script) before now Done
+-- what a status says of a command with these options, of the bytes of the source, of the tables that the keeper told
+-- before, of what sink and keeper tell before and now, and of the keeper's count before and now
+abbrev pub RanWith : Options → List ℕ → State → Option (List ℕ) → Option (List ℕ) → Option State → ℕ → ℕ → Status → Type 0
+RanWith options script loaded before now told f g Usage = ⊥
+RanWith options script loaded before now told f g SourceFault = IsUntouched (opening loaded) before now told
+RanWith options script loaded before now told f g ScriptTooLong = (script_limit < length script) × IsUntouched (opening loaded) before now told
+RanWith options script loaded before now told f g SinkFault = (length script ≤ script_limit) × IsBegun options script (opening loaded) before now told f g
+RanWith options script loaded before now told f g Memory = IsUntouched loaded before now told ⊎ IsBegun options script (opening loaded) before now told f g
+RanWith options script loaded before now told f g KeeperFault = IsUntouched loaded before now told ⊎ IsDone options script (opening loaded) before now told f g KeeperFault
+RanWith options script loaded before now told f g JournalFull = IsDone options script (opening loaded) before now told f g JournalFull
+RanWith options script loaded before now told f g UnreadableLines = IsDone options script (opening loaded) before now told f g UnreadableLines
+RanWith options script loaded before now told f g Done = IsDone options script (opening loaded) before now told f g Done
+
+-- the same of words, which are a command with options or no command
+abbrev pub Ran : Option Options → List ℕ → State → Option (List ℕ) → Option (List ℕ) → Option State → ℕ → ℕ → Status → Type 0
+Ran None script loaded before now told f g status = (status ≡ Usage) × IsUntouched loaded before now told
+Ran (Some options) script loaded before now told f g status = RanWith options script loaded before now told f g status

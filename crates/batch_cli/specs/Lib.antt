@@ -1,6 +1,8 @@
+pub mod Advance
 pub mod Codes
+pub mod Commands
+pub mod Ending
 pub mod Going
 pub mod Headline
-pub mod History
-pub mod Settling
+pub mod Reading
 pub mod Shown

@@ -1,10 +1,17 @@
 -- What a script writes, as a function of its lines and of the history of its calls.
-use Rattle.std.specs.Prelude.{ℕ, ◌+◌, Bool, true, false, List, [], ◌∷◌, ◌++◌, flat_map, Result, Ok, Err}
+use Rattle.std.specs.Prelude.{ℕ, zero, suc, ◌+◌, Bool, true, false, List, [], ◌∷◌, ◌++◌, flat_map, codes, Result, Ok, Err}
 use Rattle.std.specs.List.{list_any}
 use Rattle.bt_rows.specs.declared.event.EventKind.{EventKind}
 use Rattle.bt_rows.specs.declared.due.Due.{Due}
 use Rattle.bt_rows.specs.declared.refusal.Refusal.{Refusal}
 use Rattle.batch_model.specs.Variants.{State}
+use Rattle.batch_desk.specs.declared.entry.Entry.{Entry}
+use Rattle.batch_desk.specs.declared.entry.Stop.{Stop}
+use Rattle.batch_desk.specs.declared.entry.Stop.TheVariants.{Rest, KeeperFault as FaultStop, Memory as MemoryStop}
+use Rattle.batch_desk.specs.declared.answer.Answer.{Answer}
+use Rattle.batch_desk.specs.declared.answer.Answer.TheVariants.{Done, KeeperFault, JournalFull, Memory}
+use Rattle.batch_desk.specs.History.{after_call}
+use Rattle.batch_desk.specs.Answers.{answer_of}
 use Rattle.wire_lines.specs.declared.line.LineRequest.{LineRequest}
 use Rattle.wire_lines.specs.declared.line.LineRequest.TheVariants.{Skip, Call}
 use Rattle.wire_lines.specs.Lines.{line_of}
@@ -13,31 +20,54 @@ use Rattle.wire_texts.specs.Dues.{due_text}
 use Rattle.wire_texts.specs.Refusals.{refusal_text}
 use Rattle.wire_texts.specs.Replies.{reply_text}
 use Rattle.wire_texts.specs.Tables.{tables_text}
-use Rattle.batch_cli.specs.History.{Entry, reply_to, dues_of, after_call}
+
+-- a keeper fault that stopped the due steps
+unfoldable pub stop_text : List ℕ
+stop_text = codes "stop fault"
+
+-- a keeper fault that left the call undone
+unfoldable pub fault_text : List ℕ
+fault_text = codes "fault"
+
+-- a full journal
+unfoldable pub full_text : List ℕ
+full_text = codes "full"
 
 -- the lines that show due steps behind the reply to the line with number n
 abbrev pub due_lines : ℕ → List Due → List ℕ
 due_lines n dues = flat_map (λ due. numbered n (due_text due)) dues
 
--- the lines that show a call
-abbrev pub call_text : ℕ → ℕ → State → Entry → List ℕ
-call_text seats n s e = numbered n (reply_text (reply_to s e)) ++ due_lines n (dues_of seats s e)
+-- the line that shows why the due steps stopped; only a fault has one
+abbrev pub stop_line : ℕ → Stop → List ℕ
+stop_line n Rest = []
+stop_line n FaultStop = numbered n stop_text
+stop_line n MemoryStop = []
 
--- A call has the next entry of the history. Where the history has no entry for it, nothing more is known.
-abbrev pub call_shown : ℕ → (List Entry → State → List ℕ) → ℕ → List Entry → State → List ℕ
-call_shown seats rest n [] s = []
-call_shown seats rest n (e ∷ es) s = call_text seats n s e ++ rest es (after_call seats s e)
+-- the lines that show what the line with number n was answered
+abbrev pub answer_text : ℕ → Answer → List ℕ
+answer_text n (Done reply dues stop) = numbered n (reply_text reply) ++ (due_lines n dues ++ stop_line n stop)
+answer_text n KeeperFault = numbered n fault_text
+answer_text n JournalFull = numbered n full_text
+answer_text n Memory = []
+
+-- A call has the next entry of the history, or finds the journal full where that takes no entry more. Where the history
+-- has no entry for it, nothing more is known.
+abbrev pub call_shown : ℕ → (ℕ → List Entry → State → List ℕ) → ℕ → ℕ → List Entry → State → List ℕ
+call_shown seats rest n zero es s = answer_text n JournalFull ++ rest zero es s
+call_shown seats rest n (suc room) [] s = []
+call_shown seats rest n (suc room) (e ∷ es) s = answer_text n (answer_of seats s e) ++ rest room es (after_call seats s e)
 
 -- what a line shows, and then the rest
-abbrev pub line_shown : ℕ → (List Entry → State → List ℕ) → ℕ → Result LineRequest Refusal → List Entry → State → List ℕ
-line_shown seats rest n (Ok Skip) es s = rest es s
-line_shown seats rest n (Ok (Call moment event)) es s = call_shown seats rest n es s
-line_shown seats rest n (Err refusal) es s = numbered n (refusal_text refusal) ++ rest es s
+abbrev pub line_shown : ℕ → (ℕ → List Entry → State → List ℕ) → ℕ → Result LineRequest Refusal → ℕ → List Entry → State → List ℕ
+line_shown seats rest n (Ok Skip) room es s = rest room es s
+line_shown seats rest n (Ok (Call moment event)) room es s = call_shown seats rest n room es s
+line_shown seats rest n (Err refusal) room es s = numbered n (refusal_text refusal) ++ rest room es s
 
--- the outputs of the lines from number n on, and then the tables text, where these are the next entries and the tables
-abbrev pub outputs : ℕ → ℕ → List (List ℕ) → List Entry → State → List ℕ
-outputs seats n [] es s = tables_text s
-outputs seats n (line ∷ lines) es s = line_shown seats (λ fs t. outputs seats (n + 1) lines fs t) n (line_of line) es s
+-- The outputs of the lines from number n on, and then the tables text: where the journal takes so many entries more, these
+-- are the next entries, and these are the tables.
+abbrev pub outputs : ℕ → ℕ → List (List ℕ) → ℕ → List Entry → State → List ℕ
+outputs seats n [] room es s = tables_text s
+outputs seats n (line ∷ lines) room es s = line_shown seats (λ r fs t. outputs seats (n + 1) lines r fs t) n (line_of line) room es s
 
 -- the call that a line asks, if it asks one
 abbrev pub call_in : Result LineRequest Refusal → List (ℕ × EventKind)
@@ -57,3 +87,23 @@ is_refused (Err refusal) = true
 -- some line is no request
 abbrev pub has_refused : List (List ℕ) → Bool
 has_refused lines = list_any (λ line. is_refused (line_of line)) lines
+
+-- 1 where due steps stopped for want of memory
+abbrev pub memory_stop : Stop → ℕ
+memory_stop Rest = 0
+memory_stop FaultStop = 0
+memory_stop MemoryStop = 1
+
+-- how many entries stopped so
+abbrev pub memory_stops : List Entry → ℕ
+memory_stops [] = 0
+memory_stops (e ∷ es) = memory_stop e.stop + memory_stops es
+
+-- an answer after which the run ends for want of memory
+abbrev pub ran_out : Answer → Bool
+ran_out Memory = true
+ran_out KeeperFault = false
+ran_out JournalFull = false
+ran_out (Done reply dues Rest) = false
+ran_out (Done reply dues FaultStop) = false
+ran_out (Done reply dues MemoryStop) = true

@@ -1,14 +1,17 @@
-//! The top call of the program: what its words ask, done over a source and a sink. Its contract is the theorem of the
-//! whole program: the bytes that the sink takes are those of the written machines, called one by one in one history.
+//! The top call of the program: what its words ask, done over a source, a sink and a keeper of the tables. Its contract is
+//! the theorem of the whole program: the bytes that the sink takes and the tables that the keeper tells are those of the
+//! written machines, called one by one in one history.
 #![tactic(auto)]
 
 mod call;
-mod due;
 mod line;
+mod option_name;
+mod options;
 mod replay;
 mod run;
 mod status;
 mod stopped;
+mod tally;
 #[cfg(test)]
 mod tests;
 

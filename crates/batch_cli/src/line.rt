@@ -1,52 +1,46 @@
 //! Lines of a script, each done and answered before the next.
-ghost use Rattle.std.specs.Prelude.{◌≡◌, ◌≤◌, None, Ok, Err, IfOk, OnOk, OnErr, IsErrOf, string_bytes};
+ghost use Rattle.std.specs.Prelude.{◌≡◌, ◌≤◌, Ok, Err, IfOk, OnOk, OnErr, IsErrOf, length};
 ghost use Rattle.bt_base.specs.Causes.{Rose};
 ghost use Rattle.bt_base.specs.Content.{Gains, GainsFront};
+ghost use Rattle.batch_desk.specs.Answers.{IsInOrder, HasSameOpening};
 ghost use Rattle.wire_lines.specs.declared.line.LineRequest.TheVariants.{Call};
 ghost use Rattle.wire_lines.specs.Lines.{line_of};
 ghost use Rattle.wire_texts.specs.Lines.{numbered};
 ghost use Rattle.wire_texts.specs.Refusals.{refusal_text};
-ghost use Rattle.batch_cli.specs.Shown.{is_refused};
-ghost use Rattle.batch_cli.specs.Going.{Did, Halts};
+ghost use Rattle.batch_cli.specs.Shown.{call_in};
+ghost use Rattle.batch_cli.specs.Advance.{Did, Halts, Counts};
 
-use crate::call::{show_call, show_reply};
+use crate::call::{show_call, show_refusal};
 use crate::stopped::Stopped;
-use batch_machine::Machine;
+use crate::tally::Tally;
+use batch_desk::Desk;
+use batch_keeper::Keeper;
 use batch_wire::{LineRequest, read_line};
-use bt_base::{Fail, Moment, NoMemory, Sink, write_all};
+use bt_base::{Fail, Moment, Sink, write_all};
 use bt_rows::event::Event;
 use bt_rows::refusal::Refusal;
-use bt_rows::reply::Reply;
 use std::alloc::Global;
 
-/// Makes a call, and writes what shows it.
-fn do_call<W: Sink>(
+/// Makes a call, and writes what it was answered.
+fn do_call<K: Keeper + Drop, W: Sink>(
     alloc: Global,
-    machine: &mut Machine,
+    desk: &mut Desk<K>,
     n: u64,
     moment: Moment,
-    event: &Event,
+    event: Event,
     sink: &mut W,
 ) -> Result<(), Stopped>
-    requires free { machine.old.reserved ≡ None }
-    ensures ok { OnOk result (Did machine.old.seats machine.old.state machine.new.state n (Ok (Call moment event.now)) (W.taken sink.old) (W.taken sink.new)) }
-    ensures err { OnErr result (Halts machine.old.seats machine.old.state machine.new.state n (Ok (Call moment event.now)) (W.taken sink.old) (W.taken sink.new)) }
-    ensures seats { OnOk result (machine.new.seats ≡ machine.old.seats) }
-    ensures reserved { OnOk result (machine.new.reserved ≡ None) }
+    ensures ok { OnOk result (Did K.faults desk.old desk.new n (Ok (Call moment event)) (W.taken sink.old) (W.taken sink.new)) }
+    ensures err { OnErr result (Halts K.faults desk.old desk.new n (Ok (Call moment event)) (W.taken sink.old) (W.taken sink.new)) }
+    ensures same { HasSameOpening desk.old desk.new }
+    ensures in_order { IsInOrder K.told K.faults desk.new }
+    ensures keeper_later { K.faults desk.old.keeper ≤ K.faults desk.new.keeper }
     ensures later { W.faults sink.old ≤ W.faults sink.new }
     ensures fault { IsErrOf result Stopped.SinkFault → Rose (W.faults sink.old) (W.faults sink.new) }
 {
-    let text = show_call(alloc, machine, n, moment, event)?;
+    let text = show_call(alloc, desk, n, moment, event)?;
     write_all(sink, text.as_bytes())?;
     Ok(())
-}
-
-/// The line that answers a line that is no request.
-#[tactic(auto, using(crate::proofs::RefusalLines::refusal_reply))]
-fn show_refusal(alloc: Global, n: u64, refusal: Refusal) -> Result<String, NoMemory>
-    ensures { IfOk result (λ text. string_bytes text ≡ numbered n (refusal_text refusal)) }
-{
-    show_reply(alloc, n, &Reply::Refused(refusal))
 }
 
 /// Writes the line that answers a line that is no request.
@@ -61,53 +55,65 @@ fn do_refusal<W: Sink>(alloc: Global, n: u64, refusal: Refusal, sink: &mut W) ->
     Ok(())
 }
 
-/// Does what a line asks, and writes what shows it.
-fn do_request<W: Sink>(
+/// Does what a line asks, and writes what shows it. It tells how many calls the line asks.
+fn do_request<K: Keeper + Drop, W: Sink>(
     alloc: Global,
-    machine: &mut Machine,
+    desk: &mut Desk<K>,
     n: u64,
     request: LineRequest,
     sink: &mut W,
-) -> Result<(), Stopped>
-    requires free { machine.old.reserved ≡ None }
-    ensures ok { OnOk result (Did machine.old.seats machine.old.state machine.new.state n (Ok request) (W.taken sink.old) (W.taken sink.new)) }
-    ensures err { OnErr result (Halts machine.old.seats machine.old.state machine.new.state n (Ok request) (W.taken sink.old) (W.taken sink.new)) }
-    ensures seats { OnOk result (machine.new.seats ≡ machine.old.seats) }
-    ensures reserved { OnOk result (machine.new.reserved ≡ None) }
+) -> Result<u64, Stopped>
+    requires { IsInOrder K.told K.faults desk.old }
+    ensures ok { OnOk result (Did K.faults desk.old desk.new n (Ok request) (W.taken sink.old) (W.taken sink.new)) }
+    ensures err { OnErr result (Halts K.faults desk.old desk.new n (Ok request) (W.taken sink.old) (W.taken sink.new)) }
+    ensures calls { IfOk result (λ calls. calls ≡ length (call_in (Ok request))) }
+    ensures same { HasSameOpening desk.old desk.new }
+    ensures in_order { IsInOrder K.told K.faults desk.new }
+    ensures keeper_later { K.faults desk.old.keeper ≤ K.faults desk.new.keeper }
     ensures later { W.faults sink.old ≤ W.faults sink.new }
     ensures fault { IsErrOf result Stopped.SinkFault → Rose (W.faults sink.old) (W.faults sink.new) }
 {
     match request {
-        LineRequest::Skip => Ok(()),
-        LineRequest::Call(moment, event) => do_call(alloc, machine, n, moment, &event, sink),
+        LineRequest::Skip => Ok(0),
+        LineRequest::Call(moment, event) => {
+            do_call(alloc, desk, n, moment, event, sink)?;
+            Ok(1)
+        }
     }
 }
 
-/// Does a line and writes what shows it, and tells whether it is no request.
-pub fn do_line<W: Sink>(
+/// Does a line and writes what shows it, and tells what the line asks.
+pub fn do_line<K: Keeper + Drop, W: Sink>(
     alloc: Global,
-    machine: &mut Machine,
+    desk: &mut Desk<K>,
     n: u64,
     line: &[u8],
     sink: &mut W,
-) -> Result<bool, Stopped>
-    requires free { machine.old.reserved ≡ None }
-    ensures ok { OnOk result (Did machine.old.seats machine.old.state machine.new.state n (line_of line.now) (W.taken sink.old) (W.taken sink.new)) }
-    ensures err { OnErr result (Halts machine.old.seats machine.old.state machine.new.state n (line_of line.now) (W.taken sink.old) (W.taken sink.new)) }
-    ensures refused { IfOk result (λ refused. refused ≡ is_refused (line_of line.now)) }
-    ensures seats { OnOk result (machine.new.seats ≡ machine.old.seats) }
-    ensures reserved { OnOk result (machine.new.reserved ≡ None) }
+) -> Result<Tally, Stopped>
+    requires { IsInOrder K.told K.faults desk.old }
+    ensures ok { OnOk result (Did K.faults desk.old desk.new n (line_of line.now) (W.taken sink.old) (W.taken sink.new)) }
+    ensures err { OnErr result (Halts K.faults desk.old desk.new n (line_of line.now) (W.taken sink.old) (W.taken sink.new)) }
+    ensures counts { IfOk result (Counts (line_of line.now)) }
+    ensures same { HasSameOpening desk.old desk.new }
+    ensures in_order { IsInOrder K.told K.faults desk.new }
+    ensures keeper_later { K.faults desk.old.keeper ≤ K.faults desk.new.keeper }
     ensures later { W.faults sink.old ≤ W.faults sink.new }
     ensures fault { IsErrOf result Stopped.SinkFault → Rose (W.faults sink.old) (W.faults sink.new) }
 {
     match read_line(alloc, line) {
         Ok(request) => {
-            do_request(alloc, machine, n, request, sink)?;
-            Ok(false)
+            let calls = do_request(alloc, desk, n, request, sink)?;
+            Ok(Tally {
+                calls,
+                refused: false,
+            })
         }
         Err(Fail::Why(refusal)) => {
             do_refusal(alloc, n, refusal, sink)?;
-            Ok(true)
+            Ok(Tally {
+                calls: 0,
+                refused: true,
+            })
         }
         Err(Fail::Memory) => Err(Stopped::Memory),
     }

@@ -1,64 +1,124 @@
 //! The top call.
-ghost use Rattle.std.specs.Prelude.{◌≡◌, ◌↔◌, ◌∷◌, [], IfSome, IsTrue, codes};
+ghost use Rattle.std.specs.Prelude.{◌≡◌, ◌≤◌, ◌↔◌, None, IfSome, nat_lt, length, if◌then◌else◌};
+ghost use Rattle.std.specs.Str.Lines.{lines};
 ghost use Rattle.bt_base.specs.Causes.{Rose};
-ghost use Rattle.batch_cli.specs.Headline.{IsReplay, Ran};
+ghost use Rattle.batch_desk.specs.Answers.{IsInOrder, Begins};
+ghost use Rattle.batch_cli.specs.Commands.{options_of};
+ghost use Rattle.batch_cli.specs.Going.{DeskRan};
+ghost use Rattle.batch_cli.specs.Headline.{Ran, RanWith};
 
+use crate::options::{Options, read_options};
 use crate::replay::do_script;
 use crate::status::Status;
 use crate::stopped::Stopped;
+use crate::tally::Tally;
+use batch_desk::Desk;
+use batch_keeper::{KeepError, Keeper};
 use bt_base::{ReadFault, Sink, Source, Word, read_all};
 use std::alloc::Global;
 
 /// The bytes that a script may have.
 const LIMIT: usize = 67_108_864;
 
-/// Whether the words are the one command that there is.
-fn is_replay(words: &[Word]) -> bool
-    ensures { IsTrue result ↔ IsReplay words.now }
+/// The status of a script that was done to its end.
+fn ending(has_faults: bool, limit: u32, tally: Tally) -> Status
+    ensures { result ≡ (if has_faults then Status.KeeperFault
+        else (if nat_lt limit tally.calls then Status.JournalFull
+        else (if tally.refused then Status.UnreadableLines else Status.Done))) }
 {
-    match words {
-        [word] => word.is("replay"),
-        _ => false,
+    if has_faults {
+        Status::KeeperFault
+    } else if tally.calls > u64::from(limit) {
+        Status::JournalFull
+    } else if tally.refused {
+        Status::UnreadableLines
+    } else {
+        Status::Done
     }
 }
 
-/// Does the script that the source gives.
-fn replay<R: Source, W: Sink>(alloc: Global, source: &mut R, sink: &mut W) -> Status
-    ensures ran { IfSome (R.left source.old) (λ script. Ran (codes "replay" ∷ []) script (W.taken sink.old) (W.taken sink.new) result) }
+/// Does the script that the source gives on a desk that has just been opened.
+fn run_desk<R: Source, W: Sink, K: Keeper + Drop>(
+    alloc: Global,
+    desk: &mut Desk<K>,
+    source: &mut R,
+    sink: &mut W,
+) -> Status
+    requires in_order { IsInOrder K.told K.faults desk.old }
+    requires begins { Begins desk.old desk.old.seats desk.old.limit }
+    ensures ran { IfSome (R.left source.old) (λ script. DeskRan K.faults desk.old desk.new script (W.taken sink.old) (W.taken sink.new) result) }
+    ensures in_order { IsInOrder K.told K.faults desk.new }
     ensures no_usage { result ≡ Status.Usage → ⊥ }
     ensures source_fault { result ≡ Status.SourceFault → Rose (R.faults source.old) (R.faults source.new) }
     ensures sink_fault { result ≡ Status.SinkFault → Rose (W.faults sink.old) (W.faults sink.new) }
+    ensures keeper_fault { result ≡ Status.KeeperFault → Rose (K.faults desk.old.keeper) (K.faults desk.new.keeper) }
 {
     match read_all(alloc, source, LIMIT) {
         Err(ReadFault::Memory) => Status::Memory,
         Err(ReadFault::Failed) => Status::SourceFault,
         Err(ReadFault::TooLong) => Status::ScriptTooLong,
-        Ok(script) => match do_script(alloc, &script, sink) {
+        Ok(script) => match do_script(alloc, desk, &script, sink) {
             Err(Stopped::Memory) => Status::Memory,
             Err(Stopped::SinkFault) => Status::SinkFault,
-            Ok(true) => Status::UnreadableLines,
-            Ok(false) => Status::Done,
+            Ok(tally) => ending(desk.has_faults(), desk.limit(), tally),
         },
     }
 }
 
-/// Does what the words say: the one word `replay` reads a script from the source, calls the machine for its lines one by
-/// one, and writes what shows each before the next; then the tables.
-pub fn run_words<R: Source, W: Sink>(
+/// Opens the tables that the keeper loads, does the script that the source gives, and hands back the keeper.
+fn replay<R: Source, W: Sink, K: Keeper + Drop>(
+    alloc: Global,
+    options: Options,
+    source: &mut R,
+    sink: &mut W,
+    keeper: K,
+) -> (Status, K)
+    requires some { 1 ≤ options.seats }
+    requires few { options.seats ≤ 32 }
+    ensures ran { IfSome (R.left source.old) (λ script. IfSome (K.told keeper) (λ loaded.
+        RanWith options script loaded (W.taken sink.old) (W.taken sink.new) (K.told result.1) (K.faults keeper) (K.faults result.1) result.0)) }
+    ensures no_usage { result.0 ≡ Status.Usage → ⊥ }
+    ensures source_fault { result.0 ≡ Status.SourceFault → Rose (R.faults source.old) (R.faults source.new) }
+    ensures sink_fault { result.0 ≡ Status.SinkFault → Rose (W.faults sink.old) (W.faults sink.new) }
+    ensures keeper_fault { result.0 ≡ Status.KeeperFault → Rose (K.faults keeper) (K.faults result.1) }
+{
+    match Desk::open(alloc, keeper, options.seats, options.limit) {
+        Err((keeper, KeepError::Memory)) => (Status::Memory, keeper),
+        Err((keeper, KeepError::Failed)) => (Status::KeeperFault, keeper),
+        Ok(mut desk) => {
+            let status = run_desk(alloc, &mut desk, source, sink);
+            let (keeper, journal) = desk.close();
+            drop(journal);
+            (status, keeper)
+        }
+    }
+}
+
+/// Does what the words say, and hands back the keeper. `replay` with its options opens the tables that the keeper loads,
+/// reads a script from the source to its end, makes the calls of its lines one by one, as many as the journal takes, and
+/// writes what shows each line before the next; then the tables.
+///
+/// Where no count of faults can rise, as over objects that never fail, the last three clauses leave out the statuses of
+/// source, sink and keeper; and by `counted` of the history no call of it was left undone and none of its due steps were
+/// stopped by a fault.
+pub fn run_words<R: Source, W: Sink, K: Keeper + Drop>(
     alloc: Global,
     words: &[Word],
     source: &mut R,
     sink: &mut W,
-) -> Status
-    // Where source and sink tell their content: the bytes and the status are those of one legal history.
-    ensures ran { IfSome (R.left source.old) (λ script. Ran words.now script (W.taken sink.old) (W.taken sink.new) result) }
+    keeper: K,
+) -> (Status, K)
+    // Where source, sink and keeper tell their content: the bytes, the status and the kept tables are those of one legal history.
+    ensures ran { IfSome (R.left source.old) (λ script. IfSome (K.told keeper) (λ loaded.
+        Ran (options_of words.now) script loaded (W.taken sink.old) (W.taken sink.new) (K.told result.1) (K.faults keeper) (K.faults result.1) result.0)) }
     // Whatever they tell, each fault was counted.
-    ensures usage { (result ≡ Status.Usage) ↔ (IsReplay words.now → ⊥) }
-    ensures source_fault { result ≡ Status.SourceFault → Rose (R.faults source.old) (R.faults source.new) }
-    ensures sink_fault { result ≡ Status.SinkFault → Rose (W.faults sink.old) (W.faults sink.new) }
+    ensures usage { (result.0 ≡ Status.Usage) ↔ (options_of words.now ≡ None) }
+    ensures source_fault { result.0 ≡ Status.SourceFault → Rose (R.faults source.old) (R.faults source.new) }
+    ensures sink_fault { result.0 ≡ Status.SinkFault → Rose (W.faults sink.old) (W.faults sink.new) }
+    ensures keeper_fault { result.0 ≡ Status.KeeperFault → Rose (K.faults keeper) (K.faults result.1) }
 {
-    if !is_replay(words) {
-        return Status::Usage;
+    match read_options(words) {
+        None => (Status::Usage, keeper),
+        Some(options) => replay(alloc, options, source, sink, keeper),
     }
-    replay(alloc, source, sink)
 }

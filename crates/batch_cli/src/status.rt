@@ -13,10 +13,15 @@ pub enum Status {
     SourceFault,
     /// 4: the sink failed; the run ended there.
     SinkFault,
+    /// 5: the keeper failed at the opening, and nothing was written; or the script was done to its end, and a call or its
+    /// due steps met a keeper fault.
+    KeeperFault,
     /// 6: the script was done to its end, and a line of it is no request.
     UnreadableLines,
     /// 7: the source gave more than 67,108,864 bytes; nothing was called.
     ScriptTooLong,
+    /// 9: the script was done to its end, and a call found the journal full.
+    JournalFull,
 }
 
 impl Status {
@@ -33,8 +38,10 @@ impl Status {
             Status::Usage => 2,
             Status::SourceFault => 3,
             Status::SinkFault => 4,
+            Status::KeeperFault => 5,
             Status::UnreadableLines => 6,
             Status::ScriptTooLong => 7,
+            Status::JournalFull => 9,
         }
     }
 }

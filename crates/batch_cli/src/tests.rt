@@ -1,94 +1,250 @@
 //! What scripts write, and with which status. Expected texts are written by hand.
 use crate::run::run_words;
 use crate::status::Status;
+use batch_keeper::MemoryKeeper;
 use bt_base::{MemorySink, MemorySource, Word};
+use bt_rows::tables::Tables;
 use std::alloc::{AllocError, Global};
 use std::test::Fail;
 
-/// The status and the output of a script whose source and sink fail at the calls of these numbers.
-fn run(
-    alloc: Global,
-    words: &[&str],
-    script: &str,
-    source_fails: &[u64],
-    sink_fails: &[u64],
-) -> Result<(Status, Vec<u8>), AllocError> {
+/// A keeper of empty tables, of which the calls of these numbers fail.
+fn keeper(alloc: Global, fails: &[u64]) -> Result<MemoryKeeper, AllocError> {
+    Ok(MemoryKeeper::new(
+        Tables::empty(alloc),
+        Vec::from_slice(alloc, fails)?,
+    ))
+}
+
+fn words_of(alloc: Global, words: &[&str]) -> Result<Vec<Word>, AllocError> {
     let mut all = Vec::new(alloc);
     for word in words {
         let bytes = Vec::from_slice(alloc, word.as_bytes())?;
         all.push(Word::new(bytes))?;
     }
-    let bytes = Vec::from_slice(alloc, script.as_bytes())?;
-    let mut source = MemorySource::new(bytes, Vec::from_slice(alloc, source_fails)?);
-    let mut sink = MemorySink::new(alloc, Vec::from_slice(alloc, sink_fails)?);
-    let status = run_words(alloc, all.as_slice(), &mut source, &mut sink);
-    Ok((status, sink.into_bytes()))
+    Ok(all)
+}
+
+/// What is run: the words, the script, and the calls of source and sink that fail.
+#[derive(Clone, Copy)]
+struct Run<'a> {
+    words: &'a [&'a str],
+    script: &'a str,
+    source_fails: &'a [u64],
+    sink_fails: &'a [u64],
+}
+
+/// The status, the output and the keeper that is handed back.
+fn run_over(
+    alloc: Global,
+    run: Run,
+    keeper: MemoryKeeper,
+) -> Result<(Status, Vec<u8>, MemoryKeeper), AllocError> {
+    let words = words_of(alloc, run.words)?;
+    let bytes = Vec::from_slice(alloc, run.script.as_bytes())?;
+    let mut source = MemorySource::new(bytes, Vec::from_slice(alloc, run.source_fails)?);
+    let mut sink = MemorySink::new(alloc, Vec::from_slice(alloc, run.sink_fails)?);
+    let (status, keeper) = run_words(alloc, words.as_slice(), &mut source, &mut sink, keeper);
+    Ok((status, sink.into_bytes(), keeper))
+}
+
+/// Whether a run over a keeper of empty tables, of which these calls fail, has this status and output.
+fn gives(
+    alloc: Global,
+    run: Run,
+    keeper_fails: &[u64],
+    status: Status,
+    output: &str,
+) -> Result<bool, AllocError> {
+    let (ended, written, _keeper) = run_over(alloc, run, keeper(alloc, keeper_fails)?)?;
+    Ok(ended == status && written.as_slice() == output.as_bytes())
+}
+
+/// The words and the script of a run whose source and sink never fail.
+fn sure<'a>(words: &'a [&'a str], script: &'a str) -> Run<'a> {
+    Run {
+        words,
+        script,
+        source_fails: &[],
+        sink_fails: &[],
+    }
 }
 
 const POOL: &str = "0 add-pool {\"id\":\"p\",\"targetDedicatedNodes\":1}\n";
 
 const POOL_OUTPUT: &str = "1 201\n1 U15 p 1 1\n1 U11 p steady\n";
 
-#[test]
-fn an_empty_script_writes_empty_tables(rt: HostRuntime) -> Result<(), Fail> {
-    let (status, output) = run(rt.alloc(), &["replay"], "", &[], &[])?;
-    assert_eq!(rt; status, Status::Done);
-    assert_eq!(rt; output.as_slice(), b"tables 0\n".as_slice());
-    Ok(())
-}
+/// A task that is placed and taken.
+const TAKEN: &str = "0 add-pool {\"id\":\"p\",\"targetDedicatedNodes\":1}\n\
+    0 add-job {\"id\":\"j\",\"poolInfo\":{\"poolId\":\"p\"}}\n\
+    0 add-task j {\"id\":\"t\",\"commandLine\":\"echo hi\"}\n5 take 1\n";
+
+/// The same, and its ending.
+const ENDED: &str = "0 add-pool {\"id\":\"p\",\"targetDedicatedNodes\":1}\n\
+    0 add-job {\"id\":\"j\",\"poolInfo\":{\"poolId\":\"p\"}}\n\
+    0 add-task j {\"id\":\"t\",\"commandLine\":\"echo hi\"}\n5 take 1\n9 end 1 0\n";
+
+const ENDED_TABLES: &str = "tables 9\npool p active steady 1 0 1 spread\nnode 1 p 1 idle\n\
+    job j p active 0 -\ntask j t completed success 0 0\nrun 1 task 1 j t ended 0\n";
 
 #[test]
-fn a_task_is_placed_taken_and_ended_once(rt: HostRuntime) -> Result<(), Fail> {
-    let script = "0 add-pool {\"id\":\"p\",\"targetDedicatedNodes\":1}\n\
+fn scripts_are_done(rt: HostRuntime) -> Result<(), Fail> {
+    let ended = "0 add-pool {\"id\":\"p\",\"targetDedicatedNodes\":1}\n\
         0 add-job {\"id\":\"j\",\"poolInfo\":{\"poolId\":\"p\"}}\n\
         0 add-task j {\"id\":\"t\",\"commandLine\":\"echo hi\"}\n\
         1 end 7 0\n1 end 1 0\n5 take 1\n5 take 1\n9 end 1 0\n9 end 1 0\nnonsense\n";
-    let wanted = "1 201\n1 U15 p 1 1\n1 U11 p steady\n2 201\n3 201\n3 U16 j t 1 1\n\
+    let ended_output = "1 201\n1 U15 p 1 1\n1 U11 p steady\n2 201\n3 201\n3 U16 j t 1 1\n\
         4 404 RunNotFound\n5 409 RunNotTaken\n6 200\n7 409 RunAlreadyTaken\n\
         8 200\n8 U5 j t success\n9 409 RunAlreadyEnded\n10 400 UnreadableBody\n\
         tables 9\npool p active steady 1 0 1 spread\nnode 1 p 1 idle\njob j p active 0 -\n\
         task j t completed success 0 0\nrun 1 task 1 j t ended 0\n";
-    let (status, output) = run(rt.alloc(), &["replay"], script, &[], &[])?;
-    assert_eq!(rt; status, Status::UnreadableLines);
-    assert_eq!(rt; output.as_slice(), wanted.as_bytes());
+    let same_ids = "0 add-pool {\"id\":\"Render\"}\r\n\n# a comment\n0 add-pool {\"id\":\"render\"}";
+    let rows = [
+        ("", Status::Done, "tables 0\n"),
+        (ended, Status::UnreadableLines, ended_output),
+        (
+            same_ids,
+            Status::Done,
+            "1 201\n4 409 PoolExists\ntables 0\npool Render active steady 0 0 1 spread\n",
+        ),
+        ("7 tick\n5 tick", Status::Done, "1 200\n2 200\ntables 7\n"),
+    ];
+    for (script, status, output) in rows {
+        let run = sure(&["replay"], script);
+        assert!(rt; gives(rt.alloc(), run, &[], status, output)?, "{script}");
+    }
     Ok(())
 }
 
 #[test]
-fn ids_are_the_same_in_any_case(rt: HostRuntime) -> Result<(), Fail> {
-    let script = "0 add-pool {\"id\":\"Render\"}\r\n\n# a comment\n0 add-pool {\"id\":\"render\"}";
-    let wanted = "1 201\n4 409 PoolExists\ntables 0\npool Render active steady 0 0 1 spread\n";
-    let (status, output) = run(rt.alloc(), &["replay"], script, &[], &[])?;
+fn stream_faults_have_statuses_of_their_own(rt: HostRuntime) -> Result<(), Fail> {
+    let run = sure(&["replay"], POOL);
+    let source_fails = Run {
+        source_fails: &[1],
+        ..run
+    };
+    let first_write_fails = Run {
+        sink_fails: &[1],
+        ..run
+    };
+    let second_write_fails = Run {
+        sink_fails: &[2],
+        ..run
+    };
+    let rows = [
+        (source_fails, Status::SourceFault, ""),
+        (first_write_fails, Status::SinkFault, ""),
+        (second_write_fails, Status::SinkFault, POOL_OUTPUT),
+    ];
+    for (run, status, output) in rows {
+        assert!(rt; gives(rt.alloc(), run, &[], status, output)?, "{output}");
+    }
+    Ok(())
+}
+
+#[test]
+fn keeper_faults_are_shown(rt: HostRuntime) -> Result<(), Fail> {
+    let alloc = rt.alloc();
+    let run = sure(&["replay"], ENDED);
+    let second_save = format!(in alloc; "1 201\n1 stop fault\n2 201\n2 U15 p 1 1\n2 U11 p steady\n3 201\n3 U16 j t 1 1\n4 200\n5 200\n5 U5 j t success\n{ENDED_TABLES}")?;
+    let first_save = "1 fault\n2 404 PoolNotFound\n3 404 JobNotFound\n4 404 RunNotFound\n\
+        5 404 RunNotFound\ntables 9\n";
+    let rows = [
+        (1, ""),
+        (2, first_save),
+        (3, second_save.as_str()),
+    ];
+    for (call, output) in rows {
+        assert!(rt; gives(alloc, run, &[call], Status::KeeperFault, output)?, "{call}");
+    }
+    Ok(())
+}
+
+/// How many loads and saves the script of an ended task makes.
+const ENDED_CALLS: u64 = 10;
+
+#[test]
+fn a_fault_of_any_call_ends_with_its_status(rt: HostRuntime) -> Result<(), Fail> {
+    let alloc = rt.alloc();
+    let run = sure(&["replay"], ENDED);
+    for call in 1..=ENDED_CALLS {
+        let (status, _output, _keeper) = run_over(alloc, run, keeper(alloc, &[call])?)?;
+        assert_eq!(rt; status, Status::KeeperFault, "{call}");
+    }
+    let (status, _output, _keeper) = run_over(alloc, run, keeper(alloc, &[ENDED_CALLS + 1])?)?;
+    assert_eq!(rt; status, Status::Done);
+    Ok(())
+}
+
+#[test]
+fn a_full_journal_takes_no_call(rt: HostRuntime) -> Result<(), Fail> {
+    let run = sure(&["replay", "--journal", "2"], ENDED);
+    let wanted = "1 201\n1 U15 p 1 1\n1 U11 p steady\n2 201\n3 full\n4 full\n5 full\n\
+        tables 0\npool p active steady 1 0 1 spread\nnode 1 p 1 idle\njob j p active 0 -\n";
+    assert!(rt; gives(rt.alloc(), run, &[], Status::JournalFull, wanted)?);
+    Ok(())
+}
+
+#[test]
+fn what_an_earlier_run_left_is_withdrawn(rt: HostRuntime) -> Result<(), Fail> {
+    let alloc = rt.alloc();
+    let (_status, _output, kept) = run_over(alloc, sure(&["replay"], TAKEN), keeper(alloc, &[])?)?;
+    let next = sure(&["replay"], "20 tick\n21 end 1 0\n");
+    let (status, output, _keeper) = run_over(alloc, next, kept)?;
+    let wanted = "1 200\n1 U5 j t active 0\n1 U15 p 2 1\n1 U11 p steady\n1 U16 j t 2 2\n\
+        2 409 RunWithdrawn\ntables 21\npool p active steady 1 0 1 spread\nnode 2 p 1 running\n\
+        job j p active 0 -\ntask j t running - - 0\nrun 1 task 1 j t withdrawn -\n\
+        run 2 task 2 j t queued -\n";
     assert_eq!(rt; status, Status::Done);
     assert_eq!(rt; output.as_slice(), wanted.as_bytes());
     Ok(())
 }
 
 #[test]
-fn faults_of_the_streams_have_statuses_of_their_own(rt: HostRuntime) -> Result<(), Fail> {
-    let (status, output) = run(rt.alloc(), &["replay"], POOL, &[1], &[])?;
-    assert_eq!(rt; status, Status::SourceFault);
-    assert_eq!(rt; output.len(), 0);
-    let (status, output) = run(rt.alloc(), &["replay"], POOL, &[], &[1])?;
-    assert_eq!(rt; status, Status::SinkFault);
-    assert_eq!(rt; output.len(), 0);
-    let (status, output) = run(rt.alloc(), &["replay"], POOL, &[], &[2])?;
-    assert_eq!(rt; status, Status::SinkFault);
-    assert_eq!(rt; output.as_slice(), POOL_OUTPUT.as_bytes());
+fn words_that_are_no_command_do_nothing(rt: HostRuntime) -> Result<(), Fail> {
+    let rows: [&[&str]; 22] = [
+        &[],
+        &["Replay"],
+        &["replay", "replay"],
+        &["replay", "-"],
+        &["replay", "--"],
+        &["--seats", "2"],
+        &["replay", "--seats"],
+        &["replay", "--seats="],
+        &["replay", "--seats", "0"],
+        &["replay", "--seats", "33"],
+        &["replay", "--seats=-1"],
+        &["replay", "--seats", "+1"],
+        &["replay", "--seats", "--journal"],
+        &["replay", "--seats", "2", "--seats", "2"],
+        &["replay", "--seats=2", "--seats", "2"],
+        &["replay", "--Seats", "2"],
+        &["replay", "--journal=0"],
+        &["replay", "--journal", "4000001"],
+        &["replay", "--journal", "000000000000000000001"],
+        &["replay", "--seats=2=2"],
+        &["replay", "2=--seats", "2"],
+        &["replay", "--seats", "2", "3"],
+    ];
+    for words in rows {
+        assert!(rt; gives(rt.alloc(), sure(words, POOL), &[], Status::Usage, "")?);
+    }
     Ok(())
 }
 
 #[test]
-fn other_words_do_nothing(rt: HostRuntime) -> Result<(), Fail> {
-    let (status, output) = run(rt.alloc(), &[], POOL, &[], &[])?;
-    assert_eq!(rt; status, Status::Usage);
-    assert_eq!(rt; output.len(), 0);
-    let (status, output) = run(rt.alloc(), &["Replay"], POOL, &[], &[])?;
-    assert_eq!(rt; status, Status::Usage);
-    assert_eq!(rt; output.len(), 0);
-    let (status, output) = run(rt.alloc(), &["replay", "replay"], POOL, &[], &[])?;
-    assert_eq!(rt; status, Status::Usage);
-    assert_eq!(rt; output.len(), 0);
+fn options_come_in_any_order(rt: HostRuntime) -> Result<(), Fail> {
+    let pools = "0 add-pool {\"id\":\"p\",\"targetDedicatedNodes\":2}\n0 tick\n";
+    let wanted = "1 201\n1 U15 p 1 1\n2 full\ntables 0\npool p active resizing 2 0 1 spread\n\
+        node 1 p 1 idle\n";
+    let rows: [&[&str]; 4] = [
+        &["replay", "--seats", "1", "--journal", "1"],
+        &["replay", "--journal", "1", "--seats=01"],
+        &["replay", "--journal=1", "--seats", "1"],
+        &["replay", "--journal=00000000000000000001", "--seats=1"],
+    ];
+    for words in rows {
+        assert!(rt; gives(rt.alloc(), sure(words, pools), &[], Status::JournalFull, wanted)?);
+    }
     Ok(())
 }
 
@@ -103,8 +259,10 @@ fn pools(alloc: Global, count: u64) -> Result<String, AllocError> {
 
 #[test]
 fn the_65th_pool_is_refused(rt: HostRuntime) -> Result<(), Fail> {
-    let script = pools(rt.alloc(), 65)?;
-    let (status, output) = run(rt.alloc(), &["replay"], script.as_str(), &[], &[])?;
+    let alloc = rt.alloc();
+    let script = pools(alloc, 65)?;
+    let run = sure(&["replay"], script.as_str());
+    let (status, output, _keeper) = run_over(alloc, run, keeper(alloc, &[])?)?;
     assert_eq!(rt; status, Status::Done);
     let wanted = b"\n64 201\n65 409 TableFull pools 64\ntables 0\n".as_slice();
     assert!(rt; output.windows(wanted.len()).any(|part| part == wanted));

@@ -8,6 +8,7 @@ mod parts;
 mod script;
 
 pub use line::{LineRequest, read_line};
+pub use number::read_number;
 pub use script::split_line;
 
 #[cfg(test)]

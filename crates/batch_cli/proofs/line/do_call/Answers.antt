@@ -1,26 +1,17 @@
-use Rattle.std.proofs.Common.{rules, ◌≡◌, inl, inr, subst, string_bytes}
+use Rattle.std.proofs.Common.{rules, ◌≡◌, inr, string_bytes, subst}
 use Rattle.bt_base.specs.Content.{Gains, GainsFront}
-use Rattle.bt_base.proofs.Gaining.{gains_nothing}
-use Rattle.batch_cli.proofs.GoingOn.{at_err_anyway, call_advances}
+use Rattle.batch_cli.proofs.Advancing.{at_err_anyway}
 use Rattle.batch_cli.proofs.line.do_call.Goals as goal
 
 pub returns-in_err-text-clause-err : goal.returns-in_err-text-clause-err
-returns-in_err-text-clause-err g c = at_err_anyway _ (inl (gains_nothing _))
+returns-in_err-text-clause-err g c = at_err_anyway _ (c.in_err-text.ensures.err (g.W.Sink.taken c.args.sink.now))
 
 pub returns-in_err-write_all-clause-err : goal.returns-in_err-write_all-clause-err
 returns-in_err-write_all-clause-err g c =
     let text : c.as_bytes.result.now ≡ string_bytes c.in_ok-text.text = search rules in
-    at_err_anyway _ (inr (record {
-      text = string_bytes c.in_ok-text.text;
-      step = call_advances _ _ _ _ _ _ c.in_ok-text.ensures;
-      written = subst (GainsFront (g.W.Sink.taken c.args.sink.now) (g.W.Sink.taken c.write_all.new.sink)) text c.in_err-write_all.ensures.err;
-    }))
+    at_err_anyway _ (inr (record { text = string_bytes c.in_ok-text.text; step = c.in_ok-text.ensures.ok.step; written = subst (GainsFront (g.W.Sink.taken c.args.sink.now) (g.W.Sink.taken c.write_all.new.sink)) text c.in_err-write_all.ensures.err }))
 
 pub returns-clause-ok : goal.returns-clause-ok
 returns-clause-ok g c =
     let text : c.as_bytes.result.now ≡ string_bytes c.in_ok-text.text = search rules in
-    record {
-      text = string_bytes c.in_ok-text.text;
-      step = call_advances _ _ _ _ _ _ c.in_ok-text.ensures;
-      written = subst (Gains (g.W.Sink.taken c.args.sink.now) (g.W.Sink.taken c.write_all.new.sink)) text c.in_ok-write_all.ensures.ok;
-    }
+    record { text = string_bytes c.in_ok-text.text; step = c.in_ok-text.ensures.ok.step; written = subst (Gains (g.W.Sink.taken c.args.sink.now) (g.W.Sink.taken c.write_all.new.sink)) text c.in_ok-write_all.ensures.ok; settled = c.in_ok-text.ensures.ok.settled }
