@@ -1,5 +1,6 @@
 //! Which jobs have a task to place, by one pass over the tasks.
-ghost use Rattle.std.specs.Prelude.{◌≡◌, ℕ, List, ◌&&◌, ◌||◌, IfOk, OnOk};
+ghost use Rattle.std.specs.Prelude.{◌≡◌, ℕ, List, true, false, ◌&&◌, ◌||◌, IfOk, OnOk, IfSome};
+ghost use Rattle.std.specs.Option.{option_map_or};
 ghost use Rattle.std.specs.BTreeSet.{contains_text};
 ghost use Rattle.bt_base.specs.Ids.{same, lowered};
 ghost use Rattle.batch_machine.specs.ReadyJobs.{is_ready, is_ready_in, NamesReadyJobs};
@@ -29,14 +30,48 @@ fn add_job(alloc: Global, names: &mut BTreeSet<String>, job: &Id) -> Result<(), 
     Ok(())
 }
 
-/// Names the task's job, if the task is ready.
-fn add_if_ready(alloc: Global, names: &mut BTreeSet<String>, task: &TaskRow) -> Result<(), NoMemory>
-    ensures { OnOk result ((id : List ℕ) → contains_text names.new (lowered id) ≡ (contains_text names.old (lowered id) || is_ready_in id task.now)) }
+/// Whether this is the job that was named last.
+fn is_last(last: Option<&Id>, job: &Id) -> bool
+    ensures { result ≡ option_map_or (λ id. same id.now job.now) last.entry false }
 {
-    if is_ready(task) {
-        add_job(alloc, names, &task.job)?;
+    match last {
+        None => false,
+        Some(id) => id.same(job),
     }
-    Ok(())
+}
+
+/// Names the job, in small letters, unless it was named last: tasks of one job often stand together.
+fn add_new_job(
+    alloc: Global,
+    names: &mut BTreeSet<String>,
+    last: Option<&Id>,
+    job: &Id,
+) -> Result<(), NoMemory>
+    requires { IfSome last (λ id. contains_text names.old (lowered id.now) ≡ true) }
+    ensures { OnOk result ((id : List ℕ) → contains_text names.new (lowered id) ≡ (contains_text names.old (lowered id) || same job.now id)) }
+{
+    if is_last(last, job) {
+        return Ok(());
+    }
+    add_job(alloc, names, job)
+}
+
+/// Names the task's job, if the task is ready, and hands out the job that was named last.
+fn add_if_ready<'a>(
+    alloc: Global,
+    names: &mut BTreeSet<String>,
+    last: Option<&'a Id>,
+    task: &'a TaskRow,
+) -> Result<Option<&'a Id>, NoMemory>
+    requires { IfSome last (λ id. contains_text names.old (lowered id.now) ≡ true) }
+    ensures names { OnOk result ((id : List ℕ) → contains_text names.new (lowered id) ≡ (contains_text names.old (lowered id) || is_ready_in id task.now)) }
+    ensures last { IfOk result (λ last. IfSome last (λ id. contains_text names.new (lowered id.now) ≡ true)) }
+{
+    if !is_ready(task) {
+        return Ok(last);
+    }
+    add_new_job(alloc, names, last, &task.job)?;
+    Ok(Some(&task.job))
 }
 
 /// The jobs that have a ready task, by their ids in small letters.
@@ -44,8 +79,9 @@ pub fn ready_jobs(alloc: Global, tasks: &[TaskRow]) -> Result<BTreeSet<String>, 
     ensures { IfOk result (NamesReadyJobs tasks.now) }
 {
     let mut names = BTreeSet::new(alloc);
+    let mut last = None;
     for task in tasks {
-        add_if_ready(alloc, &mut names, task)?;
+        last = add_if_ready(alloc, &mut names, last, task)?;
     }
     Ok(names)
 }
