@@ -1,5 +1,5 @@
 -- What is not to be placed: tasks of jobs that have none to place, and any task where no node is free.
-use Rattle.std.proofs.Common.{◌≡◌, ℕ, Bor, Bool, true, false, ◌&&◌, ◌||◌, List, [], ◌∷◌, Option, Some, None, cond, map, length, eqb, find, filter, refl, sym, ◌∙◌, ap}
+use Rattle.std.proofs.Common.{◌≡◌, Bor, Bool, true, false, ◌&&◌, ◌||◌, List, [], ◌∷◌, Option, Some, None, cond, map, length, eqb, find, filter, refl, sym, ◌∙◌, ap}
 use Rattle.std.specs.Prelude.{nat_eq, is_none}
 use Rattle.std.specs.Option.{option_map, option_and_then}
 use Rattle.std.specs.List.{list_any}
@@ -10,7 +10,6 @@ use Rattle.batch_model.specs.Nodes.{is_in_pool, is_usable}
 use Rattle.batch_model.specs.Placing.{is_empty, is_placeable, fits, places_tasks, place, place_on, place_in, place_of_job}
 use Rattle.batch_model.specs.Rows.{pool_of}
 use Rattle.batch_model.specs.Slots.{held_slots}
-use Rattle.batch_model.specs.Steps.{DueStep}
 use Rattle.batch_model.specs.Tasks.{is_active, is_in_job}
 use Rattle.batch_model.specs.Variants.{State, PoolRow, NodeRow, JobRow, TaskRow}
 use Rattle.slot_scan.specs.Holding.{is_free, free_nodes}
