@@ -1,0 +1,21 @@
+-- What one due step does, and what the saving of a plan does.
+use Rattle.std.specs.Prelude.{◌≡◌, ℕ, Option, Some, None}
+use Rattle.bt_rows.specs.declared.due.Due.{Due}
+use Rattle.batch_model.specs.Dues.{due_step}
+use Rattle.batch_model.specs.Sound.{IsSound}
+use Rattle.batch_model.specs.Variants.{State}
+
+-- no rule applies, and nothing has changed
+pub record IsAtRest (seats : ℕ) (old new : State) : Type 0 where
+  pub rest : due_step seats old ≡ None
+  pub same : new ≡ old
+
+-- the due step was made, and this is what it tells
+pub record MakesDue (seats : ℕ) (old new : State) (told : Due) : Type 0 where
+  pub sound : IsSound seats old
+  pub applies : due_step seats old ≡ Some (record { due = told; state = new })
+
+-- what was told, if a due step was made
+abbrev pub IsDueTurn : ℕ → State → State → Option Due → Type 0
+IsDueTurn seats old new None = IsAtRest seats old new
+IsDueTurn seats old new (Some told) = MakesDue seats old new told

@@ -1,0 +1,14 @@
+//! The desk: calls one after another, each change of the tables saved before it counts, and the journal of the calls.
+#![tactic(auto)]
+
+mod answer;
+//mod desk;
+mod entry;
+mod journal;
+//mod pair;
+mod saving;
+
+pub use answer::Answer;
+//pub use desk::Desk;
+pub use entry::{Entry, Mark, Stop};
+pub use journal::Journal;
