@@ -1,1 +1,3 @@
+pub mod DueRuns
+pub mod Entering
 pub mod Saved

@@ -1,9 +1,16 @@
--- What one due step does, and what the saving of a plan does.
+-- What one due step does.
 use Rattle.std.specs.Prelude.{◌≡◌, ℕ, Option, Some, None}
 use Rattle.bt_rows.specs.declared.due.Due.{Due}
+use Rattle.bt_rows.specs.declared.reply.Reply.{Reply}
+use Rattle.bt_rows.specs.declared.reply.Reply.TheVariants.{Step}
 use Rattle.batch_model.specs.Dues.{due_step}
 use Rattle.batch_model.specs.Sound.{IsSound}
 use Rattle.batch_model.specs.Variants.{State}
+
+-- the reply is a due step's
+abbrev pub IsStep : Reply → Type 0
+IsStep (Step due) = Unit {0}
+IsStep _ = ⊥
 
 -- no rule applies, and nothing has changed
 pub record IsAtRest (seats : ℕ) (old new : State) : Type 0 where

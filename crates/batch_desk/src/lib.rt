@@ -2,13 +2,14 @@
 #![tactic(auto)]
 
 mod answer;
-//mod desk;
+mod call;
+mod desk;
 mod entry;
 mod journal;
-//mod pair;
+mod pair;
 mod saving;
 
 pub use answer::Answer;
-//pub use desk::Desk;
+pub use desk::Desk;
 pub use entry::{Entry, Mark, Stop};
 pub use journal::Journal;

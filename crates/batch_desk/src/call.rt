@@ -1,0 +1,126 @@
+//! A call, made and entered.
+ghost use Rattle.std.specs.Prelude.{◌≡◌, ◌≤◌, ◌<◌, vec_len, vec_capacity};
+ghost use Rattle.batch_desk.specs.Kept.{Tells};
+ghost use Rattle.batch_desk.specs.History.{refusal_of};
+ghost use Rattle.batch_desk.specs.Calls.{Finishes, IsFailed, IsCalled, IsCalledWithin};
+
+use crate::answer::Answer;
+use crate::entry::{Entry, Mark, Stop};
+use crate::pair::Pair;
+use batch_keeper::{KeepError, Keeper};
+use bt_base::{List, Moment};
+use bt_rows::due::Due;
+use bt_rows::event::Event;
+use bt_rows::refusal::Refusal;
+use bt_rows::reply::Reply;
+use std::alloc::Global;
+
+/// The refusal that the reply is, if it is one.
+fn refusal_of(reply: &Reply) -> Option<Refusal>
+    ensures { result ≡ refusal_of reply.now }
+{
+    match reply {
+        Reply::Refused(refusal) => Some(*refusal),
+        _ => None,
+    }
+}
+
+/// Makes the due steps that follow an event with this reply, and enters the call.
+fn finish<K: Keeper + Drop>(
+    alloc: Global,
+    pair: &mut Pair<K>,
+    entries: &mut Vec<Entry>,
+    moment: Moment,
+    event: Event,
+    reply: &Reply,
+) -> (List<Due>, Stop)
+    requires { vec_len entries.old < vec_capacity entries.old }
+    ensures finished { Finishes K.faults pair.old pair.new entries.old.items entries.new.items moment event reply.now result.0 result.1 }
+    ensures seats { pair.new.seats ≡ pair.old.seats }
+    ensures kept { Tells (K.told pair.new.keeper) pair.new.state }
+    ensures later { K.faults pair.old.keeper ≤ K.faults pair.new.keeper }
+{
+    let (dues, stop) = pair.due_steps(alloc);
+    entries.push_reserved(Entry {
+        moment,
+        event,
+        mark: Mark::Done(refusal_of(reply)),
+        dues: dues.as_slice().len() as u64,
+        stop,
+    });
+    (dues, stop)
+}
+
+/// Enters a call that was left undone because of a keeper fault, and answers it. Want of memory has no entry.
+fn enter_failed(
+    entries: &mut Vec<Entry>,
+    moment: Moment,
+    event: Event,
+    error: KeepError,
+) -> Answer
+    requires { vec_len entries.old < vec_capacity entries.old }
+    ensures { IsFailed error result moment event entries.old.items entries.new.items }
+{
+    match error {
+        KeepError::Memory => Answer::Memory,
+        KeepError::Failed => {
+            entries.push_reserved(Entry {
+                moment,
+                event,
+                mark: Mark::KeeperFault,
+                dues: 0,
+                stop: Stop::KeeperFault,
+            });
+            Answer::KeeperFault
+        }
+    }
+}
+
+/// Makes a call for whose entry there is room: the event, and then due steps until no rule applies or until one can't be
+/// made. Each is saved before it is made.
+fn make_call<K: Keeper + Drop>(
+    alloc: Global,
+    pair: &mut Pair<K>,
+    entries: &mut Vec<Entry>,
+    moment: Moment,
+    event: Event,
+) -> Answer
+    requires { vec_len entries.old < vec_capacity entries.old }
+    ensures called { IsCalled K.faults pair.old pair.new entries.old.items entries.new.items moment event result }
+    ensures seats { pair.new.seats ≡ pair.old.seats }
+    ensures kept { Tells (K.told pair.new.keeper) pair.new.state }
+    ensures later { K.faults pair.old.keeper ≤ K.faults pair.new.keeper }
+{
+    match pair.event(alloc, moment, &event) {
+        Ok(reply) => {
+            let (dues, stop) = finish(alloc, pair, entries, moment, event, &reply);
+            Answer::Done { reply, dues, stop }
+        }
+        Err(error) => enter_failed(entries, moment, event, error),
+    }
+}
+
+/// Makes a call, if the journal has fewer entries than its limit and there is memory for one more.
+#[tactic(auto, using(crate::proofs::Entering::called_within))]
+pub fn call_within<K: Keeper + Drop>(
+    alloc: Global,
+    limit: u32,
+    pair: &mut Pair<K>,
+    entries: &mut Vec<Entry>,
+    moment: Moment,
+    event: Event,
+) -> Answer
+    requires { Tells (K.told pair.old.keeper) pair.old.state }
+    ensures called { IsCalledWithin K.faults limit pair.old pair.new entries.old.items entries.new.items moment event result }
+    ensures seats { pair.new.seats ≡ pair.old.seats }
+    ensures kept { Tells (K.told pair.new.keeper) pair.new.state }
+    ensures later { K.faults pair.old.keeper ≤ K.faults pair.new.keeper }
+{
+    if entries.len() >= limit as usize {
+        return Answer::JournalFull;
+    }
+    if entries.reserve(1).is_err() {
+        return Answer::Memory;
+    }
+    make_call(alloc, pair, entries, moment, event)
+}

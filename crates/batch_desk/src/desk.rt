@@ -1,0 +1,230 @@
+//! The desk and its journal.
+ghost use Rattle.std.specs.Prelude.{◌≡◌, ◌≤◌, None, IfOk, IfErr, IfSome, OnOk, OnErr, nat_lt};
+ghost use Rattle.bt_base.specs.Causes.{Rose};
+ghost use Rattle.bt_rows.specs.Changes.{apply_changes};
+ghost use Rattle.batch_model.specs.Opening.{opening};
+ghost use Rattle.batch_model.specs.Sound.{IsSound};
+ghost use Rattle.batch_keeper.specs.Told.{FailsWithCause};
+ghost use Rattle.batch_desk.specs.Kept.{Tells};
+ghost use Rattle.batch_desk.specs.History.{IsLegal, after_all, fault_count, faults_of};
+ghost use Rattle.batch_desk.specs.Answers.{Answers, IsInOrder, HasSameOpening, Begins};
+
+use crate::answer::Answer;
+use crate::call::call_within;
+use crate::entry::{Entry, Stop};
+use crate::journal::Journal;
+use crate::pair::Pair;
+use crate::saving::save;
+use batch_keeper::{KeepError, Keeper};
+use batch_machine::Machine;
+use bt_base::{List, Moment};
+use bt_rows::event::Event;
+use bt_rows::tables::{Change, Tables};
+use std::alloc::Global;
+use std::marker::Model;
+
+/// Calls one after the other over a keeper, and the journal of them.
+#[derive(Drop)]
+pub struct Desk<K: Keeper + Drop> {
+    pair: Pair<K>,
+    opened: Tables,
+    limit: u32,
+    entries: Vec<Entry>,
+}
+
+impl<K: Keeper + Drop> Model for Desk<K> {
+    ghost use Rattle.batch_desk.specs.Kept.{Desk as Seen};
+    ghost use Rattle.batch_desk.specs.Answers.{IsInOrder};
+
+    ghost Value = { Seen K };
+
+    ghost view = { λ d. record {
+      keeper = d.pair.keeper;
+      state = d.pair.state;
+      opened = d.opened.state;
+      seats = d.pair.seats;
+      limit = d.limit;
+      entries = d.entries.items;
+    } };
+
+    ghost invariant = { λ d. IsInOrder K.told K.faults (record {
+      keeper = d.pair.keeper;
+      state = d.pair.state;
+      opened = d.opened.state;
+      seats = d.pair.seats;
+      limit = d.limit;
+      entries = d.entries.items;
+    }) };
+}
+
+/// Whether the entry shows a keeper fault.
+fn is_fault(entry: &Entry) -> bool
+    ensures { result ≡ nat_lt 0 (faults_of entry.now) }
+{
+    match entry.stop {
+        Stop::KeeperFault => true,
+        Stop::Rest | Stop::Memory => false,
+    }
+}
+
+/// Whether one of them does.
+fn any_fault(entries: &[Entry]) -> bool
+    ensures { result ≡ nat_lt 0 (fault_count entries.now) }
+{
+    for entry in entries {
+        if is_fault(entry) {
+            return true;
+        }
+    }
+    false
+}
+
+/// Saves the changes of the opening, if there are any, and hands out a copy of the opened tables, which is taken before.
+fn save_opening<K: Keeper>(
+    alloc: Global,
+    keeper: &mut K,
+    machine: &Machine,
+    changes: &[Change],
+) -> Result<Tables, KeepError>
+    requires { IfSome (K.told keeper.old) (λ s. apply_changes changes.now s ≡ machine.now.state) }
+    ensures opened { IfOk result (λ opened. opened.state ≡ machine.now.state) }
+    ensures kept { OnOk result (Tells (K.told keeper.new) machine.now.state) }
+    ensures untouched { OnErr result (K.told keeper.new ≡ K.told keeper.old) }
+    ensures cause { FailsWithCause (K.faults keeper.old) (K.faults keeper.new) result }
+{
+    let opened = machine.tables().copy()?;
+    save(alloc, keeper, changes)?;
+    Ok(opened)
+}
+
+/// The machine over the tables that the keeper gives, and the changes of the opening, which are not saved yet.
+fn load_machine<K: Keeper>(
+    alloc: Global,
+    keeper: &mut K,
+    seats: u8,
+) -> Result<(Machine, List<Change>), KeepError>
+    requires few { seats ≤ 32 }
+    ensures machine { IfOk result (λ t. (t.0.seats ≡ seats) × (t.0.reserved ≡ None)) }
+    ensures opened { IfOk result (λ t. IfSome (K.told keeper.old) (λ s. t.0.state ≡ opening s)) }
+    ensures changes { IfOk result (λ t. IfSome (K.told keeper.old) (λ s. apply_changes t.1 s ≡ t.0.state)) }
+    ensures same { K.told keeper.new ≡ K.told keeper.old }
+    ensures cause { FailsWithCause (K.faults keeper.old) (K.faults keeper.new) result }
+{
+    let tables = keeper.load(alloc)?;
+    Ok(Machine::open(alloc, tables, seats)?)
+}
+
+/// The machine over the tables that the keeper gives, with the opening saved, and a copy of the opened tables.
+fn open_machine<K: Keeper>(
+    alloc: Global,
+    keeper: &mut K,
+    seats: u8,
+) -> Result<(Machine, Tables), KeepError>
+    requires few { seats ≤ 32 }
+    ensures machine { IfOk result (λ t. (t.0.state ≡ t.1.state) × (t.0.seats ≡ seats) × (t.0.reserved ≡ None)) }
+    ensures opened { IfOk result (λ t. IfSome (K.told keeper.old) (λ s. t.1.state ≡ opening s)) }
+    ensures kept { IfOk result (λ t. Tells (K.told keeper.new) t.1.state) }
+    ensures untouched { OnErr result (K.told keeper.new ≡ K.told keeper.old) }
+    ensures cause { FailsWithCause (K.faults keeper.old) (K.faults keeper.new) result }
+{
+    let (machine, changes) = load_machine(alloc, keeper, seats)?;
+    let opened = save_opening(alloc, keeper, &machine, changes.as_slice())?;
+    Ok((machine, opened))
+}
+
+impl<K: Keeper + Drop> Desk<K> {
+    /// Opens the tables that the keeper gives, for so many seats, with a journal that takes so many calls.
+    pub fn open(
+        alloc: Global,
+        mut keeper: K,
+        seats: u8,
+        limit: u32,
+    ) -> Result<Desk<K>, (K, KeepError)>
+        requires some { 1 ≤ seats }
+        requires few { seats ≤ 32 }
+        ensures in_order { IfOk result (λ d. IsInOrder K.told K.faults d) }
+        ensures begins { IfOk result (λ d. Begins d seats limit) }
+        ensures opened { IfOk result (λ d. IfSome (K.told keeper) (λ s. d.opened ≡ opening s)) }
+        ensures untouched { IfErr result (λ e. K.told e.0 ≡ K.told keeper) }
+        ensures failed { IfErr result (λ e. e.1 ≡ KeepError.Failed → Rose (K.faults keeper) (K.faults e.0)) }
+        ensures later { IfOk result (λ d. K.faults keeper ≤ K.faults d.keeper) }
+    {
+        match open_machine(alloc, &mut keeper, seats) {
+            Ok((machine, opened)) => Ok(Desk {
+                pair: Pair::new(keeper, machine, seats),
+                opened,
+                limit,
+                entries: Vec::new(alloc),
+            }),
+            Err(error) => Err((keeper, error)),
+        }
+    }
+
+    /// The tables, which are sound.
+    pub fn tables(&self) -> &Tables
+        ensures state { result.now.state ≡ self.now.state }
+        ensures sound { IsSound self.now.seats self.now.state }
+    {
+        self.pair.tables()
+    }
+
+    /// How many calls the journal takes.
+    pub fn limit(&self) -> u32
+        ensures { result ≡ self.now.limit }
+    {
+        self.limit
+    }
+
+    /// Whether the journal shows a keeper fault.
+    pub fn has_faults(&self) -> bool
+        ensures { result ≡ nat_lt 0 (fault_count self.now.entries) }
+    {
+        any_fault(&self.entries)
+    }
+
+    /// Gives back the keeper and the journal. The journal is a legal history, the keeper tells the tables after it, and
+    /// counted each keeper fault in it.
+    pub fn close(self) -> (K, Journal)
+        ensures keeper { result.0 ≡ self.keeper }
+        ensures opened { result.1.opened.state ≡ self.opened }
+        ensures seats { result.1.seats ≡ self.seats }
+        ensures limit { result.1.limit ≡ self.limit }
+        ensures entries { result.1.entries ≡ self.entries }
+        ensures legal { IsLegal result.1.seats result.1.opened.state result.1.entries }
+        ensures kept { Tells (K.told result.0) (after_all result.1.seats result.1.opened.state result.1.entries) }
+        ensures counted { fault_count result.1.entries ≤ K.faults result.0 }
+    {
+        let Desk {
+            pair,
+            opened,
+            limit,
+            entries,
+        } = self;
+        let seats = pair.seats();
+        let journal = Journal {
+            opened,
+            seats,
+            limit,
+            entries: List::of_vec(entries),
+        };
+        (pair.into_keeper(), journal)
+    }
+
+    /// Makes a call: the event, and then due steps until no rule applies or until one can't be made. Each is saved before
+    /// it is made. A full journal takes no call.
+    pub fn call(&mut self, alloc: Global, moment: Moment, event: Event) -> Answer
+        ensures answers { Answers K.faults self.old self.new moment event result }
+        ensures same { HasSameOpening self.old self.new }
+        ensures in_order { IsInOrder K.told K.faults self.new }
+        ensures later { K.faults self.old.keeper ≤ K.faults self.new.keeper }
+    {
+        call_within(
+            alloc,
+            self.limit,
+            &mut self.pair,
+            &mut self.entries,
+            moment,
+            event,
+        )
+    }
+}
