@@ -117,9 +117,11 @@ pub fn call_within<K: Keeper + Drop>(
     ensures later { K.faults pair.old.keeper ≤ K.faults pair.new.keeper }
 {
     if entries.len() >= limit as usize {
+        drop(event);
         return Answer::JournalFull;
     }
     if entries.reserve(1).is_err() {
+        drop(event);
         return Answer::Memory;
     }
     make_call(alloc, pair, entries, moment, event)
