@@ -113,6 +113,8 @@ pub fn run_words<R: Source, W: Sink, K: Keeper + Drop>(
         Ran (options_of words.now) script loaded (W.taken sink.old) (W.taken sink.new) (K.told result.1) (K.faults keeper) (K.faults result.1) result.0)) }
     // Whatever they tell, each fault was counted.
     ensures usage { (result.0 ≡ Status.Usage) ↔ (options_of words.now ≡ None) }
+    // The keeper is not called where the words are no command.
+    ensures unused { result.0 ≡ Status.Usage → result.1 ≡ keeper }
     ensures source_fault { result.0 ≡ Status.SourceFault → Rose (R.faults source.old) (R.faults source.new) }
     ensures sink_fault { result.0 ≡ Status.SinkFault → Rose (W.faults sink.old) (W.faults sink.new) }
     ensures keeper_fault { result.0 ≡ Status.KeeperFault → Rose (K.faults keeper) (K.faults result.1) }

@@ -9,10 +9,7 @@ use std::test::Fail;
 
 /// A keeper of empty tables, of which the calls of these numbers fail.
 fn keeper(alloc: Global, fails: &[u64]) -> Result<MemoryKeeper, AllocError> {
-    Ok(MemoryKeeper::new(
-        Tables::empty(alloc),
-        Vec::from_slice(alloc, fails)?,
-    ))
+    Ok(MemoryKeeper::new(Tables::empty(alloc), Vec::from_slice(alloc, fails)?))
 }
 
 fn words_of(alloc: Global, words: &[&str]) -> Result<Vec<Word>, AllocError> {
@@ -97,7 +94,8 @@ fn scripts_are_done(rt: HostRuntime) -> Result<(), Fail> {
         8 200\n8 U5 j t success\n9 409 RunAlreadyEnded\n10 400 UnreadableBody\n\
         tables 9\npool p active steady 1 0 1 spread\nnode 1 p 1 idle\njob j p active 0 -\n\
         task j t completed success 0 0\nrun 1 task 1 j t ended 0\n";
-    let same_ids = "0 add-pool {\"id\":\"Render\"}\r\n\n# a comment\n0 add-pool {\"id\":\"render\"}";
+    let same_ids =
+        "0 add-pool {\"id\":\"Render\"}\r\n\n# a comment\n0 add-pool {\"id\":\"render\"}";
     let rows = [
         ("", Status::Done, "tables 0\n"),
         (ended, Status::UnreadableLines, ended_output),
@@ -145,16 +143,17 @@ fn stream_faults_have_statuses_of_their_own(rt: HostRuntime) -> Result<(), Fail>
 fn keeper_faults_are_shown(rt: HostRuntime) -> Result<(), Fail> {
     let alloc = rt.alloc();
     let run = sure(&["replay"], ENDED);
-    let second_save = format!(in alloc; "1 201\n1 stop fault\n2 201\n2 U15 p 1 1\n2 U11 p steady\n3 201\n3 U16 j t 1 1\n4 200\n5 200\n5 U5 j t success\n{ENDED_TABLES}")?;
+    let second_save = format!(in alloc;
+        "1 201\n1 stop fault\n2 201\n2 U15 p 1 1\n2 U11 p steady\n3 201\n3 U16 j t 1 1\n4 200\n5 200\n5 U5 j t success\n{ENDED_TABLES}"
+    )?;
     let first_save = "1 fault\n2 404 PoolNotFound\n3 404 JobNotFound\n4 404 RunNotFound\n\
         5 404 RunNotFound\ntables 9\n";
-    let rows = [
-        (1, ""),
-        (2, first_save),
-        (3, second_save.as_str()),
-    ];
+    let rows = [(1, ""), (2, first_save), (3, second_save.as_str())];
     for (call, output) in rows {
-        assert!(rt; gives(alloc, run, &[call], Status::KeeperFault, output)?, "{call}");
+        assert!(rt;
+            gives(alloc, run, &[call], Status::KeeperFault, output)?,
+            "{call}"
+        );
     }
     Ok(())
 }
@@ -243,7 +242,15 @@ fn options_come_in_any_order(rt: HostRuntime) -> Result<(), Fail> {
         &["replay", "--journal=00000000000000000001", "--seats=1"],
     ];
     for words in rows {
-        assert!(rt; gives(rt.alloc(), sure(words, pools), &[], Status::JournalFull, wanted)?);
+        assert!(rt;
+            gives(
+                rt.alloc(),
+                sure(words, pools),
+                &[],
+                Status::JournalFull,
+                wanted
+            )?
+        );
     }
     Ok(())
 }
