@@ -6,7 +6,6 @@ use Rattle.bt_base.proofs.Turns.{turns, turns-fall}
 use Rattle.bt_rows.specs.declared.due.Due.{Due}
 use Rattle.batch_model.specs.Dues.{due_step}
 use Rattle.batch_model.specs.Measure.{rank}
-use Rattle.batch_model.specs.Sound.{IsSound}
 use Rattle.batch_model.specs.Steps.{DueStep}
 use Rattle.batch_model.specs.Variants.{State}
 use Rattle.batch_model.proofs.DueFalls.{falls_by_due}

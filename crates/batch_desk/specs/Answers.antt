@@ -1,5 +1,5 @@
 -- What a call of a desk answers and leaves.
-use Rattle.std.specs.Prelude.{◌≡◌, ◌≤◌, ◌<◌, ◌^◌, ℕ, List, [], ◌∷◌, ◌++◌, length, Option}
+use Rattle.std.specs.Prelude.{◌≡◌, ◌≤◌, ◌<◌, ◌^◌, ℕ, [], ◌∷◌, ◌++◌, length, Option}
 use Rattle.bt_base.specs.Causes.{Rose}
 use Rattle.bt_rows.specs.declared.event.EventKind.{EventKind}
 use Rattle.batch_model.specs.Variants.{State}

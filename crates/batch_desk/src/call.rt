@@ -52,12 +52,7 @@ fn finish<K: Keeper + Drop>(
 }
 
 /// Enters a call that was left undone because of a keeper fault, and answers it. Want of memory has no entry.
-fn enter_failed(
-    entries: &mut Vec<Entry>,
-    moment: Moment,
-    event: Event,
-    error: KeepError,
-) -> Answer
+fn enter_failed(entries: &mut Vec<Entry>, moment: Moment, event: Event, error: KeepError) -> Answer
     requires { vec_len entries.old < vec_capacity entries.old }
     ensures { IsFailed error result moment event entries.old.items entries.new.items }
 {

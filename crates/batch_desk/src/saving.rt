@@ -15,11 +15,7 @@ use std::alloc::Global;
 
 /// Saves these changes, if there are any.
 #[tactic(auto, using(crate::proofs::Saved::told_after_none))]
-pub fn save<K: Keeper>(
-    alloc: Global,
-    keeper: &mut K,
-    changes: &[Change],
-) -> Result<(), KeepError>
+pub fn save<K: Keeper>(alloc: Global, keeper: &mut K, changes: &[Change]) -> Result<(), KeepError>
     requires { IfSome (K.told keeper.old) (λ s. IsWellFormed (apply_changes changes.now s)) }
     ensures ok { OnOk result (K.told keeper.new ≡ told_after changes.now (K.told keeper.old)) }
     ensures err { OnErr result (K.told keeper.new ≡ K.told keeper.old) }

@@ -1,6 +1,6 @@
-use Rattle.std.proofs.Common.{arith, rules, ◌≡◌, ◌++◌, ◌∷◌, [], subst, ◌<◌}
+use Rattle.std.proofs.Common.{arith, rules, subst}
 use Rattle.batch_desk.specs.Turns.{MakesDue}
-use Rattle.batch_desk.proofs.DueRuns.{dues_more, turn_falls, turns_left}
+use Rattle.batch_desk.proofs.DueRuns.{dues_more, turn_falls}
 use Rattle.batch_desk.proofs.pair.Pair.add_due_steps.Goals as goal
 
 pub loop-alloc-smaller : goal.loop-alloc-smaller
