@@ -1,0 +1,50 @@
+-- What a text is as a formula: its statements, which have types, or its first fault. The text is lexed whole, then read, then typed.
+use Rattle.std.specs.Prelude.{◌≡◌, ℕ, List, [], length, Option, Some, None, Result, Ok, Err}
+use Rattle.formula_lex.specs.declared.fault.LexFault.{LexFault}
+use Rattle.formula_lex.specs.declared.fault.LexFault.TheVariants as lexical
+use Rattle.formula_lex.specs.declared.token.Token.{Token}
+use Rattle.formula_lex.specs.Lexing.{lexed}
+use Rattle.formula_trees.specs.declared.fault.SyntaxFault.{SyntaxFault}
+use Rattle.formula_trees.specs.declared.fault.SyntaxFault.TheVariants as syntactic
+use Rattle.formula_trees.specs.Formula.{StatementTree}
+use Rattle.formula_trees.specs.TheFormula.{IsTheFormula, fault_in}
+use Rattle.formula_types.specs.declared.fault.TypeFault.{TypeFault}
+use Rattle.formula_types.specs.declared.fault.TypeFault.TheVariants as types
+use Rattle.formula_types.specs.declared.fault.FormulaFault.{FormulaFault}
+use Rattle.formula_types.specs.declared.fault.FormulaFault.TheVariants.{BadCharacter, OpenString, NumberTooLarge, UnexpectedToken, UnknownName, TypeMismatch, ReadOnly, WrongArguments, TooDeep}
+use Rattle.formula_types.specs.Scopes.{Variable}
+use Rattle.formula_types.specs.Typing.{typed}
+
+abbrev pub of_lexical : LexFault → FormulaFault
+of_lexical (lexical.BadCharacter p) = BadCharacter p
+of_lexical (lexical.OpenString p) = OpenString p
+of_lexical (lexical.NumberTooLarge p) = NumberTooLarge p
+
+abbrev pub of_syntax : SyntaxFault → FormulaFault
+of_syntax (syntactic.UnexpectedToken p) = UnexpectedToken p
+of_syntax (syntactic.TooDeep p) = TooDeep p
+
+abbrev pub of_type : TypeFault → FormulaFault
+of_type (types.UnknownName p) = UnknownName p
+of_type (types.TypeMismatch p) = TypeMismatch p
+of_type (types.ReadOnly p) = ReadOnly p
+of_type (types.WrongArguments p) = WrongArguments p
+
+-- the tokens of a text without lexical faults or faults of syntax, read as these statements
+pub record IsRead (text : List ℕ) (tokens : List Token) (ss : List StatementTree) : Type 0 where
+  pub lexes : lexed text ≡ Ok tokens
+  pub reads : fault_in tokens (length text) ≡ None
+  pub only : IsTheFormula tokens ss
+
+-- the text is the formula of these statements, and these variables are set behind it
+pub record IsFormula (text : List ℕ) (ss : List StatementTree) : Type 0 where
+  pub tokens : List Token
+  pub variables : List Variable
+  pub read : IsRead text tokens ss
+  pub types : typed text [] ss ≡ Ok variables
+
+-- the text is no formula, and this is its first fault
+pub data HasFault : List ℕ → FormulaFault → Type 0 where
+  in_tokens : {text : List ℕ} (f : LexFault) → lexed text ≡ Err f → HasFault text (of_lexical f)
+  in_syntax : {text : List ℕ} {tokens : List Token} (f : SyntaxFault) → lexed text ≡ Ok tokens → fault_in tokens (length text) ≡ Some f → HasFault text (of_syntax f)
+  in_types : {text : List ℕ} {tokens : List Token} {ss : List StatementTree} (f : TypeFault) → IsRead text tokens ss → typed text [] ss ≡ Err f → HasFault text (of_type f)

@@ -1,0 +1,6 @@
+pub mod Compiled
+pub mod Faults
+pub mod Nodes
+pub mod Scopes
+pub mod Typing
+pub mod View
