@@ -1,5 +1,5 @@
 -- The types of nodes with arguments.
-use Rattle.std.proofs.Common.{◌≡◌, ℕ, Bool, List, Result, sym, ap, ◌∙◌}
+use Rattle.std.proofs.Common.{◌≡◌, ℕ, List, sym, ap, ◌∙◌}
 use Rattle.std.specs.declared.alloc.Global.{Global}
 use Rattle.std.specs.declared.boxed.Box.{Box}
 use Rattle.std.specs.declared.vec.Vec.{Vec}

@@ -1,5 +1,7 @@
 -- What a text is as a formula: its statements, which have types, or its first fault. The text is lexed whole, then read, then typed.
-use Rattle.std.specs.Prelude.{◌≡◌, ℕ, List, [], length, Option, Some, None, Result, Ok, Err}
+use Rattle.std.specs.Prelude.{◌≡◌, ℕ, Bool, true, List, [], length, Some, None, Result, Ok, Err, is_ok}
+use Rattle.bt_base.specs.declared.fail.Fail.{Fail}
+use Rattle.bt_base.specs.declared.fail.Fail.TheVariants.{Memory, Why}
 use Rattle.formula_lex.specs.declared.fault.LexFault.{LexFault}
 use Rattle.formula_lex.specs.declared.fault.LexFault.TheVariants as lexical
 use Rattle.formula_lex.specs.declared.token.Token.{Token}
@@ -12,7 +14,6 @@ use Rattle.formula_types.specs.declared.fault.TypeFault.{TypeFault}
 use Rattle.formula_types.specs.declared.fault.TypeFault.TheVariants as types
 use Rattle.formula_types.specs.declared.fault.FormulaFault.{FormulaFault}
 use Rattle.formula_types.specs.declared.fault.FormulaFault.TheVariants.{BadCharacter, OpenString, NumberTooLarge, UnexpectedToken, UnknownName, TypeMismatch, ReadOnly, WrongArguments, TooDeep}
-use Rattle.formula_types.specs.Scopes.{Variable}
 use Rattle.formula_types.specs.Typing.{typed}
 
 abbrev pub of_lexical : LexFault → FormulaFault
@@ -36,15 +37,24 @@ pub record IsRead (text : List ℕ) (tokens : List Token) (ss : List StatementTr
   pub reads : fault_in tokens (length text) ≡ None
   pub only : IsTheFormula tokens ss
 
--- the text is the formula of these statements, and these variables are set behind it
+-- each expression of these statements has a type
+abbrev pub have_types : List ℕ → List StatementTree → Bool
+have_types text ss = is_ok (typed text [] ss)
+
+-- the text is the formula of these statements
 pub record IsFormula (text : List ℕ) (ss : List StatementTree) : Type 0 where
   pub tokens : List Token
-  pub variables : List Variable
   pub read : IsRead text tokens ss
-  pub types : typed text [] ss ≡ Ok variables
+  pub types : have_types text ss ≡ true
 
 -- the text is no formula, and this is its first fault
 pub data HasFault : List ℕ → FormulaFault → Type 0 where
   in_tokens : {text : List ℕ} (f : LexFault) → lexed text ≡ Err f → HasFault text (of_lexical f)
   in_syntax : {text : List ℕ} {tokens : List Token} (f : SyntaxFault) → lexed text ≡ Ok tokens → fault_in tokens (length text) ≡ Some f → HasFault text (of_syntax f)
   in_types : {text : List ℕ} {tokens : List Token} {ss : List StatementTree} (f : TypeFault) → IsRead text tokens ss → typed text [] ss ≡ Err f → HasFault text (of_type f)
+
+-- the answer is a value with this property, or the text's first fault, unless memory ran out
+abbrev pub OrFault : {X : Type 0} → List ℕ → (X → Type 0) → Result X (Fail FormulaFault) → Type 0
+OrFault text P (Ok x) = P x
+OrFault text P (Err Memory) = Unit {0}
+OrFault text P (Err (Why f)) = HasFault text f

@@ -3,7 +3,7 @@ use Rattle.std.specs.Prelude.{ℕ, List, [], ◌∷◌, ◌++◌, Option, Some, 
 use denote.Ref.{Bor}
 use Rattle.bt_base.specs.Fails.{◌>>=◌}
 use Rattle.formula_trees.specs.declared.tree.Expr.{Expr}
-use Rattle.formula_trees.specs.Tree.{Tree, Numeral, Quoted, Variable, Call, Vector, Member, Method, Unary, Binary, Ternary}
+use Rattle.formula_trees.specs.Tree.{Tree, Member, Method, Unary, Binary, Ternary}
 use Rattle.formula_trees.specs.View.{tree_of}
 use Rattle.formula_names.specs.declared.value_types.ExprType.{ExprType}
 use Rattle.formula_names.specs.Names.{member_named, method_named}

@@ -10,7 +10,7 @@ use Rattle.formula_names.specs.declared.names.Function.{Function}
 use Rattle.formula_names.specs.declared.names.Method.{Method as AMethod}
 use Rattle.formula_names.specs.declared.names.Member.{Member as AMember}
 use Rattle.formula_names.specs.declared.value_types.ValueType.{ValueType}
-use Rattle.formula_names.specs.declared.value_types.ValueType.TheVariants.{Double, DoubleVec, Text, Timestamp}
+use Rattle.formula_names.specs.declared.value_types.ValueType.TheVariants.{Double, DoubleVec, Text}
 use Rattle.formula_names.specs.declared.value_types.ExprType.{ExprType}
 use Rattle.formula_names.specs.declared.value_types.ExprType.TheVariants.{Value, Stop}
 use Rattle.formula_names.specs.Names.{metric_named, function_named, method_named, member_named, is_read_only}

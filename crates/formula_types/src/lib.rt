@@ -2,14 +2,16 @@
 //! fault is the first, `specs/Compiled.antt` what a whole text is.
 #![tactic(auto)]
 
+mod compiler;
 mod fault;
 mod formula;
 mod scope;
 mod statement;
 mod typing;
 
+pub use compiler::{compile, one_answer};
 pub use fault::{FormulaFault, TypeFault};
-pub use formula::{Formula, compile};
+pub use formula::Formula;
 pub use scope::part;
 
 #[cfg(test)]

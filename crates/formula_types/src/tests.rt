@@ -71,7 +71,11 @@ fn the_first_fault_counts(rt: HostRuntime) {
         ("x = -\"a\"", "TypeMismatch", 4),
         ("x = ![1]", "TypeMismatch", 4),
         ("x = [1] < [2]", "TypeMismatch", 8),
-        ("x = TimeInterval_Hour * TimeInterval_Hour", "TypeMismatch", 22),
+        (
+            "x = TimeInterval_Hour * TimeInterval_Hour",
+            "TypeMismatch",
+            22,
+        ),
         ("x = TimeInterval_Hour - time()", "TypeMismatch", 22),
         ("x = time().years", "UnknownName", 11),
         ("x = time().year()", "UnknownName", 11),

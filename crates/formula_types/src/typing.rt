@@ -15,9 +15,11 @@ use crate::fault::TypeFault;
 use crate::scope::{Variable, name_type, part};
 use bt_base::Fail;
 use formula_lex::Span;
-use formula_names::{ExprType, ValueType, are_doubles, binary_type, function_gives, function_named, function_takes};
-use formula_names::{is_timestamp, member_named, method_gives, method_named, method_takes, metric_named};
-use formula_names::{ternary_type, unary_type};
+use formula_names::{
+    ExprType, ValueType, are_doubles, binary_type, function_gives, function_named, function_takes,
+    is_timestamp, member_named, method_gives, method_named, method_takes, metric_named,
+    ternary_type, unary_type,
+};
 use formula_trees::Expr;
 use std::alloc::{AllocError, Global};
 
@@ -42,11 +44,7 @@ fn name_at(text: &[u8], variables: &[Variable], span: Span) -> Result<ExprType, 
 }
 
 /// The type of a function of arguments of these types.
-fn call_at(
-    text: &[u8],
-    span: Span,
-    arguments: &[ExprType],
-) -> Result<ExprType, Fail<TypeFault>>
+fn call_at(text: &[u8], span: Span, arguments: &[ExprType]) -> Result<ExprType, Fail<TypeFault>>
     ensures { Gives result (call_at span (function_named (part_of text.now span)) arguments.now) }
 {
     match function_named(part(text, span)) {

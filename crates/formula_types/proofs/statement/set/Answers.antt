@@ -1,4 +1,4 @@
-use Rattle.std.proofs.Common.{◌≡◌, Ok, sym, ap, ◌∙◌}
+use Rattle.std.proofs.Common.{Ok, sym, ap, ◌∙◌}
 use Rattle.formula_names.specs.declared.value_types.ExprType.TheVariants.{Value}
 use Rattle.formula_types.specs.Scopes.{part}
 use Rattle.formula_types.specs.Typing.{set_to}

@@ -1,4 +1,4 @@
-use Rattle.std.proofs.Common.{◌≡◌, ◌≤◌, ◌<◌, List, Some, Ok, Err, sym, ap, ◌∙◌, subst, arith, rules}
+use Rattle.std.proofs.Common.{◌≤◌, List, Some, Ok, Err, sym, ap, ◌∙◌, subst, arith}
 use Rattle.std.proofs.lemmas.Result.{err_from_is_err_and}
 use Rattle.std.proofs.lemmas.List.Elements.{All-pop}
 use Rattle.std.specs.declared.alloc.Global.{Global}
@@ -67,9 +67,10 @@ type_of-returns-in_err-found n c =
     subst (λ r. Gives r told) (sym (p.1 ∙ ap Err p.2)) fails
 
 pub type_of-up-preserved : goal.type_of-up-preserved
-type_of-up-preserved n c =
-    ( through_pop _ _ c.up.nodes.items c.pop.new.self.items c.in-Some.node c.up.found c.in_ok-found.found _ c.in-Some.ensures.items c.up.invariant.0 c.in_ok-found.ensures
-    , (All-pop (λ (e : Bor Expr). size-Expr e.now ≤ size-Expr c.args.expr.now) c.up.nodes.items c.pop.new.self.items (Some c.in-Some.node) c.in-Some.ensures.items c.up.invariant.1).0 )
+type_of-up-preserved n c = (
+  through_pop _ _ c.up.nodes.items c.pop.new.self.items c.in-Some.node c.up.found c.in_ok-found.found _ c.in-Some.ensures.items c.up.invariant.0 c.in_ok-found.ensures,
+  (All-pop (λ (e : Bor Expr). size-Expr e.now ≤ size-Expr c.args.expr.now) c.up.nodes.items c.pop.new.self.items (Some c.in-Some.node) c.in-Some.ensures.items c.up.invariant.1).0,
+)
 
 pub types_of-returns-in_err-found : goal.types_of-returns-in_err-found
 types_of-returns-in_err-found n c =
