@@ -1,5 +1,6 @@
 pub mod Calls
 pub mod Nodes
 pub mod OneAnswer
+pub mod Rules
 pub mod Steps
 pub mod Variables

@@ -1,6 +1,7 @@
 pub mod Compiled
 pub mod Faults
 pub mod Nodes
+pub mod Rules
 pub mod Scopes
 pub mod Typing
 pub mod View

@@ -13,6 +13,7 @@ pub use compiler::{compile, one_answer};
 pub use fault::{FormulaFault, TypeFault};
 pub use formula::Formula;
 pub use scope::part;
+pub use typing::types_by_rules;
 
 #[cfg(test)]
 mod tests;

@@ -1,5 +1,5 @@
 //! The types of expressions.
-ghost use Rattle.std.specs.Prelude.{◌≡◌, ◌<◌, ◌≤◌, ℕ, List, Some, None, Ok, MatchOption, IfOk, All};
+ghost use Rattle.std.specs.Prelude.{◌≡◌, ◌↔◌, ◌<◌, ◌≤◌, ℕ, List, Some, None, Ok, MatchOption, IfOk, All};
 ghost use Rattle.bt_base.specs.Fails.{Gives, GivesAs};
 ghost use Rattle.formula_trees.specs.declared.tree.Expr.{size-Expr};
 ghost use Rattle.formula_trees.specs.View.{tree_of, trees_of};
@@ -10,6 +10,8 @@ ghost use Rattle.formula_types.specs.Scopes.{part as part_of};
 ghost use Rattle.formula_types.specs.Typing.{type_of, types_of, or_mismatch, name_at, call_at, list_at, member_at, method_at, is_metric};
 ghost use Rattle.formula_types.specs.Nodes.{first_of, node_type, through};
 ghost use Rattle.formula_types.specs.View.{variables_of};
+ghost use Rattle.formula_types.specs.Rules.{HasType};
+ghost use Rattle.formula_trees.specs.Tree.{Tree};
 
 use crate::fault::TypeFault;
 use crate::scope::{Variable, name_type, part};
@@ -226,3 +228,8 @@ pub fn type_of(
     }
     Ok(found)
 }
+
+/// A type is found exactly where the rules give it.
+pub fn types_by_rules()
+    ensures { (text : List ℕ) (set : List scopes.Variable) (tree : Tree) (found : AType) → type_of text set tree ≡ Ok found ↔ HasType text set tree found }
+{}
