@@ -14,7 +14,7 @@ use bt_base::{Fail, Text};
 use formula_lex::{Token, lex};
 use formula_syntax::parse;
 use formula_trees::Statement;
-use std::alloc::Global;
+use std::alloc::{AllocError, Global};
 
 /// The tokens of a text.
 fn tokens(alloc: Global, text: &str) -> Result<Vec<Token>, Fail<FormulaFault>>
@@ -55,6 +55,13 @@ fn types(alloc: Global, text: &str, statements: &[Statement]) -> Result<(), Fail
     }
 }
 
+/// The text as one of its own.
+fn copied(alloc: Global, text: &str) -> Result<Text, AllocError>
+    ensures { IfOk result (λ copy. copy ≡ text.now) }
+{
+    Ok(Text::of_string(String::from_str(alloc, text)?))
+}
+
 /// The formula of a text that is read as these statements.
 fn formula(
     alloc: Global,
@@ -64,7 +71,7 @@ fn formula(
     ensures { (tokens : List AToken) → IsRead text.now tokens (statements_of statements.items) → OrFault text.now (λ formula. (formula.text ≡ text.now) × IsFormula text.now (statements_of formula.statements.items)) result }
 {
     types(alloc, text, &statements)?;
-    let text = Text::of_string(String::from_str(alloc, text)?);
+    let text = copied(alloc, text)?;
     Ok(Formula { text, statements })
 }
 

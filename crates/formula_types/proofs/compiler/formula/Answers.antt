@@ -7,7 +7,7 @@ pub invariant_of-result : goal.invariant_of-result
 invariant_of-result c =
     record {
       typed =
-          ap (λ text. have_types text (statements_of c.args.statements.items)) (c.of_string-text.ensures ∙ c.in_ok-from_str.ensures.ok)
+          ap (λ text. have_types text (statements_of c.args.statements.items)) c.in_ok-text.ensures
           ∙ ap (λ es. have_types c.args.text.now (statements_of es)) (sym c.deref.ensures.value)
           ∙ c.in_ok-types.ensures.typed;
     }
