@@ -1,7 +1,11 @@
 //! What scripts write, and with which status. Expected texts are written by hand.
+ghost use Rattle.std.specs.Prelude.{IfSome};
+ghost use Rattle.batch_model.specs.WellFormed.{IsWellFormed};
+
 use crate::run::run_words;
 use crate::status::Status;
-use batch_keeper::MemoryKeeper;
+use batch_keeper::{Keeper, MemoryKeeper};
+use batch_wire::write_tables;
 use bt_base::{MemorySink, MemorySource, Word};
 use bt_rows::tables::Tables;
 use std::alloc::{AllocError, Global};
@@ -171,6 +175,92 @@ fn a_fault_of_any_call_ends_with_its_status(rt: HostRuntime) -> Result<(), Fail>
     }
     let (status, _output, _keeper) = run_over(alloc, run, keeper(alloc, &[ENDED_CALLS + 1])?)?;
     assert_eq!(rt; status, Status::Done);
+    Ok(())
+}
+
+/// The tables that the keeper keeps. A load that is to fail is made once more.
+fn kept(alloc: Global, keeper: &mut MemoryKeeper) -> Option<Tables>
+    ensures { IfSome result (λ tables. IsWellFormed tables.state) }
+{
+    match keeper.load(alloc) {
+        Ok(tables) => Some(tables),
+        Err(_) => keeper.load(alloc).ok(),
+    }
+}
+
+/// A keeper of the same tables, of which the call of this number fails.
+fn with_fault(
+    alloc: Global,
+    keeper: &mut MemoryKeeper,
+    call: u64,
+) -> Result<Option<MemoryKeeper>, AllocError> {
+    match kept(alloc, keeper) {
+        Some(tables) => {
+            let fails = Vec::from_slice(alloc, &[call])?;
+            Ok(Some(MemoryKeeper::new(tables, fails)))
+        }
+        None => Ok(None),
+    }
+}
+
+/// Whether the output ends with the tables that the keeper keeps.
+fn shows_kept(alloc: Global, output: &[u8], keeper: &mut MemoryKeeper) -> bool {
+    let Some(tables) = kept(alloc, keeper) else {
+        return false;
+    };
+    match write_tables(alloc, &tables) {
+        Ok(text) => output.ends_with(text.as_str().as_bytes()),
+        Err(_) => false,
+    }
+}
+
+#[test]
+fn the_keeper_has_the_tables_that_are_shown_after_each_line(rt: HostRuntime) -> Result<(), Fail> {
+    let alloc = rt.alloc();
+    let lines = [
+        POOL,
+        "0 add-job {\"id\":\"j\",\"poolInfo\":{\"poolId\":\"p\"}}\n",
+        "0 add-task j {\"id\":\"t\",\"commandLine\":\"echo hi\"}\n",
+        "5 take 1\n",
+        "9 end 1 0\n",
+    ];
+    let mut script = String::new(alloc);
+    for line in lines {
+        script.push_str(line)?;
+        for call in 2..=ENDED_CALLS + 1 {
+            let run = sure(&["replay"], script.as_str());
+            let (_status, output, mut keeper) = run_over(alloc, run, keeper(alloc, &[call])?)?;
+            assert!(rt;
+                shows_kept(alloc, output.as_slice(), &mut keeper),
+                "{script}{call}"
+            );
+        }
+    }
+    Ok(())
+}
+
+#[test]
+fn the_keeper_has_the_tables_that_are_shown_after_an_opening(rt: HostRuntime) -> Result<(), Fail> {
+    let alloc = rt.alloc();
+    for script in ["20 tick\n", "20 tick\n21 end 1 0\n"] {
+        for call in 3..=9 {
+            let (_status, _output, mut left) = run_over(
+                alloc,
+                sure(&["replay"], TAKEN),
+                keeper(alloc, &[])?,
+            )?;
+            let faulty = with_fault(alloc, &mut left, call)?;
+            assert!(rt; faulty.is_some());
+            if let Some(faulty) = faulty {
+                let run = sure(&["replay"], script);
+                let (_status, output, mut keeper) = run_over(alloc, run, faulty)?;
+                assert!(rt;
+                    shows_kept(alloc, output.as_slice(), &mut keeper),
+                    "{script}{call}"
+                );
+            }
+        }
+    }
     Ok(())
 }
 
