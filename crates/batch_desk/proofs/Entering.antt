@@ -17,7 +17,7 @@ use Rattle.batch_desk.specs.declared.answer.Answer.{Answer}
 use Rattle.batch_desk.specs.declared.answer.Answer.TheVariants.{Done, KeeperFault as Undone, JournalFull, Memory as OutOfMemory}
 use Rattle.batch_desk.specs.Kept.{Desk, Pair, Tells}
 use Rattle.batch_desk.specs.Calls.{Finishes, Makes, IsFailed, IsFull, IsCalled, IsCalledWithin}
-use Rattle.batch_desk.specs.History.{IsCall, IsLegal, after_call, after_all, faults_of, fault_count, fault_entry, done_entry, due_state, due_list, StopsSo, refusal_of}
+use Rattle.batch_desk.specs.History.{IsAskable, IsCall, IsLegal, after_call, after_all, faults_of, fault_count, fault_entry, done_entry, due_state, due_list, StopsSo, refusal_of}
 use Rattle.batch_desk.specs.Answers.{Answers, IsInOrder, HasSameOpening, answer_of}
 
 -- a desk without its journal
@@ -56,6 +56,7 @@ entered {K} {told} {faults} old new e ordered room same pushed call made kept co
     let at : old.state ≡ after_all old.seats old.opened old.entries = ordered.state in
     let after : new.state ≡ after_all old.seats old.opened (old.entries ++ e ∷ []) = made ∙ ap (λ s. after_call old.seats s e) at ∙ sym (after_push old.seats old.opened old.entries e) in
     record {
+      begun = rw (same.seats, same.opened) ordered.begun;
       legal = rw (same.seats, same.opened, pushed) (legal_push old.seats old.opened old.entries e ordered.legal (subst (λ s. IsCall old.seats s e) at call));
       state = rw (same.seats, same.opened, pushed) after;
       kept = kept;
@@ -67,6 +68,7 @@ entered {K} {told} {faults} old new e ordered room same pushed call made kept co
 -- a desk that a call left is in order
 left : {K : Type 0} {told : K → Option State} {faults : K → ℕ} (old new : Desk K) → IsInOrder told faults old → HasSameOpening old new → new.state ≡ old.state → new.entries ≡ old.entries → Tells (told new.keeper) new.state → faults old.keeper ≤ faults new.keeper → IsInOrder told faults new
 left {K} {told} {faults} old new ordered same state entries kept later = record {
+  begun = rw (same.seats, same.opened) ordered.begun;
   legal = rw (same.seats, same.opened, entries) ordered.legal;
   state = rw (same.seats, same.opened, entries) (state ∙ ordered.state);
   kept = kept;
@@ -76,20 +78,23 @@ left {K} {told} {faults} old new ordered same state entries kept later = record 
 }
 
 -- a call that a keeper fault left undone
-fault_is_call : (seats : ℕ) (s : State) (moment : ℕ) (event : EventKind) → IsCall seats s (fault_entry moment event)
-fault_is_call seats s moment event = (refl, refl)
+fault_is_call : (seats : ℕ) (s : State) (moment : ℕ) (event : EventKind) → IsAskable moment event → IsCall seats s (fault_entry moment event)
+fault_is_call seats s moment event asked = (asked, (refl, refl))
 
 counted_fault : (before now moment : ℕ) (event : EventKind) → Rose before now → Counted before now (fault_entry moment event)
 counted_fault before now moment event rose = rose
 
 -- a call that was made
-done_is_call : (seats : ℕ) (s made : State) (moment : ℕ) (event : EventKind) (reply : Reply) (dues : List Due) (stop : Stop) → event_step moment event s ≡ record { reply = reply; state = made } → dues ≡ due_list seats (length dues) made → StopsSo seats stop (due_state seats (length dues) made) → IsCall seats s (done_entry moment event reply (length dues) stop)
-done_is_call seats s made moment event reply dues stop e d h = (
-  ap (λ (p : Answered). refusal_of p.reply) (sym e),
-  record {
-    each = ap (λ (p : Answered). length (due_list seats (length dues) p.state)) e ∙ ap length (sym d);
-    stops = subst (λ (p : Answered). StopsSo seats stop (due_state seats (length dues) p.state)) (sym e) h;
-  },
+done_is_call : (seats : ℕ) (s made : State) (moment : ℕ) (event : EventKind) (reply : Reply) (dues : List Due) (stop : Stop) → IsAskable moment event → event_step moment event s ≡ record { reply = reply; state = made } → dues ≡ due_list seats (length dues) made → StopsSo seats stop (due_state seats (length dues) made) → IsCall seats s (done_entry moment event reply (length dues) stop)
+done_is_call seats s made moment event reply dues stop asked e d h = (
+  asked,
+  (
+    ap (λ (p : Answered). refusal_of p.reply) (sym e),
+    record {
+      each = ap (λ (p : Answered). length (due_list seats (length dues) p.state)) e ∙ ap length (sym d);
+      stops = subst (λ (p : Answered). StopsSo seats stop (due_state seats (length dues) p.state)) (sym e) h;
+    },
+  ),
 )
 
 done_shown : (seats : ℕ) (s made : State) (moment : ℕ) (event : EventKind) (reply : Reply) (dues : List Due) (stop : Stop) → event_step moment event s ≡ record { reply = reply; state = made } → dues ≡ due_list seats (length dues) made → Done reply dues stop ≡ answer_of seats s (done_entry moment event reply (length dues) stop)
@@ -105,14 +110,14 @@ counted_done before now moment event reply dues KeeperFault later rose = rose re
 counted_done before now moment event reply dues Memory later rose = omega arith
 
 -- what a call leaves is in order
-pub in_order_after : {K : Type 0} (told : K → Option State) (faults : K → ℕ) (old new : Desk K) (moment : ℕ) (event : EventKind) (answer : Answer) → IsInOrder told faults old → length old.entries < old.limit → HasSameOpening old new → Tells (told new.keeper) new.state → faults old.keeper ≤ faults new.keeper → IsCalled faults (pair_of old) (pair_of new) old.entries new.entries moment event answer → IsInOrder told faults new
-in_order_after told faults old new moment event JournalFull ordered room same kept later called = absurd called
-in_order_after told faults old new moment event OutOfMemory ordered room same kept later called = left old new ordered same called.state called.entries kept later
-in_order_after told faults old new moment event Undone ordered room same kept later called =
-    entered old new (fault_entry moment event) ordered room same called.entries (fault_is_call old.seats old.state moment event) called.state kept (counted_fault (faults old.keeper) (faults new.keeper) moment event called.rose)
-in_order_after told faults old new moment event (Done reply dues stop) ordered room same kept later called =
+pub in_order_after : {K : Type 0} (told : K → Option State) (faults : K → ℕ) (old new : Desk K) (moment : ℕ) (event : EventKind) (answer : Answer) → IsAskable moment event → IsInOrder told faults old → length old.entries < old.limit → HasSameOpening old new → Tells (told new.keeper) new.state → faults old.keeper ≤ faults new.keeper → IsCalled faults (pair_of old) (pair_of new) old.entries new.entries moment event answer → IsInOrder told faults new
+in_order_after told faults old new moment event JournalFull asked ordered room same kept later called = absurd called
+in_order_after told faults old new moment event OutOfMemory asked ordered room same kept later called = left old new ordered same called.state called.entries kept later
+in_order_after told faults old new moment event Undone asked ordered room same kept later called =
+    entered old new (fault_entry moment event) ordered room same called.entries (fault_is_call old.seats old.state moment event asked) called.state kept (counted_fault (faults old.keeper) (faults new.keeper) moment event called.rose)
+in_order_after told faults old new moment event (Done reply dues stop) asked ordered room same kept later called =
     entered old new (done_entry moment event reply (length dues) stop) ordered room same called.entries
-    (done_is_call old.seats old.state called.made moment event reply dues stop called.step called.list (subst (StopsSo old.seats stop) called.state called.stops))
+    (done_is_call old.seats old.state called.made moment event reply dues stop asked called.step called.list (subst (StopsSo old.seats stop) called.state called.stops))
     (done_after old.seats old.state called.made new.state moment event reply (length dues) stop called.step called.state)
     kept (counted_done (faults old.keeper) (faults new.keeper) moment event reply (length dues) stop later called.fault)
 
@@ -168,15 +173,15 @@ full_same : {K : Type 0} (old : Desk K) (new : Pair K) (now : List Entry) → Is
 full_same {K} old new now full = ap (λ (p : Pair K). desk_of p now old) full.pair ∙ ap (λ (es : List Entry). desk_of (pair_of old) es old) full.entries
 
 -- what a call leaves of a desk is in order
-pub in_order_within : {K : Type 0} (told : K → Option State) (faults : K → ℕ) (old : Desk K) (new : Pair K) (now : List Entry) (moment : ℕ) (event : EventKind) (answer : Answer) → IsInOrder told faults old → new.seats ≡ old.seats → Tells (told new.keeper) new.state → faults old.keeper ≤ faults new.keeper → IsCalledWithin faults old.limit (pair_of old) new old.entries now moment event answer → IsInOrder told faults (desk_of new now old)
-in_order_within told faults old new now moment event JournalFull ordered seats kept later called =
+pub in_order_within : {K : Type 0} (told : K → Option State) (faults : K → ℕ) (old : Desk K) (new : Pair K) (now : List Entry) (moment : ℕ) (event : EventKind) (answer : Answer) → IsAskable moment event → IsInOrder told faults old → new.seats ≡ old.seats → Tells (told new.keeper) new.state → faults old.keeper ≤ faults new.keeper → IsCalledWithin faults old.limit (pair_of old) new old.entries now moment event answer → IsInOrder told faults (desk_of new now old)
+in_order_within told faults old new now moment event JournalFull asked ordered seats kept later called =
     subst (IsInOrder told faults) (sym (full_same old new now called)) ordered
-in_order_within told faults old new now moment event OutOfMemory ordered seats kept later called =
-    in_order_after told faults old (desk_of new now old) moment event OutOfMemory ordered called.0 (same_opening old new now seats) kept later called.1
-in_order_within told faults old new now moment event Undone ordered seats kept later called =
-    in_order_after told faults old (desk_of new now old) moment event Undone ordered called.0 (same_opening old new now seats) kept later called.1
-in_order_within told faults old new now moment event (Done reply dues stop) ordered seats kept later called =
-    in_order_after told faults old (desk_of new now old) moment event (Done reply dues stop) ordered called.0 (same_opening old new now seats) kept later called.1
+in_order_within told faults old new now moment event OutOfMemory asked ordered seats kept later called =
+    in_order_after told faults old (desk_of new now old) moment event OutOfMemory asked ordered called.0 (same_opening old new now seats) kept later called.1
+in_order_within told faults old new now moment event Undone asked ordered seats kept later called =
+    in_order_after told faults old (desk_of new now old) moment event Undone asked ordered called.0 (same_opening old new now seats) kept later called.1
+in_order_within told faults old new now moment event (Done reply dues stop) asked ordered seats kept later called =
+    in_order_after told faults old (desk_of new now old) moment event (Done reply dues stop) asked ordered called.0 (same_opening old new now seats) kept later called.1
 
 -- and the desk answered so
 pub answers_within : {K : Type 0} (faults : K → ℕ) (old : Desk K) (new : Pair K) (now : List Entry) (moment : ℕ) (event : EventKind) (answer : Answer) → IsCalledWithin faults old.limit (pair_of old) new old.entries now moment event answer → Answers faults old (desk_of new now old) moment event answer

@@ -2,6 +2,7 @@
 use Rattle.std.specs.Prelude.{◌≡◌, ◌≤◌, ◌<◌, ◌^◌, ℕ, [], ◌∷◌, ◌++◌, length, Option}
 use Rattle.bt_base.specs.Causes.{Rose}
 use Rattle.bt_rows.specs.declared.event.EventKind.{EventKind}
+use Rattle.batch_model.specs.Sound.{IsSound}
 use Rattle.batch_model.specs.Variants.{State}
 use Rattle.batch_desk.specs.declared.entry.Entry.{Entry}
 use Rattle.batch_desk.specs.declared.entry.Mark.{Mark}
@@ -41,8 +42,10 @@ Answers faults old new moment event (Done reply dues stop) =
     Enters old new (done_entry moment event reply (length dues) stop) (Done reply dues stop)
     × (stop ≡ FaultStop → Rose (faults old.keeper) (faults new.keeper))
 
--- what every desk is: its journal is a legal history, its tables are those after it, and its keeper tells them
+-- what every desk is: its journal is a legal history from sound tables, its tables are those after it, and its keeper
+-- tells them
 pub record IsInOrder {K : Type 0} (told : K → Option State) (faults : K → ℕ) (d : Desk K) : Type 0 where
+  pub begun : IsSound d.seats d.opened
   pub legal : IsLegal d.seats d.opened d.entries
   pub state : d.state ≡ after_all d.seats d.opened d.entries
   pub kept : Tells (told d.keeper) d.state

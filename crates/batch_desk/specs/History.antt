@@ -1,7 +1,9 @@
 -- One call, and legal histories of calls. Such a history determines the tables after each of its calls and all that the
 -- calls were answered.
-use Rattle.std.specs.Prelude.{◌≡◌, ℕ, zero, suc, ◌+◌, List, [], ◌∷◌, Option, Some, None, IsSome, length}
+use Rattle.std.specs.Prelude.{◌≡◌, ◌≤◌, ℕ, true, zero, suc, ◌+◌, List, [], ◌∷◌, Option, Some, None, IsSome, length}
 use Rattle.std.specs.Option.{option_map_or}
+use Rattle.bt_base.specs.Moments.{last_moment}
+use Rattle.bt_rows.specs.Ranges.{is_event_in_range}
 use Rattle.bt_rows.specs.declared.event.EventKind.{EventKind}
 use Rattle.bt_rows.specs.declared.due.Due.{Due}
 use Rattle.bt_rows.specs.declared.refusal.Refusal.{Refusal}
@@ -63,9 +65,14 @@ after_call seats s e = by_mark e.mark
     by_mark NotKept = s
     by_mark (Done refusal) = due_state seats e.dues (after_event s e)
 
+-- the moment is one up to the year 9999, and the event's values are in their ranges
+pub record IsAskable (moment : ℕ) (event : EventKind) : Type 0 where
+  pub last : moment ≤ last_moment
+  pub ranges : is_event_in_range event ≡ true
+
 -- the entry is a call from these tables
 abbrev pub IsCall : ℕ → State → Entry → Type 0
-IsCall seats s e = by_mark e.mark
+IsCall seats s e = IsAskable e.moment e.event × by_mark e.mark
   where
     by_mark : Mark → Type 0
     by_mark NotKept = (e.dues ≡ 0) × (e.stop ≡ FaultStop)

@@ -1,7 +1,7 @@
 //! A call, made and entered.
 ghost use Rattle.std.specs.Prelude.{◌≡◌, ◌≤◌, ◌<◌, vec_len, vec_capacity};
 ghost use Rattle.batch_desk.specs.Kept.{Tells};
-ghost use Rattle.batch_desk.specs.History.{refusal_of};
+ghost use Rattle.batch_desk.specs.History.{IsAskable, refusal_of};
 ghost use Rattle.batch_desk.specs.Calls.{Finishes, IsFailed, IsCalled, IsCalledWithin};
 
 use crate::answer::Answer;
@@ -14,6 +14,14 @@ use bt_rows::event::Event;
 use bt_rows::refusal::Refusal;
 use bt_rows::reply::Reply;
 use std::alloc::Global;
+
+/// The moment and the event's values are in their ranges, as their types say. It does nothing.
+pub fn know_ranges(moment: Moment, event: &Event)
+    ensures { IsAskable moment event.now }
+{
+    let _ = moment.ms();
+    let _ = event.kind();
+}
 
 /// The refusal that the reply is, if it is one.
 fn refusal_of(reply: &Reply) -> Option<Refusal>

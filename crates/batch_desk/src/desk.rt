@@ -10,7 +10,7 @@ ghost use Rattle.batch_desk.specs.History.{IsLegal, after_all, fault_count, faul
 ghost use Rattle.batch_desk.specs.Answers.{Answers, IsInOrder, HasSameOpening, Begins};
 
 use crate::answer::Answer;
-use crate::call::call_within;
+use crate::call::{call_within, know_ranges};
 use crate::entry::{Entry, Stop};
 use crate::journal::Journal;
 use crate::pair::Pair;
@@ -88,6 +88,7 @@ fn save_opening<K: Keeper>(
 ) -> Result<Tables, KeepError>
     requires { IfSome (K.told keeper.old) (λ s. apply_changes changes.now s ≡ machine.now.state) }
     ensures opened { IfOk result (λ opened. opened.state ≡ machine.now.state) }
+    ensures sound { IfOk result (λ opened. IsSound machine.now.seats opened.state) }
     ensures kept { OnOk result (Tells (K.told keeper.new) machine.now.state) }
     ensures untouched { OnErr result (K.told keeper.new ≡ K.told keeper.old) }
     ensures cause { FailsWithCause (K.faults keeper.old) (K.faults keeper.new) result }
@@ -123,6 +124,7 @@ fn open_machine<K: Keeper>(
     requires few { seats ≤ 32 }
     ensures machine { IfOk result (λ t. (t.0.state ≡ t.1.state) × (t.0.seats ≡ seats) × (t.0.reserved ≡ None)) }
     ensures opened { IfOk result (λ t. IfSome (K.told keeper.old) (λ s. t.1.state ≡ opening s)) }
+    ensures sound { IfOk result (λ t. IsSound seats t.1.state) }
     ensures kept { IfOk result (λ t. Tells (K.told keeper.new) t.1.state) }
     ensures untouched { OnErr result (K.told keeper.new ≡ K.told keeper.old) }
     ensures cause { FailsWithCause (K.faults keeper.old) (K.faults keeper.new) result }
@@ -218,6 +220,7 @@ impl<K: Keeper + Drop> Desk<K> {
         ensures in_order { IsInOrder K.told K.faults self.new }
         ensures later { K.faults self.old.keeper ≤ K.faults self.new.keeper }
     {
+        know_ranges(moment, &event);
         call_within(
             alloc,
             self.limit,
