@@ -1,15 +1,16 @@
 -- The due rules that are built, in the order in which they are tried. Each takes its first row in list order.
-use Rattle.std.specs.Prelude.{ℕ, ◌+◌, Bool, not, ◌&&◌, ◌||◌, nat_eq, nat_lt, nat_le, [], ◌∷◌, find, Option, Some, is_none, if◌then◌else◌}
+use Rattle.std.specs.Prelude.{ℕ, ◌+◌, Bool, not, ◌&&◌, ◌||◌, nat_eq, nat_lt, nat_le, [], ◌∷◌, find, Option, Some, None, if◌then◌else◌}
 use Rattle.std.specs.Option.{option_map, option_and_then}
 use Rattle.bt_rows.specs.declared.due.Due.TheVariants.{PoolResized, NodeAdded}
 use Rattle.bt_rows.specs.declared.due.ResizeEnd.TheVariants.{Reached, TimedOut}
 use Rattle.batch_model.specs.Finding.{first_of, only_if, has_number_left}
-use Rattle.batch_model.specs.Rows.{put_pool, add_node_row}
-use Rattle.batch_model.specs.Pools.{is_resizing, has_leaving, staying_count, free_seat}
+use Rattle.batch_model.specs.Rows.{put_pool, add_node_row, add_run_row}
+use Rattle.batch_model.specs.Runs.{start_run}
+use Rattle.batch_model.specs.Pools.{is_resizing, has_leaving, staying_count, free_seat, waits_for_start}
 use Rattle.batch_model.specs.Settling.{is_to_settle, settle}
 use Rattle.batch_model.specs.Placing.{place_first}
 use Rattle.batch_model.specs.Steps.{DueStep}
-use Rattle.batch_model.specs.Variants.{State, PoolRow, Steady, AllocationTimedOut, NodeRow, Usable}
+use Rattle.batch_model.specs.Variants.{State, PoolRow, StartTask, Steady, AllocationTimedOut, NodeRow, NodeStage, Starting, Usable}
 
 -- U5: a placed task whose present attempt has no unended run is settled
 abbrev pub settle_first : State → Option DueStep
@@ -54,19 +55,32 @@ resize_ended s pool = if has_reached s pool then pool_steady s pool else pool_ti
 abbrev pub end_resize : State → Option DueStep
 end_resize s = option_map (resize_ended s) (find (ends_resize s) s.pools)
 
--- U15: a resizing pool with fewer nodes than its target gets one on the lowest free seat; pools without a start task, so far
+-- U15: a resizing pool with fewer nodes than its target gets one on the lowest free seat, which begins its start task
 
--- not deleted, resizing, without a start task, with fewer staying nodes than its target
+-- not deleted, resizing, with fewer staying nodes than its target
 abbrev pub lacks_node : State → PoolRow → Bool
-lacks_node s pool = not pool.deleting && is_resizing pool.alloc && is_none pool.start && nat_lt (staying_count s pool.id) pool.dedicated
+lacks_node s pool = not pool.deleting && is_resizing pool.alloc && nat_lt (staying_count s pool.id) pool.dedicated
 
--- a usable node of the pool on a seat, with the next number
+-- a node is starting where the start task is waited for, and else usable at once
+abbrev pub first_stage : PoolRow → NodeStage
+first_stage pool = if waits_for_start pool then Starting else Usable
+
+-- a node of the pool on a seat, with the next number
 abbrev pub new_node : State → PoolRow → ℕ → NodeRow
-new_node s in_pool on_seat = record { number = s.next_node; pool = in_pool.id; seat = on_seat; stage = Usable; tries = 0 }
+new_node s in_pool on_seat = record { number = s.next_node; pool = in_pool.id; seat = on_seat; stage = first_stage in_pool; tries = 0 }
+
+-- with a start task a start run is queued on the node
+abbrev pub begin_start : Option StartTask → NodeRow → State → State
+begin_start None node s = s
+begin_start (Some start) node s = add_run_row (start_run s node start) s
+
+-- the tables with the node, whose start task is begun
+abbrev pub with_node : PoolRow → NodeRow → State → State
+with_node pool node s = begin_start pool.start node (add_node_row node s)
 
 -- the line names the pool, the node and its seat
 abbrev pub node_added : State → ℕ → PoolRow → DueStep
-node_added s seat pool = record { due = NodeAdded pool.id s.next_node seat; state = add_node_row (new_node s pool seat) s }
+node_added s seat pool = record { due = NodeAdded pool.id s.next_node seat; state = with_node pool (new_node s pool seat) s }
 
 -- the first such pool gets a node on the seat
 abbrev pub add_on : State → ℕ → Option DueStep
@@ -76,8 +90,12 @@ add_on s seat = option_map (node_added s seat) (find (lacks_node s) s.pools)
 abbrev pub add_node : ℕ → State → Option DueStep
 add_node seats s = only_if (has_number_left s.next_run && has_number_left s.next_node) (option_and_then (add_on s) (free_seat seats s))
 
+-- the rules of nodes: one that leaves is not dropped yet (U14), and one is added (U15)
+abbrev pub node_step : ℕ → State → Option DueStep
+node_step seats s = add_node seats s
+
 -- U16: the first task in the order of placing that fits is placed
 
 -- the first rule that applies; none is rest
 abbrev pub due_step : ℕ → State → Option DueStep
-due_step seats s = first_of (settle_first s ∷ end_resize s ∷ add_node seats s ∷ place_first s ∷ [])
+due_step seats s = first_of (settle_first s ∷ end_resize s ∷ node_step seats s ∷ place_first s ∷ [])

@@ -1,5 +1,5 @@
 -- Events: their refusals in order, their statuses and what they do. What is not built is refused as unreadable.
-use Rattle.std.specs.Prelude.{ℕ, Bool, true, false, not, ◌&&◌, nat_le, max, List, [], ◌∷◌, length, Option, Some, None, is_some, unwrap_or}
+use Rattle.std.specs.Prelude.{ℕ, Bool, true, false, not, ◌&&◌, nat_lt, nat_le, max, List, [], ◌∷◌, length, Option, Some, None, is_some, unwrap_or}
 use Rattle.std.specs.Option.{option_map_or}
 use Rattle.bt_rows.specs.declared.event.EventKind.{EventKind}
 use Rattle.bt_rows.specs.declared.event.EventKind.TheVariants.{AddPool, DeletePool, Resize, StopResize, EnableAutoscale, DisableAutoscale, EvaluateAutoscale, AddJob, PatchJob, DisableJob, EnableJob, TerminateJob, DeleteJob, AddTask, AddTasks, DeleteTask, TerminateTask, ReactivateTask, Take, End, Sample, Tick}
@@ -8,18 +8,21 @@ use Rattle.bt_rows.specs.declared.event.JobSpec.{JobSpec}
 use Rattle.bt_rows.specs.declared.event.TaskSpec.{TaskSpec}
 use Rattle.bt_rows.specs.declared.refusal.Table.TheVariants.{Pools, Jobs, Tasks}
 use Rattle.bt_rows.specs.declared.refusal.Refusal.{Refusal}
-use Rattle.bt_rows.specs.declared.refusal.Refusal.TheVariants.{UnreadableBody, PoolNotFound, PoolExists, PoolBeingDeleted, JobNotFound, JobExists, JobStateRefuses, TaskExists, DependencyListTooLong, RunNotFound, RunAlreadyEnded, RunAlreadyTaken, RunNotTaken, RunWithdrawn, RunWaiting, TableFull}
-use Rattle.bt_rows.specs.declared.reply.Reply.TheVariants.{Status, Refused}
+use Rattle.bt_rows.specs.declared.refusal.Refusal.TheVariants.{UnreadableBody, PoolNotFound, PoolExists, PoolBeingDeleted, JobNotFound, JobExists, JobStateRefuses, TaskExists, DependencyListTooLong, CollectionTooLong, RunNotFound, RunAlreadyEnded, RunAlreadyTaken, RunNotTaken, RunWithdrawn, RunWaiting, TableFull}
+use Rattle.bt_rows.specs.declared.reply.Element.{Element}
+use Rattle.bt_rows.specs.declared.reply.Element.TheVariants.{Added, NotAdded}
+use Rattle.bt_rows.specs.declared.reply.Reply.TheVariants.{Status, Refused, Elements}
 use Rattle.batch_model.specs.Finding.{first_of, names}
 use Rattle.batch_model.specs.Rows.{is_run, pool_of, job_of, task_of, run_of, add_pool_row, add_job_row, add_task_row, change_tasks, change_runs}
 use Rattle.batch_model.specs.Runs.{is_waiting, is_taken, is_ended, is_withdrawn}
 use Rattle.batch_model.specs.Tasks.{new_task}
 use Rattle.batch_model.specs.Jobs.{is_past, new_job}
 use Rattle.batch_model.specs.Pools.{new_pool}
-use Rattle.batch_model.specs.Limits.{pool_limit, job_limit, task_limit, needs_limit}
+use Rattle.batch_model.specs.Starts.{start_ended}
+use Rattle.batch_model.specs.Limits.{pool_limit, job_limit, task_limit, collection_limit, needs_limit}
 use Rattle.batch_model.specs.WellFormed.{needs_length}
 use Rattle.batch_model.specs.Steps.{Answered, refuse_if}
-use Rattle.batch_model.specs.Variants.{State, PoolRow, JobRow, TaskRow, Ending, RunRow, Taken, Ended}
+use Rattle.batch_model.specs.Variants.{State, PoolRow, JobRow, TaskRow, Ending, RunRow, RunKind, StartRun, PrepRun, TaskRun, CoordinationRun, ReleaseRun, Taken, Ended}
 
 -- answers
 
@@ -67,14 +70,58 @@ add_job s id spec = for_new (is_some (job_of s id))
 abbrev pub has_long_needs : TaskSpec → Bool
 has_long_needs spec = not (nat_le (needs_length spec.needs) needs_limit)
 
--- `add-task`: a new task has the id of its job as the job spells it
-abbrev pub add_task : State → TaskSpec → JobRow → Answered
-add_task s spec job = answer s
-    (refuse_if (is_past job.state) (JobStateRefuses job.state)
-    ∷ refuse_if (is_some (task_of s job.id spec.id)) TaskExists
+-- why a job that is not past does not take the task, in order
+abbrev pub task_refusals : State → JobRow → TaskSpec → List (Option Refusal)
+task_refusals s job spec =
+    refuse_if (is_some (task_of s job.id spec.id)) TaskExists
     ∷ refuse_if (has_long_needs spec) DependencyListTooLong
     ∷ refuse_if (nat_le task_limit (length s.tasks)) (TableFull Tasks task_limit)
-    ∷ []) 201 (add_task_row (new_task job.id spec) s)
+    ∷ []
+
+-- a new task has the id of its job as the job spells it
+abbrev pub task_added : State → JobRow → TaskSpec → State
+task_added s job spec = add_task_row (new_task job.id spec) s
+
+-- `add-task`
+abbrev pub add_task : State → TaskSpec → JobRow → Answered
+add_task s spec job = answer s (refuse_if (is_past job.state) (JobStateRefuses job.state) ∷ task_refusals s job spec) 201 (task_added s job spec)
+
+-- the answers to the elements of a collection, and the tables after them
+pub record AddedAll : Type 0 where
+  pub elements : List Element
+  pub state : State
+
+-- the answer to one element
+abbrev pub element_of : TaskSpec → Option Refusal → Element
+element_of spec None = Added spec.id
+element_of spec (Some refusal) = NotAdded spec.id refusal
+
+-- the tables after one element; a refused one leaves them
+abbrev pub after_element : State → JobRow → TaskSpec → Option Refusal → State
+after_element s job spec None = task_added s job spec
+after_element s job spec (Some refusal) = s
+
+-- the elements after the first
+abbrev pub with_element : Element → AddedAll → AddedAll
+with_element first others = record { elements = first ∷ others.elements; state = others.state }
+
+-- each element in order, as if it came alone
+abbrev pub add_each : State → JobRow → List TaskSpec → AddedAll
+add_each s job [] = record { elements = []; state = s }
+add_each s job (spec ∷ specs) =
+    with_element (element_of spec (first_of (task_refusals s job spec)))
+    (add_each (after_element s job spec (first_of (task_refusals s job spec))) job specs)
+
+-- the answer to a collection
+abbrev pub accept_all : AddedAll → Answered
+accept_all added = record { reply = Elements added.elements; state = added.state }
+
+-- `add-tasks`
+abbrev pub add_tasks : State → List TaskSpec → JobRow → Answered
+add_tasks s specs job =
+    option_map_or (λ refusal. refuse refusal s)
+    (first_of (refuse_if (is_past job.state) (JobStateRefuses job.state) ∷ refuse_if (nat_lt collection_limit (length specs)) CollectionTooLong ∷ []))
+    (accept_all (add_each s job specs))
 
 -- taken now
 abbrev pub taken_run : ℕ → RunRow → RunRow
@@ -107,9 +154,17 @@ take_run s run = answer s
 abbrev pub ended_run : ℕ → Ending → RunRow → RunRow
 ended_run now ending run = record run { state = Ended ending; ended = Some now }
 
--- the run has ended; its task is settled by a due step
+-- what else the ending of a run of this kind does: a start run's changes its node, and a task is settled by a due step
+abbrev pub ended_by : RunKind → RunRow → Ending → State → State
+ended_by StartRun run ending s = start_ended run ending s
+ended_by PrepRun run ending s = s
+ended_by TaskRun run ending s = s
+ended_by CoordinationRun run ending s = s
+ended_by ReleaseRun run ending s = s
+
+-- the run has ended, and then its kind decides
 abbrev pub run_ended : State → Ending → RunRow → State
-run_ended s ending run = change_runs (is_run run.number) (ended_run s.moment ending) s
+run_ended s ending run = ended_by run.kind run ending (change_runs (is_run run.number) (ended_run s.moment ending) s)
 
 -- `end`
 abbrev pub end_run : State → Ending → RunRow → Answered
@@ -135,7 +190,7 @@ event_now (EnableJob job) s = refuse UnreadableBody s
 event_now (TerminateJob job reason) s = refuse UnreadableBody s
 event_now (DeleteJob job) s = refuse UnreadableBody s
 event_now (AddTask job spec) s = for_row s JobNotFound (add_task s spec) (job_of s job)
-event_now (AddTasks job specs) s = refuse UnreadableBody s
+event_now (AddTasks job specs) s = for_row s JobNotFound (add_tasks s specs) (job_of s job)
 event_now (DeleteTask job task) s = refuse UnreadableBody s
 event_now (TerminateTask job task) s = refuse UnreadableBody s
 event_now (ReactivateTask job task) s = refuse UnreadableBody s

@@ -1,5 +1,5 @@
 -- Looking for rows, changing them, and choices in order.
-use Rattle.std.specs.Prelude.{◌≡◌, ℕ, ◌^◌, Bool, true, false, nat_le, List, [], ◌∷◌, map, Option, Some, None, if◌then◌else◌}
+use Rattle.std.specs.Prelude.{◌≡◌, ℕ, ◌^◌, Bool, true, false, nat_eq, nat_le, List, [], ◌∷◌, map, ℤ, pos, negsuc, Option, Some, None, if◌then◌else◌}
 use Rattle.std.specs.List.{list_all}
 use Rattle.bt_base.specs.Ids.{same}
 
@@ -26,6 +26,20 @@ module _ {R : Type 0} where
   abbrev pub find_map : {Q : Type 0} → (Q → Option R) → List Q → Option R
   find_map give rows = first_of (map give rows)
 
+  -- a row changes a value; where there is none it stays
+  abbrev pub at_row : {W : Type 0} → (R → W → W) → Option R → W → W
+  at_row change None w = w
+  at_row change (Some row) w = change row w
+
+  -- the one that comes before the others, and the first of these where several do
+  abbrev pub best : (R → R → Bool) → List R → Option R
+  best precedes [] = None
+  best precedes (row ∷ rows) = better (best precedes rows)
+    where
+      better : Option R → Option R
+      better None = Some row
+      better (Some other) = if precedes other row then Some other else Some row
+
   -- a value under a condition
   abbrev pub only_if : Bool → Option R → Option R
   only_if true value = value
@@ -35,6 +49,11 @@ module _ {R : Type 0} where
 abbrev pub names : Option (List ℕ) → List ℕ → Bool
 names None id = false
 names (Some name) id = same name id
+
+-- so many are no more than a limit, where -1 is no limit
+abbrev pub is_within_limit : ℕ → ℤ → Bool
+is_within_limit n (pos limit) = nat_le n limit
+is_within_limit n (negsuc below) = nat_eq below 0
 
 -- the greatest number that a new node or run gets
 abbrev pub last_number : ℕ

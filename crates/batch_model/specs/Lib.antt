@@ -3,6 +3,7 @@ pub mod Endings
 pub mod Events
 pub mod Finding
 pub mod Jobs
+pub mod Laws
 pub mod Limits
 pub mod Measure
 pub mod Nodes
@@ -15,6 +16,7 @@ pub mod Samples
 pub mod Settling
 pub mod Slots
 pub mod Sound
+pub mod Starts
 pub mod Steps
 pub mod Tasks
 pub mod Variants

@@ -10,6 +10,10 @@ job_limit = 10000
 abbrev pub task_limit : ℕ
 task_limit = 1000000
 
+-- so many tasks are added at once, at most
+abbrev pub collection_limit : ℕ
+collection_limit = 100
+
 -- the ids of one list of dependencies have at most so many characters together
 abbrev pub needs_limit : ℕ
 needs_limit = 64000

@@ -1,17 +1,17 @@
--- Placing of tasks, as far as it is built: tasks of one slot without dependencies and instances, in jobs of the usual
--- priority without preparation and without a limit on placed tasks, on nodes of pools with one slot a node.
-use Rattle.std.specs.Prelude.{zero, ◌+◌, Bool, true, false, not, ◌&&◌, nat_eq, List, [], ◌∷◌, find, ℤ, pos, negsuc, Option, is_none}
+-- Placing of tasks, as far as it is built: tasks without dependencies and instances, in jobs of the usual priority without
+-- preparation and without a limit on placed tasks.
+use Rattle.std.specs.Prelude.{zero, ◌+◌, ℕ, Bool, true, false, not, ◌&&◌, ◌||◌, nat_eq, nat_lt, List, [], ◌∷◌, filter, ℤ, pos, negsuc, Option, is_none}
 use Rattle.std.specs.Option.{option_map, option_and_then}
 use Rattle.bt_rows.specs.declared.due.Due.TheVariants.{TaskPlaced}
-use Rattle.batch_model.specs.Finding.{find_map, only_if, has_number_left}
+use Rattle.batch_model.specs.Finding.{best, find_map, only_if, has_number_left}
 use Rattle.batch_model.specs.Rows.{pool_of, put_task, add_run_row}
 use Rattle.batch_model.specs.Runs.{work_run}
 use Rattle.batch_model.specs.Tasks.{is_active, is_in_job}
 use Rattle.batch_model.specs.Jobs.{is_job_active}
 use Rattle.batch_model.specs.Nodes.{is_in_pool, is_usable}
-use Rattle.batch_model.specs.Slots.{held_slots}
+use Rattle.batch_model.specs.Slots.{held_slots, has_free}
 use Rattle.batch_model.specs.Steps.{DueStep}
-use Rattle.batch_model.specs.Variants.{State, PoolRow, NodeRow, JobRow, TaskRow, Placed, TaskRun, Queued}
+use Rattle.batch_model.specs.Variants.{State, PoolRow, Fill, Spread, Pack, NodeRow, JobRow, TaskRow, Placed, TaskRun, Queued}
 
 -- no items
 abbrev pub is_empty : {A : Type 0} → List A → Bool
@@ -32,14 +32,31 @@ is_no_limit _ = false
 abbrev pub places_tasks : JobRow → Bool
 places_tasks job = is_job_active job.state && is_usual_priority job.priority && is_no_limit job.parallel && is_none job.prep
 
--- a ready task of the job: active, and depending on nothing
-abbrev pub is_placeable : JobRow → TaskRow → Bool
-is_placeable job task =
-    is_active task.stage && is_in_job job.id task && nat_eq task.slots 1 && is_empty task.needs && is_empty task.spans && is_none task.multi
+-- a ready task: active, and depending on nothing
+abbrev pub is_ready : TaskRow → Bool
+is_ready task = is_active task.stage && is_empty task.needs && is_empty task.spans && is_none task.multi
 
--- a usable node of the pool that holds no slots
-abbrev pub fits : State → PoolRow → NodeRow → Bool
-fits s pool node = is_usable node.stage && is_in_pool pool.id node && nat_eq (held_slots s node.number) 0
+-- a ready task of the job
+abbrev pub is_placeable : JobRow → TaskRow → Bool
+is_placeable job task = is_in_job job.id task && is_ready task
+
+-- a usable node of the pool with so many slots free
+abbrev pub fits : State → PoolRow → ℕ → NodeRow → Bool
+fits s pool need node = is_usable node.stage && is_in_pool pool.id node && has_free s pool need node
+
+-- as many slots are held on both nodes, and the first has the lower number
+abbrev pub is_lower : State → NodeRow → NodeRow → Bool
+is_lower s node other = nat_eq (held_slots s node.number) (held_slots s other.number) && nat_lt node.number other.number
+
+-- the fill type prefers the node to the other: `spread` the one with fewer held slots, `pack` the one with more, and of two
+-- with as many the one with the lower number
+abbrev pub precedes : State → Fill → NodeRow → NodeRow → Bool
+precedes s Spread node other = nat_lt (held_slots s node.number) (held_slots s other.number) || is_lower s node other
+precedes s Pack node other = nat_lt (held_slots s other.number) (held_slots s node.number) || is_lower s node other
+
+-- the node of the pool on which so many slots are to be held
+abbrev pub choice : State → PoolRow → ℕ → Option NodeRow
+choice s pool need = best (precedes s pool.fill) (filter (fits s pool need) s.nodes)
 
 -- placed, in a new attempt
 abbrev pub placed : TaskRow → TaskRow
@@ -50,20 +67,19 @@ abbrev pub placed_run : State → NodeRow → TaskRow → State
 placed_run s node task = add_run_row (work_run s node task TaskRun task.line task.slots Queued) s
 
 -- the line names the node and the run
-abbrev pub place : State → NodeRow → TaskRow → DueStep
-place s node task = record {
+abbrev pub place : State → TaskRow → NodeRow → DueStep
+place s task node = record {
   due = TaskPlaced task.job task.id node.number s.next_run;
   state = placed_run (put_task (placed task) s) node (placed task);
 }
 
--- the first task of the job that can be placed, on the node
-abbrev pub place_on : State → JobRow → NodeRow → Option DueStep
-place_on s job node = option_map (place s node) (find (is_placeable job) s.tasks)
+-- a ready task of the job, on the node that is chosen for its slots
+abbrev pub place_task : State → JobRow → PoolRow → TaskRow → Option DueStep
+place_task s job pool task = only_if (is_placeable job task) (option_map (place s task) (choice s pool task.slots))
 
--- on the first node that fits, which is the one with the lowest number, since nodes stand in the order of their numbers
+-- the first task of the job that fits
 abbrev pub place_in : State → JobRow → PoolRow → Option DueStep
-place_in s job pool =
-    only_if (not pool.deleting && nat_eq pool.slots 1) (option_and_then (place_on s job) (find (fits s pool) s.nodes))
+place_in s job pool = only_if (not pool.deleting) (find_map (place_task s job pool) s.tasks)
 
 -- a task of the job, in the job's pool
 abbrev pub place_of_job : State → JobRow → Option DueStep

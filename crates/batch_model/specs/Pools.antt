@@ -1,9 +1,10 @@
 -- Pools: their states, how many nodes they have, and new ones.
 use Rattle.std.specs.Prelude.{ℕ, zero, suc, Bool, true, false, not, ◌&&◌, nat_eq, List, count_by, find, Option, None}
+use Rattle.std.specs.Option.{option_map_or}
 use Rattle.std.specs.List.{list_any, range_with_len}
 use Rattle.bt_rows.specs.declared.event.PoolSpec.{PoolSpec}
 use Rattle.batch_model.specs.Nodes.{is_leaving, is_in_pool, stays}
-use Rattle.batch_model.specs.Variants.{State, PoolRow, Alloc, Steady, Resizing, Stopping, ByRequeue}
+use Rattle.batch_model.specs.Variants.{State, PoolRow, StartTask, Alloc, Steady, Resizing, Stopping, ByRequeue}
 
 abbrev pub is_steady : Alloc → Bool
 is_steady Steady = true
@@ -31,6 +32,10 @@ staying_count s pool = count_by (stays pool) s.nodes
 -- the lowest seat on which no node sits
 abbrev pub free_seat : ℕ → State → Option ℕ
 free_seat seats s = find (λ seat. not (list_any (λ node. nat_eq node.seat seat) s.nodes)) (range_with_len 1 seats)
+
+-- nodes wait for the pool's start task
+abbrev pub waits_for_start : PoolRow → Bool
+waits_for_start pool = option_map_or (λ (start : StartTask). start.wait) pool.start false
 
 -- a pool without a target is steady at once
 abbrev pub first_alloc : ℕ → Alloc

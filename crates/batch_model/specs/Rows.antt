@@ -44,6 +44,9 @@ run_of s number = find (is_run number) s.runs
 abbrev pub change_pools : (PoolRow → Bool) → (PoolRow → PoolRow) → State → State
 change_pools test change s = record s { pools = change_where test change s.pools }
 
+abbrev pub change_nodes : (NodeRow → Bool) → (NodeRow → NodeRow) → State → State
+change_nodes test change s = record s { nodes = change_where test change s.nodes }
+
 abbrev pub change_jobs : (JobRow → Bool) → (JobRow → JobRow) → State → State
 change_jobs test change s = record s { jobs = change_where test change s.jobs }
 

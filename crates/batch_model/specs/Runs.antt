@@ -1,7 +1,7 @@
 -- Runs: whose they are, whether they have ended, and new ones.
 use Rattle.std.specs.Prelude.{ℕ, Bool, true, false, ◌&&◌, nat_eq, List, Option, Some, None}
 use Rattle.batch_model.specs.Finding.{names}
-use Rattle.batch_model.specs.Variants.{State, NodeRow, TaskRow, Ending, RunRow, RunKind, RunState, StartRun, PrepRun, TaskRun, CoordinationRun, ReleaseRun, Waiting, Queued, Taken, Ended, Withdrawn}
+use Rattle.batch_model.specs.Variants.{State, NodeRow, StartTask, TaskRow, Ending, RunRow, RunKind, RunState, StartRun, PrepRun, TaskRun, CoordinationRun, ReleaseRun, Waiting, Queued, Taken, Ended, Withdrawn}
 
 abbrev pub is_waiting : RunState → Bool
 is_waiting Waiting = true
@@ -91,6 +91,10 @@ new_run s on_node of_pool what text = record {
   taken = None;
   ended = None;
 }
+
+-- a run of the pool's start task on the node
+abbrev pub start_run : State → NodeRow → StartTask → RunRow
+start_run s node start = new_run s node.number node.pool StartRun start.line
 
 -- a run of the task's present attempt
 abbrev pub work_run : State → NodeRow → TaskRow → RunKind → List ℕ → ℕ → RunState → RunRow

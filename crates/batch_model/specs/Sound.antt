@@ -1,6 +1,6 @@
 -- Sound tables: what holds of the tables before and after every event and every due step. Each part has a name of its
 -- own.
-use Rattle.std.specs.Prelude.{◌≡◌, ℕ, ◌<◌, Bool, not, ◌&&◌, ◌||◌, nat_eq, nat_lt, nat_le, [], is_some, is_none}
+use Rattle.std.specs.Prelude.{◌≡◌, ℕ, ◌<◌, List, Bool, false, not, ◌&&◌, ◌||◌, nat_eq, nat_lt, nat_le, [], is_some, is_none}
 use Rattle.std.specs.List.{list_any, list_all}
 use Rattle.bt_base.specs.Ids.{same}
 use Rattle.bt_rows.specs.Lists.{AreDistinct}
@@ -9,10 +9,12 @@ use Rattle.batch_model.specs.Finding.{Each}
 use Rattle.batch_model.specs.Rows.{is_pool, is_node}
 use Rattle.batch_model.specs.Runs.{is_unended, is_start, is_preparation, is_release, is_main, is_work}
 use Rattle.batch_model.specs.Tasks.{is_placed, is_undisturbed, is_busy, main_ending}
-use Rattle.batch_model.specs.Nodes.{is_usable}
+use Rattle.batch_model.specs.Nodes.{is_usable, is_leaving}
+use Rattle.batch_model.specs.Pools.{waits_for_start}
+use Rattle.batch_model.specs.Endings.{is_success}
 use Rattle.batch_model.specs.Slots.{owns, held_slots}
-use Rattle.batch_model.specs.WellFormed.{KeysAreDistinct, RowsAreValid, CountsAreInRange, TasksAreFitting, has_pool_row, NamedRowsAreThere, QuietJobsPlaceNothing, PoolsAreFitting}
-use Rattle.batch_model.specs.Variants.{State, NodeRow, TaskRow, RunRow}
+use Rattle.batch_model.specs.WellFormed.{KeysAreDistinct, RowsAreValid, CountsAreInRange, TasksAreFitting, has_few_tries, has_pool_row, NamedRowsAreThere, QuietJobsPlaceNothing, PoolsAreFitting}
+use Rattle.batch_model.specs.Variants.{State, NodeRow, TaskRow, RunRow, RunState, Ended}
 
 -- the later node has no higher number
 abbrev pub are_out_of_order : NodeRow → NodeRow → Bool
@@ -86,10 +88,10 @@ has_slots_for s node = list_all (λ pool. not (is_pool node.pool pool) || nat_le
 abbrev pub SlotsSuffice : State → Type 0
 SlotsSuffice s = Each (has_slots_for s) s.nodes
 
--- what is built makes no other rows: unended runs are main runs of tasks, and nodes are usable
-pub record OnlyTasksRun (s : State) : Type 0 where
-  pub runs : Each (λ run. is_main run.kind || not (is_unended run.state)) s.runs
-  pub nodes : Each (λ node. is_usable node.stage) s.nodes
+-- what is built makes no other rows: unended runs are start runs and main runs of tasks, and no node leaves
+pub record OnlyBuiltRows (s : State) : Type 0 where
+  pub runs : Each (λ run. is_start run.kind || is_main run.kind || not (is_unended run.state)) s.runs
+  pub nodes : Each (λ node. not (is_leaving node.stage)) s.nodes
 
 -- the rows fit each other, for so many seats
 pub record IsConsistent (seats : ℕ) (s : State) : Type 0 where
@@ -102,11 +104,10 @@ pub record IsConsistent (seats : ℕ) (s : State) : Type 0 where
   pub ending : PlacedTasksEnd s
   pub naming : RunsNameTheirs s
   pub slots : SlotsSuffice s
-  pub built : OnlyTasksRun s
+  pub built : OnlyBuiltRows s
 
--- no start task of a node has failed, and nothing is prepared, since neither is built
+-- nothing is prepared, since that is not built
 pub record NothingIsPrepared (s : State) : Type 0 where
-  pub tries : Each (λ node. nat_eq node.tries 0) s.nodes
   pub preps : s.preps ≡ []
 
 -- the values of the rows are such as the service makes
@@ -125,8 +126,34 @@ has_no_end_yet run = not (is_unended run.state) || is_none run.ended
 abbrev pub UnendedRunsHaveNoEnd : State → Type 0
 UnendedRunsHaveNoEnd s = Each has_no_end_yet s.runs
 
+-- start tasks
+
+-- ended with code 0
+abbrev pub has_ended_well : RunState → Bool
+has_ended_well (Ended ending) = is_success ending
+has_ended_well _ = false
+
+-- a start run ended on the node with code 0
+abbrev pub has_started : State → ℕ → Bool
+has_started s node = list_any (λ run. nat_eq run.node node && is_start run.kind && has_ended_well run.state) s.runs
+
+-- no start task is waited for in the pool
+abbrev pub awaits_no_start : State → List ℕ → Bool
+awaits_no_start s pool = list_all (λ row. not (is_pool pool row && waits_for_start row)) s.pools
+
+-- if the node is usable, its pool has no start task that is waited for, or one ended there with code 0
+abbrev pub has_usable_start : State → NodeRow → Bool
+has_usable_start s node = not (is_usable node.stage) || awaits_no_start s node.pool || has_started s node.number
+
+-- nodes are usable only so, and the failures of a node's start task and its unended runs are together fewer than the runs
+-- that were made
+pub record StartsAreSound (s : State) : Type 0 where
+  pub usable : Each (has_usable_start s) s.nodes
+  pub tries : Each (has_few_tries s) s.nodes
+
 -- all of these, for so many seats; such tables are also well formed
 pub record IsSound (seats : ℕ) (s : State) : Type 0 where
   pub consistent : IsConsistent seats s
   pub limited : IsWithinLimits s
   pub unended : UnendedRunsHaveNoEnd s
+  pub starts : StartsAreSound s
