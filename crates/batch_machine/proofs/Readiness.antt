@@ -16,7 +16,7 @@ use Rattle.batch_model.proofs.WellFormedTables.{well_formed}
 use Rattle.batch_model.proofs.DueSound.{sound_by_due}
 use Rattle.batch_model.proofs.RefusedEvents.{refused_keeps}
 use Rattle.batch_model.proofs.EventSound.{sound_by_event}
-use Rattle.batch_machine.specs.Plans.{IsPlanOf}
+use Rattle.machine_plans.specs.Plans.{IsPlanOf}
 use Rattle.batch_machine.specs.Machines.{IsMade, of_event, of_due}
 
 -- each plan that a machine makes keeps the tables sound

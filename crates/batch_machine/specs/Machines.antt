@@ -11,7 +11,7 @@ use Rattle.batch_model.specs.Dues.{due_step}
 use Rattle.batch_model.specs.Events.{event_step}
 use Rattle.batch_model.specs.Opening.{opening}
 use Rattle.batch_model.specs.Sound.{IsSound}
-use Rattle.batch_machine.specs.Plans.{IsPlanOf, IsStepOf}
+use Rattle.machine_plans.specs.Plans.{IsPlanOf, IsStepOf}
 
 -- the tables, the number of seats, and the plan that is reserved
 pub record Machine : Type 0 where

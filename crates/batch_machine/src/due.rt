@@ -2,10 +2,8 @@
 ghost use Rattle.std.specs.Prelude.{◌≡◌, ◌≤◌, IfOk, None};
 ghost use Rattle.batch_model.specs.Dues.{settle_first, end_resize, add_node, due_step};
 ghost use Rattle.batch_model.specs.Sound.{IsSound};
-ghost use Rattle.batch_machine.specs.Plans.{IsRule};
+ghost use Rattle.machine_plans.specs.Plans.{IsRule};
 
-use crate::node::add_node;
-use crate::place::place_first;
 use crate::resize::end_resize;
 use crate::settle::settle_first;
 use bt_base::NoMemory;

@@ -4,10 +4,10 @@ ghost use Rattle.bt_rows.specs.declared.event.EventKind.TheVariants.{Tick};
 ghost use Rattle.bt_rows.specs.Ranges.{is_event_in_range};
 ghost use Rattle.batch_model.specs.Events.{event_step};
 ghost use Rattle.batch_model.specs.WellFormed.{KeysAreDistinct};
-ghost use Rattle.batch_machine.specs.Plans.{IsPlanOf, moved_to};
+ghost use Rattle.machine_plans.specs.Plans.{IsPlanOf, moved_to};
 
 use crate::job::add_job;
-use crate::plan::{accept_none, refuse};
+use machine_plans::{accept_none, refuse};
 use crate::pool::add_pool;
 use crate::run::{end_run, take_run};
 use crate::task::add_task;

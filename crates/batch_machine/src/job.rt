@@ -5,9 +5,9 @@ ghost use Rattle.bt_rows.specs.declared.refusal.Refusal.TheVariants.{PoolNotFoun
 ghost use Rattle.batch_model.specs.Events.{accept, add_job, add_job_in, at_moment, for_row};
 ghost use Rattle.batch_model.specs.Jobs.{new_job};
 ghost use Rattle.batch_model.specs.Rows.{job_of, pool_of, add_job_row};
-ghost use Rattle.batch_machine.specs.Plans.{IsPlanOf};
+ghost use Rattle.machine_plans.specs.Plans.{IsPlanOf};
 
-use crate::plan::{accept_one, refuse};
+use machine_plans::{accept_one, refuse};
 use crate::pool::{copy_start, find_pool};
 use bt_base::{Duplicate, Id, NoMemory};
 use bt_rows::event::JobSpec;

@@ -3,17 +3,11 @@
 //! `batch_model`.
 #![tactic(auto)]
 
-mod attempt;
 mod due;
 mod event;
 mod job;
 mod machine;
-mod node;
-mod open;
-mod place;
-mod plan;
 mod pool;
-mod ready;
 mod resize;
 mod run;
 mod settle;

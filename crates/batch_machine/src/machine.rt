@@ -8,16 +8,16 @@ ghost use Rattle.batch_model.specs.Dues.{due_step};
 ghost use Rattle.batch_model.specs.Events.{at_moment, event_step};
 ghost use Rattle.batch_model.specs.Sound.{IsSound};
 ghost use Rattle.batch_model.specs.WellFormed.{IsWellFormed};
-ghost use Rattle.batch_machine.specs.Plans.{IsPlanOf, IsRule, moved_to};
+ghost use Rattle.machine_plans.specs.Plans.{IsPlanOf, IsRule, moved_to};
 ghost use Rattle.batch_machine.specs.Machines.{IsMade, IsOpened};
 
-use crate::open::opening_changes;
 use crate::{due, event};
 use bt_base::{Duplicate, List, Moment, NoMemory};
 use bt_rows::event::Event;
 use bt_rows::plan::Plan;
 use bt_rows::reply::Reply;
 use bt_rows::tables::{Change, Tables};
+use machine_opening::opening_changes;
 use std::alloc::Global;
 use std::marker::Model;
 

@@ -4,9 +4,9 @@ ghost use Rattle.std.specs.Option.{option_copied};
 ghost use Rattle.batch_model.specs.Events.{accept, add_pool, at_moment};
 ghost use Rattle.batch_model.specs.Pools.{first_alloc, new_pool};
 ghost use Rattle.batch_model.specs.Rows.{pool_of, add_pool_row};
-ghost use Rattle.batch_machine.specs.Plans.{IsPlanOf};
+ghost use Rattle.machine_plans.specs.Plans.{IsPlanOf};
 
-use crate::plan::{accept_one, refuse};
+use machine_plans::{accept_one, refuse};
 use bt_base::{Duplicate, Id, NoMemory};
 use bt_rows::event::PoolSpec;
 use bt_rows::plan::Plan;

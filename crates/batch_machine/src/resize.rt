@@ -3,16 +3,16 @@ ghost use Rattle.std.specs.Prelude.{◌≡◌, ◌+◌, nat_le, IfOk, Some, find
 ghost use Rattle.std.specs.Option.{option_copied};
 ghost use Rattle.batch_model.specs.Dues.{has_reached, steady, pool_steady, has_timed_out, timed_out, pool_timed_out, ends_resize, resize_ended, end_resize};
 ghost use Rattle.batch_model.specs.WellFormed.{KeysAreDistinct};
-ghost use Rattle.batch_machine.specs.Plans.{IsPlanOf, IsRule, answer_of_step};
+ghost use Rattle.machine_plans.specs.Plans.{IsPlanOf, IsRule, answer_of_step};
 
-use crate::node::{has_leaving, is_resizing, staying_count};
-use crate::plan::step_one;
+use machine_plans::step_one;
 use bt_base::{Duplicate, NoMemory};
 use bt_rows::due::{Due, ResizeEnd};
 use bt_rows::plan::Plan;
 use bt_rows::pool::{Alloc, PoolRow, ResizeError};
 use bt_rows::tables::{Change, Tables};
 use std::alloc::Global;
+use table_scans::{has_leaving, is_resizing, staying_count};
 
 /// Whether the pool resizes and has as many nodes as its target, none of them leaving.
 fn has_reached(tables: &Tables, pool: &PoolRow) -> bool

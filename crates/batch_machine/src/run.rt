@@ -7,9 +7,9 @@ ghost use Rattle.batch_model.specs.Events.{accept, at_moment, end_run, ended_run
 ghost use Rattle.batch_model.specs.Finding.{names};
 ghost use Rattle.batch_model.specs.Rows.{run_of};
 ghost use Rattle.batch_model.specs.WellFormed.{KeysAreDistinct};
-ghost use Rattle.batch_machine.specs.Plans.{IsPlanOf};
+ghost use Rattle.machine_plans.specs.Plans.{IsPlanOf};
 
-use crate::plan::{accept_one, accept_two, refuse};
+use machine_plans::{accept_one, accept_two, refuse};
 use bt_base::{Duplicate, Id, NoMemory};
 use bt_rows::plan::Plan;
 use bt_rows::refusal::Refusal;

@@ -9,10 +9,9 @@ ghost use Rattle.batch_model.specs.Endings.{is_success, closed_by};
 ghost use Rattle.batch_model.specs.Settling.{is_over, has_no_conditions, is_zero_limit, is_tried_once, has_plain_job, is_to_complete, outcome_of, complete, wants_requeue, is_to_requeue, active_again, requeue, is_to_settle, complete_as_ended, settle};
 ghost use Rattle.batch_model.specs.Dues.{settle_first};
 ghost use Rattle.batch_model.specs.WellFormed.{KeysAreDistinct};
-ghost use Rattle.batch_machine.specs.Plans.{IsPlanOf, IsRule, answer_of_step};
+ghost use Rattle.machine_plans.specs.Plans.{IsPlanOf, IsRule, answer_of_step};
 
-use crate::attempt::{is_busy, is_placed, main_ending};
-use crate::plan::step_one;
+use machine_plans::step_one;
 use bt_base::{Duplicate, NoMemory};
 use bt_rows::due::{Due, Outcome};
 use bt_rows::job::JobRow;
@@ -22,6 +21,7 @@ use bt_rows::run::Ending;
 use bt_rows::tables::{Change, Tables};
 use bt_rows::task::{Closed, How, TaskRow, TaskStage, Want};
 use std::alloc::Global;
+use table_scans::{is_busy, is_placed, main_ending};
 
 /// Whether the task is placed, and no run of its present attempt is unended.
 fn is_over(tables: &Tables, task: &TaskRow) -> bool

@@ -7,10 +7,10 @@ ghost use Rattle.batch_model.specs.Jobs.{is_past};
 ghost use Rattle.batch_model.specs.Rows.{job_of, task_of, add_task_row};
 ghost use Rattle.batch_model.specs.Tasks.{new_task};
 ghost use Rattle.batch_model.specs.WellFormed.{needs_length};
-ghost use Rattle.batch_machine.specs.Plans.{IsPlanOf};
+ghost use Rattle.machine_plans.specs.Plans.{IsPlanOf};
 
 use crate::job::find_job;
-use crate::plan::{accept_one, refuse};
+use machine_plans::{accept_one, refuse};
 use bt_base::{Duplicate, Id, NoMemory};
 use bt_rows::event::TaskSpec;
 use bt_rows::job::{JobRow, JobState};

@@ -7,7 +7,7 @@ use bt_rows::node::{NodeRow, NodeStage};
 use bt_rows::run::{RunKind, RunState};
 use bt_rows::tables::Tables;
 use bt_rows::task::{TaskRow, TaskStage};
-use slot_scan::{holds_slots, is_present};
+use table_scans::{holds_slots, is_present};
 
 fn is_start_taken(tables: &Tables, node: u64) -> bool
     ensures { result ≡ is_start_taken tables.now.state node }

@@ -1,8 +1,8 @@
 use Rattle.std.proofs.Common.{ap, subst}
 use Rattle.std.specs.Prelude.{IfOk}
 use Rattle.batch_model.specs.Events.{accept, at_moment}
-use Rattle.batch_machine.specs.Plans.{IsPlanOf}
-use Rattle.batch_machine.proofs.EventPuts.{pool_put}
+use Rattle.machine_plans.specs.Plans.{IsPlanOf}
+use Rattle.machine_plans.proofs.EventPuts.{pool_put}
 use Rattle.batch_machine.proofs.pool.put_new_pool.Goals as goal
 
 pub returns : goal.returns

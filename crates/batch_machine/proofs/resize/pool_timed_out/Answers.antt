@@ -4,8 +4,8 @@ use Rattle.bt_rows.specs.declared.due.ResizeEnd.TheVariants.{TimedOut}
 use Rattle.bt_rows.specs.declared.tables.Change.TheVariants.{PutPool}
 use Rattle.bt_rows.specs.Changes.{apply_change}
 use Rattle.batch_model.specs.Dues.{ends_resize, timed_out, pool_timed_out}
-use Rattle.batch_machine.proofs.DuePlans.{of_step}
-use Rattle.batch_machine.proofs.DuePuts.{pool_changed}
+use Rattle.machine_plans.proofs.DuePlans.{of_step}
+use Rattle.machine_plans.proofs.DuePuts.{pool_changed}
 use Rattle.batch_machine.proofs.resize.pool_timed_out.Goals as goal
 
 pub returns : goal.returns

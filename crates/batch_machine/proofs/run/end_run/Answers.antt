@@ -1,5 +1,5 @@
 use Rattle.std.proofs.Common.{sym}
-use Rattle.batch_machine.proofs.EventPuts.{own_number}
+use Rattle.machine_plans.proofs.EventPuts.{own_number}
 use Rattle.batch_machine.proofs.run.end_run.Goals as goal
 
 pub end_found-requires-clause-there : goal.end_found-requires-clause-there

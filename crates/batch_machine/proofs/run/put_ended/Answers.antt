@@ -3,8 +3,8 @@ use Rattle.std.specs.Prelude.{IfOk}
 use Rattle.bt_rows.specs.Changes.{apply_change}
 use Rattle.bt_rows.specs.declared.tables.Change.TheVariants.{PutRun}
 use Rattle.batch_model.specs.Events.{accept, at_moment, ended_run}
-use Rattle.batch_machine.specs.Plans.{IsPlanOf}
-use Rattle.batch_machine.proofs.EventPuts.{ended_put}
+use Rattle.machine_plans.specs.Plans.{IsPlanOf}
+use Rattle.machine_plans.proofs.EventPuts.{ended_put}
 use Rattle.batch_machine.proofs.run.put_ended.Goals as goal
 
 pub returns : goal.returns

@@ -5,8 +5,8 @@ use Rattle.bt_rows.specs.Changes.{apply_change}
 use Rattle.batch_model.specs.Endings.{closed_by}
 use Rattle.batch_model.specs.Tasks.{completed}
 use Rattle.batch_model.specs.Settling.{is_to_settle, outcome_of, complete}
-use Rattle.batch_machine.proofs.DuePlans.{of_step}
-use Rattle.batch_machine.proofs.DuePuts.{task_changed}
+use Rattle.machine_plans.proofs.DuePlans.{of_step}
+use Rattle.machine_plans.proofs.DuePuts.{task_changed}
 use Rattle.batch_machine.proofs.settle.complete.Goals as goal
 
 pub returns : goal.returns

@@ -2,8 +2,8 @@ use Rattle.std.proofs.Common.{◌∷◌, [], ◌∙◌, ap, refl}
 use Rattle.bt_rows.specs.declared.tables.Change.TheVariants.{PutTask}
 use Rattle.bt_rows.specs.Changes.{apply_change}
 use Rattle.batch_model.specs.Settling.{is_to_settle, active_again, requeue}
-use Rattle.batch_machine.proofs.DuePlans.{of_step}
-use Rattle.batch_machine.proofs.DuePuts.{task_changed}
+use Rattle.machine_plans.proofs.DuePlans.{of_step}
+use Rattle.machine_plans.proofs.DuePuts.{task_changed}
 use Rattle.batch_machine.proofs.settle.requeue.Goals as goal
 
 pub returns : goal.returns

@@ -1,6 +1,6 @@
 use Rattle.std.proofs.Common.{IfOk, subst}
 use Rattle.batch_model.specs.Events.{event_step}
-use Rattle.batch_machine.specs.Plans.{IsPlanOf}
+use Rattle.machine_plans.specs.Plans.{IsPlanOf}
 use Rattle.batch_machine.specs.Machines.{Machine, IsMade}
 use Rattle.batch_machine.proofs.Readiness.{made_by_event, refused_by_event}
 use Rattle.batch_machine.proofs.machine.Machine.plan.Goals as goal

@@ -1,7 +1,0 @@
-use Rattle.std.proofs.Common.{◌≡◌, ◌++◌, drop, map}
-use Rattle.batch_machine.specs.Openings.{drop_of_prep, prep_drops}
-use Rattle.batch_machine.proofs.open.drop_preps.Given as goal
-
--- what there is and what is left give what all rows give
-abbrev pub invariant-loop-prep : goal.invariant-loop-prep
-invariant-loop-prep l = l.changes.items ++ map drop_of_prep (drop l.prep-index l.prep-items) ≡ l.fn.changes.items ++ prep_drops l.tables.state

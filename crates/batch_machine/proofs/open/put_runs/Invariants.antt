@@ -1,8 +1,0 @@
-use Rattle.std.proofs.Common.{◌≡◌, ◌++◌, drop}
-use Rattle.bt_rows.specs.declared.tables.Change.TheVariants.{PutRun}
-use Rattle.batch_machine.specs.Openings.{puts_of, opened_run, run_puts}
-use Rattle.batch_machine.proofs.open.put_runs.Given as goal
-
--- what there is and what is left give what all rows give
-abbrev pub invariant-loop-run : goal.invariant-loop-run
-invariant-loop-run l = l.changes.items ++ puts_of PutRun (opened_run l.tables.state.moment) (drop l.run-index l.run-items) ≡ l.fn.changes.items ++ run_puts l.tables.state

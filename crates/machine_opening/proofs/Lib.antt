@@ -1,0 +1,2 @@
+pub mod OpeningMade
+pub mod PutsInPlace

@@ -1,0 +1,4 @@
+pub mod DuePlans
+pub mod DuePuts
+pub mod EventPuts
+pub mod Moves

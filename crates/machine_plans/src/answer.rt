@@ -1,0 +1,27 @@
+//! What a machine answers to an event.
+ghost use Rattle.std.specs.Prelude.{IfOk};
+ghost use Rattle.batch_model.specs.Steps.{Answered};
+ghost use Rattle.machine_plans.specs.Plans.{IsAnswer, IsPlanOf};
+
+use crate::plan::refuse;
+use bt_base::{Fail, NoMemory};
+use bt_rows::plan::Plan;
+use bt_rows::refusal::Refusal;
+use bt_rows::tables::Tables;
+use std::alloc::Global;
+
+/// The plan that a machine answered, or that of its refusal, which changes the last moment alone.
+pub fn or_refused(
+    alloc: Global,
+    tables: &Tables,
+    moment: u64,
+    answer: Result<Plan, Fail<Refusal>>,
+) -> Result<Plan, NoMemory>
+    ensures { (answered : Answered) → IsAnswer moment answered tables.now.state answer → IfOk result (IsPlanOf answered tables.now.state) }
+{
+    match answer {
+        Ok(plan) => Ok(plan),
+        Err(Fail::Why(refusal)) => refuse(alloc, tables, moment, refusal),
+        Err(Fail::Memory) => Err(NoMemory),
+    }
+}

@@ -1,0 +1,105 @@
+//! The due step that adds a node.
+ghost use Rattle.std.specs.Prelude.{◌≡◌, ◌≤◌, IsTrue, IfOk, find, nat_eq};
+ghost use Rattle.std.specs.List.{list_any};
+ghost use Rattle.std.specs.Option.{option_copied};
+ghost use Rattle.batch_model.specs.Finding.{has_number_left};
+ghost use Rattle.batch_model.specs.Pools.{free_seat};
+ghost use Rattle.batch_model.specs.Dues.{lacks_node, new_node, node_added, add_on, add_node};
+ghost use Rattle.batch_model.specs.Sound.{NumbersAreNew};
+ghost use Rattle.machine_plans.specs.Plans.{IsPlanOf, IsRule, answer_of_step};
+
+use bt_base::{Duplicate, NoMemory};
+use bt_rows::due::Due;
+use bt_rows::node::{NodeRow, NodeStage};
+use bt_rows::plan::Plan;
+use bt_rows::pool::PoolRow;
+use bt_rows::tables::{Change, Tables};
+use machine_plans::step_two;
+use std::alloc::Global;
+use table_scans::{has_number_left, is_resizing, staying_count};
+
+/// Whether a node sits on the seat.
+fn is_taken(tables: &Tables, seat: u8) -> bool
+    ensures { result ≡ list_any (λ node. nat_eq node.seat seat) tables.now.state.nodes }
+{
+    tables.nodes().iter().any(|node| node.seat == seat)
+}
+
+/// The lowest seat on which no node sits.
+fn free_seat(tables: &Tables, seats: u8) -> Option<u8>
+    requires { seats ≤ 32 }
+    ensures { result ≡ free_seat seats tables.now.state }
+{
+    (1..seats + 1).find(|seat| !is_taken(tables, *seat))
+}
+
+/// Whether the pool is to get a node. Pools with a start task get none.
+fn lacks_node(tables: &Tables, pool: &PoolRow) -> bool
+    ensures { result ≡ lacks_node tables.now.state pool.now }
+{
+    !pool.deleting
+        && is_resizing(pool.alloc)
+        && pool.start.is_none()
+        && staying_count(tables, &pool.id) < pool.dedicated as usize
+}
+
+/// The first pool that is to get a node.
+fn first_lacking<'a>(tables: &'a Tables) -> Option<&'a PoolRow>
+    ensures { option_copied result ≡ find (lacks_node tables.now.state) tables.now.state.pools }
+{
+    tables.pools().iter().find(|pool| lacks_node(tables, pool))
+}
+
+/// A usable node of the pool on the seat, with the next number.
+fn new_node(tables: &Tables, pool: &PoolRow, seat: u8) -> Result<NodeRow, NoMemory>
+    ensures { IfOk result (λ node. node ≡ new_node tables.now.state pool.now seat) }
+{
+    Ok(NodeRow {
+        number: tables.next_node(),
+        pool: pool.id.copy()?,
+        seat,
+        stage: NodeStage::Usable,
+        tries: 0,
+    })
+}
+
+/// The plan that adds a node of the pool on the seat.
+fn node_added(alloc: Global, tables: &Tables, pool: &PoolRow, seat: u8) -> Result<Plan, NoMemory>
+    requires numbers { NumbersAreNew tables.now.state }
+    requires left { IsTrue (has_number_left tables.now.state.next_node) }
+    ensures { IfOk result (IsPlanOf (answer_of_step (node_added tables.now.state seat pool.now)) tables.now.state) }
+{
+    let number = tables.next_node();
+    let due = Due::NodeAdded(pool.id.copy()?, number, seat);
+    let node = new_node(tables, pool, seat)?;
+    let counters = Change::Counters(number + 1, tables.next_run());
+    step_two(alloc, due, Change::PutNode(node), counters)
+}
+
+/// The plan that adds a node on the seat, to the first pool that is to get one.
+fn add_on(alloc: Global, tables: &Tables, seat: u8) -> Result<Option<Plan>, NoMemory>
+    requires numbers { NumbersAreNew tables.now.state }
+    requires left { IsTrue (has_number_left tables.now.state.next_node) }
+    ensures { IfOk result (IsRule (add_on tables.now.state seat) tables.now.state) }
+{
+    match first_lacking(tables) {
+        None => Ok(None),
+        Some(pool) => Ok(Some(node_added(alloc, tables, pool, seat)?)),
+    }
+}
+
+/// The plan that adds a node on the lowest free seat, to the first pool that is to get one. None is added once run or node
+/// numbers are used up.
+pub fn add_node(alloc: Global, tables: &Tables, seats: u8) -> Result<Option<Plan>, NoMemory>
+    requires numbers { NumbersAreNew tables.now.state }
+    requires few { seats ≤ 32 }
+    ensures { IfOk result (IsRule (add_node seats tables.now.state) tables.now.state) }
+{
+    if !has_number_left(tables.next_run()) || !has_number_left(tables.next_node()) {
+        return Ok(None);
+    }
+    match free_seat(tables, seats) {
+        None => Ok(None),
+        Some(seat) => add_on(alloc, tables, seat),
+    }
+}

@@ -1,0 +1,79 @@
+-- What contracts see of a ledger: its nodes in the order of adding, each with its pool, its slots and how many are held.
+use Rattle.std.specs.Prelude.{ℕ, ◌+◌, ◌-◌, Bool, not, ◌&&◌, ◌||◌, nat_eq, nat_lt, nat_le, List, [], ◌∷◌, ◌++◌, filter, map, Option, Some, None, if◌then◌else◌}
+use Rattle.std.specs.Option.{option_map}
+use Rattle.std.specs.List.{list_any}
+use Rattle.bt_base.specs.Ids.{same}
+use Rattle.bt_rows.specs.declared.pool.Fill.{Fill}
+use Rattle.bt_rows.specs.declared.pool.Fill.TheVariants.{Spread, Pack}
+
+-- a node of a pool, with so many slots, of which so many are held
+pub record Entry : Type 0 where
+  pub node : ℕ
+  pub pool : List ℕ
+  pub slots : ℕ
+  pub held : ℕ
+
+abbrev pub is_of : ℕ → Entry → Bool
+is_of node entry = nat_eq entry.node node
+
+-- the node has an entry
+abbrev pub has_node : List Entry → ℕ → Bool
+has_node entries node = list_any (is_of node) entries
+
+-- the node has so many slots free
+abbrev pub has_free_slots : List Entry → ℕ → ℕ → Bool
+has_free_slots entries node n = list_any (λ entry. is_of node entry && nat_le (entry.held + n) entry.slots) entries
+
+-- so many slots of the node are held
+abbrev pub has_held_slots : List Entry → ℕ → ℕ → Bool
+has_held_slots entries node n = list_any (λ entry. is_of node entry && nat_le n entry.held) entries
+
+-- no slot of the node is held
+abbrev pub is_unheld : List Entry → ℕ → Bool
+is_unheld entries node = list_any (λ entry. is_of node entry && nat_eq entry.held 0) entries
+
+-- the entry of the node, changed in its place
+abbrev pub change_entry : ℕ → (Entry → Entry) → List Entry → List Entry
+change_entry node change entries = map (λ entry. if is_of node entry then change entry else entry) entries
+
+-- the ledger after each call
+
+abbrev pub with_node : List Entry → ℕ → List ℕ → ℕ → List Entry
+with_node entries number of_pool count = entries ++ record { node = number; pool = of_pool; slots = count; held = 0 } ∷ []
+
+abbrev pub without_node : List Entry → ℕ → List Entry
+without_node entries node = filter (λ entry. not (is_of node entry)) entries
+
+abbrev pub holding : List Entry → ℕ → ℕ → List Entry
+holding entries node n = change_entry node (λ entry. record entry { held = entry.held + n }) entries
+
+abbrev pub giving : List Entry → ℕ → ℕ → List Entry
+giving entries node n = change_entry node (λ entry. record entry { held = entry.held - n }) entries
+
+-- the choice of a node
+
+-- a node of the pool with so many slots free
+abbrev pub fits : List ℕ → ℕ → Entry → Bool
+fits pool need entry = same entry.pool pool && nat_le (entry.held + need) entry.slots
+
+-- as many slots are held on both nodes, and the first has the lower number
+abbrev pub is_lower : Entry → Entry → Bool
+is_lower entry other = nat_eq entry.held other.held && nat_lt entry.node other.node
+
+-- `spread` prefers the node with fewer held slots, `pack` the one with more, and of two with as many the lower number goes first
+abbrev pub precedes : Fill → Entry → Entry → Bool
+precedes Spread entry other = nat_lt entry.held other.held || is_lower entry other
+precedes Pack entry other = nat_lt other.held entry.held || is_lower entry other
+
+-- the one that comes before the others
+abbrev pub best : (Entry → Entry → Bool) → List Entry → Option Entry
+best before [] = None
+best before (entry ∷ entries) = better (best before entries)
+  where
+    better : Option Entry → Option Entry
+    better None = Some entry
+    better (Some other) = if before other entry then Some other else Some entry
+
+-- the node of the pool on which so many slots are to be held
+abbrev pub chosen : List Entry → List ℕ → Fill → ℕ → Option ℕ
+chosen entries pool fill need = option_map (λ (entry : Entry). entry.node) (best (precedes fill) (filter (fits pool need) entries))

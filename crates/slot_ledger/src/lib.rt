@@ -1,0 +1,7 @@
+//! A ledger of the slots of nodes: which pool a node is of, how many slots it has and how many of them are held, and which node
+//! a pool's fill type chooses.
+#![tactic(auto)]
+
+mod ledger;
+
+pub use ledger::Ledger;

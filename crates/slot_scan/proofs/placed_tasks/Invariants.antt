@@ -1,7 +1,0 @@
-use Rattle.std.proofs.Common.{◌≡◌, ◌++◌, map, drop}
-use Rattle.slot_scan.specs.Holding.{only_placed}
-use Rattle.slot_scan.proofs.placed_tasks.Given as goal
-
--- the placed tasks so far, and those among what is left, are all
-abbrev pub invariant-loop-task : goal.invariant-loop-task
-invariant-loop-task l = map (λ one. one.now) l.placed.items ++ only_placed (drop l.task-index l.tasks) ≡ only_placed l.tasks

@@ -1,0 +1,3 @@
+pub mod NotPlaced
+pub mod Placements
+pub mod ReadyJobs

@@ -1,0 +1,8 @@
+//! Placing of tasks: the first task in the order of placing that fits is placed, on the node that its pool's fill type
+//! prefers.
+#![tactic(auto)]
+
+mod place;
+mod ready;
+
+pub use place::place_first;
