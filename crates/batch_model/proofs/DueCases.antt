@@ -1,11 +1,11 @@
 -- Which rows a due step comes from.
-use Rattle.std.proofs.Common.{◌≡◌, ℕ, Bool, true, false, not, ◌&&◌, nat_eq, List, [], ◌∷◌, Option, Some, None, find, is_some, option_map, option_and_then, cond, ◌⊎◌, inl, inr, refl, subst}
+use Rattle.std.proofs.Common.{◌≡◌, ℕ, Bool, true, false, not, ◌&&◌, List, [], ◌∷◌, Option, Some, None, find, is_some, option_map, option_and_then, cond, ◌⊎◌, inl, inr, refl, subst}
 use Rattle.batch_model.specs.Finding.{or_else, first_of, find_map, only_if, has_number_left}
 use Rattle.batch_model.specs.Rows.{pool_of}
 use Rattle.batch_model.specs.Tasks.{main_ending}
 use Rattle.batch_model.specs.Pools.{free_seat}
 use Rattle.batch_model.specs.Settling.{complete, is_to_requeue, requeue, is_to_settle, complete_as_ended, settle}
-use Rattle.batch_model.specs.Placing.{places_tasks, is_placeable, fits, place, place_on, place_in, place_of_job, place_first}
+use Rattle.batch_model.specs.Placing.{places_tasks, is_placeable, choice, place, place_task, place_in, place_of_job, place_first}
 use Rattle.batch_model.specs.Dues.{settle_first, has_reached, pool_steady, pool_timed_out, ends_resize, resize_ended, end_resize, lacks_node, node_added, add_on, add_node, due_step}
 use Rattle.batch_model.specs.Steps.{DueStep}
 use Rattle.batch_model.specs.Variants.{State, PoolRow, NodeRow, JobRow, TaskRow, Ending}
@@ -15,6 +15,10 @@ use Rattle.batch_model.proofs.Tests.{and_first, and_second, not_true}
 abbrev pub has_placing : State → JobRow → Bool
 has_placing s job = is_some (place_of_job s job)
 
+-- the task can be placed
+abbrev pub has_place : State → JobRow → PoolRow → TaskRow → Bool
+has_place s job pool task = is_some (place_task s job pool task)
+
 -- a case for each rule, with the rows that it found and what its tests say of them
 pub data IsDue (seats : ℕ) (s : State) : DueStep → Type 0 where
   requeues : (task : TaskRow) → find (is_to_settle s) s.tasks ≡ Some task → is_to_requeue s task ≡ true → IsDue seats s (requeue s task)
@@ -22,7 +26,7 @@ pub data IsDue (seats : ℕ) (s : State) : DueStep → Type 0 where
   steadies : (pool : PoolRow) → find (ends_resize s) s.pools ≡ Some pool → has_reached s pool ≡ true → IsDue seats s (pool_steady s pool)
   times_out : (pool : PoolRow) → find (ends_resize s) s.pools ≡ Some pool → has_reached s pool ≡ false → IsDue seats s (pool_timed_out s pool)
   adds : (seat : ℕ) (pool : PoolRow) → has_number_left s.next_run ≡ true → has_number_left s.next_node ≡ true → free_seat seats s ≡ Some seat → find (lacks_node s) s.pools ≡ Some pool → IsDue seats s (node_added s seat pool)
-  places : (job : JobRow) (pool : PoolRow) (node : NodeRow) (task : TaskRow) → has_number_left s.next_run ≡ true → find (has_placing s) s.jobs ≡ Some job → places_tasks job ≡ true → pool_of s job.pool ≡ Some pool → pool.deleting ≡ false → nat_eq pool.slots 1 ≡ true → find (fits s pool) s.nodes ≡ Some node → find (is_placeable job) s.tasks ≡ Some task → IsDue seats s (place s node task)
+  places : (job : JobRow) (pool : PoolRow) (node : NodeRow) (task : TaskRow) → has_number_left s.next_run ≡ true → find (has_placing s) s.jobs ≡ Some job → places_tasks job ≡ true → pool_of s job.pool ≡ Some pool → pool.deleting ≡ false → find (has_place s job pool) s.tasks ≡ Some task → is_placeable job task ≡ true → choice s pool task.slots ≡ Some node → IsDue seats s (place s task node)
 
 module _ {A B : Type 0} where
   -- a value made of another, which there is
@@ -103,11 +107,12 @@ module _ (seats : ℕ) (s : State) (step : DueStep) where
       let job = from_first (place_of_job s) s.jobs step left.1 in
       let plain = from_only_if (places_tasks job.0) (option_and_then (place_in s job.0) (pool_of s job.0.pool)) step job.1 in
       let pool = from_then (place_in s job.0) (pool_of s job.0.pool) step plain.1 in
-      let narrow = from_only_if (not pool.0.deleting && nat_eq pool.0.slots 1) (option_and_then (place_on s job.0) (find (fits s pool.0) s.nodes)) step pool.1 in
-      let node = from_then (place_on s job.0) (find (fits s pool.0) s.nodes) step narrow.1 in
-      let task = from_map (place s node.0) (find (is_placeable job.0) s.tasks) step node.1 in
-      subst (IsDue seats s) {x = place s node.0 task.0} task.1
-      (places job.0 pool.0 node.0 task.0 left.0 job.2 plain.0 pool.2 (not_true pool.0.deleting (and_first (not pool.0.deleting) (nat_eq pool.0.slots 1) narrow.0)) (and_second (not pool.0.deleting) (nat_eq pool.0.slots 1) narrow.0) node.2 task.2)
+      let kept = from_only_if (not pool.0.deleting) (find_map (place_task s job.0 pool.0) s.tasks) step pool.1 in
+      let task = from_first (place_task s job.0 pool.0) s.tasks step kept.1 in
+      let ready = from_only_if (is_placeable job.0 task.0) (option_map (place s task.0) (choice s pool.0 task.0.slots)) step task.1 in
+      let node = from_map (place s task.0) (choice s pool.0 task.0.slots) step ready.1 in
+      subst (IsDue seats s) {x = place s task.0 node.0} node.1
+      (places job.0 pool.0 node.0 task.0 left.0 job.2 plain.0 pool.2 (not_true pool.0.deleting kept.0) task.2 ready.0 node.2)
 
   -- one of two cases
   either : {A B : Type 0} → (A → IsDue seats s step) → (B → IsDue seats s step) → A ⊎ B → IsDue seats s step

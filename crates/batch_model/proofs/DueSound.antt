@@ -7,7 +7,7 @@ use Rattle.batch_model.specs.Dues.{due_step}
 use Rattle.batch_model.specs.Steps.{DueStep}
 use Rattle.batch_model.specs.Sound.{IsConsistent, IsWithinLimits, UnendedRunsHaveNoEnd, IsSound}
 use Rattle.batch_model.specs.Variants.{State}
-use Rattle.batch_model.proofs.DueCases.{has_placing, IsDue, requeues, completes, steadies, times_out, adds, places, due_cases}
+use Rattle.batch_model.proofs.DueCases.{has_placing, has_place, IsDue, requeues, completes, steadies, times_out, adds, places, due_cases}
 use Rattle.batch_model.proofs.Completed.{consistent_completed}
 use Rattle.batch_model.proofs.Requeued.{consistent_requeued}
 use Rattle.batch_model.proofs.PoolSteady.{consistent_steady, consistent_timed_out}
@@ -15,8 +15,10 @@ use Rattle.batch_model.proofs.NodeAdded.{consistent_node_added}
 use Rattle.batch_model.proofs.TaskPlaced.{consistent_placed}
 use Rattle.batch_model.proofs.LimitsPools.{limited_steady, limited_timed_out}
 use Rattle.batch_model.proofs.LimitsTasks.{limited_completed, limited_requeued}
-use Rattle.batch_model.proofs.LimitsPlaced.{limited_node_added, limited_placed}
-use Rattle.batch_model.proofs.UnendedRuns.{unended_placed}
+use Rattle.batch_model.proofs.LimitsNodes.{limited_node_added}
+use Rattle.batch_model.proofs.LimitsPlaced.{limited_placed}
+use Rattle.batch_model.proofs.UnendedRuns.{unended_node_added, unended_placed}
+use Rattle.batch_model.proofs.StartsByDue.{starts_by_due}
 
 -- each rule keeps tables consistent
 consistent_by_case : (seats : ℕ) (s : State) (step : DueStep) → IsConsistent seats s → IsDue seats s step → IsConsistent seats step.state
@@ -25,7 +27,7 @@ consistent_by_case seats s step h (completes task ending f e ended) = consistent
 consistent_by_case seats s step h (steadies pool f e) = consistent_steady seats s pool h f
 consistent_by_case seats s step h (times_out pool f e) = consistent_timed_out seats s pool h f
 consistent_by_case seats s step h (adds seat pool runs_left nodes_left free f) = consistent_node_added seats s pool seat h free f
-consistent_by_case seats s step h (places job pool node task left found plain in_pool kept narrow on_node f) = consistent_placed seats s job node task h f pool in_pool narrow on_node
+consistent_by_case seats s step h (places job pool node task left found plain in_pool kept f can chosen) = consistent_placed seats s job node task (has_place s job pool) h f can pool in_pool chosen
 
 -- a due step keeps tables consistent
 pub consistent_by_due : (seats : ℕ) (s : State) (step : DueStep) → IsConsistent seats s → due_step seats s ≡ Some step → IsConsistent seats step.state
@@ -37,8 +39,8 @@ limited_by_case seats s step keys h (requeues task f e) = limited_requeued s tas
 limited_by_case seats s step keys h (completes task ending f e ended) = limited_completed s task (is_to_settle s) h f ending
 limited_by_case seats s step keys h (steadies pool f e) = limited_steady s pool h f
 limited_by_case seats s step keys h (times_out pool f e) = limited_timed_out s pool h f
-limited_by_case seats s step keys h (adds seat pool runs_left nodes_left free f) = limited_node_added s pool seat h nodes_left
-limited_by_case seats s step keys h (places job pool node task left found plain in_pool kept narrow on_node f) = limited_placed s job node task (has_placing s) h keys found plain f left
+limited_by_case seats s step keys h (adds seat pool runs_left nodes_left free f) = limited_node_added s pool seat h nodes_left runs_left
+limited_by_case seats s step keys h (places job pool node task left found plain in_pool kept f can chosen) = limited_placed s job node task (has_placing s) (has_place s job pool) h keys found plain f can left
 
 -- a due step keeps tables within the limits
 pub limited_by_due : (seats : ℕ) (s : State) (step : DueStep) → IsSound seats s → due_step seats s ≡ Some step → IsWithinLimits step.state
@@ -50,8 +52,8 @@ unended_by_case seats s step h (requeues task f e) = h
 unended_by_case seats s step h (completes task ending f e ended) = h
 unended_by_case seats s step h (steadies pool f e) = h
 unended_by_case seats s step h (times_out pool f e) = h
-unended_by_case seats s step h (adds seat pool runs_left nodes_left free f) = h
-unended_by_case seats s step h (places job pool node task left found plain in_pool kept narrow on_node f) = unended_placed s node task h
+unended_by_case seats s step h (adds seat pool runs_left nodes_left free f) = unended_node_added s pool seat h
+unended_by_case seats s step h (places job pool node task left found plain in_pool kept f can chosen) = unended_placed s node task h
 
 -- so does a due step
 pub unended_by_due : (seats : ℕ) (s : State) (step : DueStep) → UnendedRunsHaveNoEnd s → due_step seats s ≡ Some step → UnendedRunsHaveNoEnd step.state
@@ -63,4 +65,5 @@ sound_by_due seats s step h e = record {
   consistent = consistent_by_due seats s step h.consistent e;
   limited = limited_by_due seats s step h e;
   unended = unended_by_due seats s step h.unended e;
+  starts = starts_by_due seats s step h e;
 }

@@ -12,6 +12,7 @@ pub mod SoundMoment
 pub mod PoolAdded
 pub mod JobAdded
 pub mod TaskAdded
+pub mod NodeChosen
 pub mod TaskPlaced
 pub mod Putting
 pub mod MappedRows

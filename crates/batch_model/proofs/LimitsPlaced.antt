@@ -1,5 +1,5 @@
--- Tables stay within the limits when a pool gets a node, and when a task is placed.
-use Rattle.std.proofs.Common.{◌≡◌, ℕ, ◌+◌, ◌≤◌, Bool, true, false, not, ◌&&◌, ◌||◌, nat_eq, nat_le, Some, find, refl, sym, ◌∙◌, arith}
+-- Tables stay within the limits when a task is placed.
+use Rattle.std.proofs.Common.{◌≡◌, ℕ, ◌+◌, ◌≤◌, Bool, true, false, not, ◌&&◌, ◌||◌, nat_le, Some, find, refl, sym, ◌∙◌, arith}
 use Rattle.std.specs.List.{list_any}
 use Rattle.std.proofs.lemmas.Bool.Decides.{nat_tests}
 use Rattle.bt_base.specs.Ids.{same}
@@ -11,16 +11,15 @@ use Rattle.bt_rows.proofs.DistinctRows.{found_first}
 use Rattle.batch_model.specs.Finding.{last_number, has_number_left}
 use Rattle.batch_model.specs.Rows.{is_task}
 use Rattle.batch_model.specs.Runs.{work_run}
-use Rattle.batch_model.specs.Tasks.{is_placed_in}
+use Rattle.batch_model.specs.Tasks.{is_in_job, is_placed_in}
 use Rattle.batch_model.specs.Jobs.{is_job_active, is_quiet}
-use Rattle.batch_model.specs.Placing.{places_tasks, is_placeable, placed, place}
-use Rattle.batch_model.specs.Dues.{new_node, node_added}
+use Rattle.batch_model.specs.Placing.{places_tasks, is_ready, is_placeable, placed, place}
 use Rattle.batch_model.specs.Limits.{task_limit}
 use Rattle.batch_model.specs.Sound.{IsWithinLimits}
-use Rattle.batch_model.specs.WellFormed.{is_node_in_range, is_task_in_range, is_task_valid, is_run_valid, has_no_placed_if_quiet}
-use Rattle.batch_model.specs.Variants.{State, PoolRow, NodeRow, JobRow, JobState, JobActive, Disabling, Disabled, Enabling, Terminating, JobCompleted, Deleting, TaskRow, RunRow, TaskRun, Queued}
+use Rattle.batch_model.specs.WellFormed.{is_task_in_range, is_task_valid, is_run_valid, has_no_placed_if_quiet}
+use Rattle.batch_model.specs.Variants.{State, NodeRow, JobRow, JobState, JobActive, Disabling, Disabled, Enabling, Terminating, JobCompleted, Deleting, TaskRow, RunRow, TaskRun, Queued}
 use Rattle.batch_model.proofs.Tests.{and_true, and_first, and_second, asked}
-use Rattle.batch_model.proofs.RowLists.{each_append, each_of_two, each_found, find_test, any_none, none_any}
+use Rattle.batch_model.proofs.RowLists.{each_append, each_of_two, each_found, any_none, none_any}
 use Rattle.batch_model.proofs.ChangedRows.{each_change_same}
 use Rattle.batch_model.proofs.DistinctLists.{each_with_key}
 use Rattle.batch_model.proofs.LimitsAdded.{is_not_after_itself}
@@ -41,29 +40,6 @@ left_in_range : (next more : ℕ) → 1 ≤ next → has_number_left next ≡ tr
 left_in_range next more first left =
     let most : next ≤ last_number = ordered next last_number left in
     and_true (tested 1 next first) (tested next (last_number + more) (omega (arith, most)))
-
--- a node
-
--- while node numbers last
-pub limited_node_added : (s : State) (pool : PoolRow) (seat : ℕ) → IsWithinLimits s → has_number_left s.next_node ≡ true → IsWithinLimits (node_added s seat pool).state
-limited_node_added s pool seat h left =
-    let most : s.next_node ≤ last_number = ordered s.next_node last_number left in
-    record {
-      rows = record {
-        moment = h.rows.moment;
-        pools = h.rows.pools;
-        nodes = each_append is_node_in_range s.nodes (new_node s pool seat) h.rows.nodes (and_true (tested 1 s.next_node h.counts.first_node) left);
-        jobs = h.rows.jobs;
-        tasks = h.rows.tasks;
-        runs = h.rows.runs;
-        samples = h.rows.samples;
-        scales = h.rows.scales;
-      };
-      counts = record { pools = h.counts.pools; jobs = h.counts.jobs; tasks = h.counts.tasks; first_node = omega arith; next_node = omega (arith, most); first_run = h.counts.first_run; next_run = h.counts.next_run };
-      quiet = h.quiet;
-      pools = record { deleting = h.pools.deleting; pools_of_scales = h.pools.pools_of_scales; pools_of_samples = h.pools.pools_of_samples; labels = h.pools.labels; order = h.pools.order; covered = h.pools.covered; kept = h.pools.kept };
-      built = record { tries = each_append (λ (node : NodeRow). nat_eq node.tries 0) s.nodes (new_node s pool seat) h.built.tries refl; preps = h.built.preps };
-    }
 
 -- a task that is placed
 
@@ -87,17 +63,17 @@ active_loud Terminating h = refl
 active_loud JobCompleted h = cc
 active_loud Deleting h = refl
 
-module _ (s : State) (job : JobRow) (node : NodeRow) (task : TaskRow) (test : JobRow → Bool) (h : IsWithinLimits s) (keys : AreDistinct same_job s.jobs) (there : find test s.jobs ≡ Some job) (active : places_tasks job ≡ true) (f : find (is_placeable job) s.tasks ≡ Some task) where
+module _ (s : State) (job : JobRow) (node : NodeRow) (task : TaskRow) (test : JobRow → Bool) (task_test : TaskRow → Bool) (h : IsWithinLimits s) (keys : AreDistinct same_job s.jobs) (there : find test s.jobs ≡ Some job) (active : places_tasks job ≡ true) (f : find task_test s.tasks ≡ Some task) (can : is_placeable job task ≡ true) where
   -- the tables after the step, and the new run
   abbrev after : State
-  after = (place s node task).state
+  after = (place s task node).state
 
   abbrev run : RunRow
   run = work_run s node (placed task) TaskRun task.line task.slots Queued
 
   -- the task is valid
   task_valid : is_task_valid s.moment task ≡ true
-  task_valid = each_found (is_task_valid s.moment) (is_placeable job) task s.tasks f h.rows.tasks
+  task_valid = each_found (is_task_valid s.moment) task_test task s.tasks f h.rows.tasks
 
   -- it needs at most 8 slots
   few_slots : nat_le task.slots 8 ≡ true
@@ -121,7 +97,7 @@ module _ (s : State) (job : JobRow) (node : NodeRow) (task : TaskRow) (test : Jo
 
   -- the task is one of the job
   of_job : same task.job job.id ≡ true
-  of_job = and_second _ _ (and_first _ _ (and_first _ _ (and_first _ _ (and_first _ _ (find_test (is_placeable job) task s.tasks f)))))
+  of_job = and_first (is_in_job job.id task) (is_ready task) can
 
   -- a job with the id of this one isn't quiet
   loud : (other : JobRow) → (not (same_job other job) || not (is_quiet other.state)) ≡ true → same task.job other.id ≡ true → not (is_quiet other.state) ≡ true
@@ -148,7 +124,7 @@ module _ (s : State) (job : JobRow) (node : NodeRow) (task : TaskRow) (test : Jo
       either false e = less_placed (is_quiet other.state) (list_any (is_placed_in other.id) s.tasks) (list_any (is_placed_in other.id) after.tasks) (elsewhere e)
 
   -- a task of an active job, while run numbers last
-  pub limited_placed : has_number_left s.next_run ≡ true → IsWithinLimits (place s node task).state
+  pub limited_placed : has_number_left s.next_run ≡ true → IsWithinLimits (place s task node).state
   limited_placed left =
       let most : s.next_run ≤ last_number = ordered s.next_run last_number left in
       record {
@@ -178,5 +154,5 @@ module _ (s : State) (job : JobRow) (node : NodeRow) (task : TaskRow) (test : Jo
             (active_loud job.state (and_first _ _ (and_first _ _ (and_first _ _ active)))))
             h.quiet;
         pools = record { deleting = h.pools.deleting; pools_of_scales = h.pools.pools_of_scales; pools_of_samples = h.pools.pools_of_samples; labels = h.pools.labels; order = h.pools.order; covered = h.pools.covered; kept = h.pools.kept };
-        built = record { tries = h.built.tries; preps = h.built.preps };
+        built = record { preps = h.built.preps };
       }

@@ -11,18 +11,19 @@ use Rattle.bt_rows.specs.Lists.{AreDistinct}
 use Rattle.bt_rows.proofs.DistinctRows.{found_first}
 use Rattle.batch_model.specs.Finding.{names, change_where}
 use Rattle.batch_model.specs.Rows.{is_pool, is_node, is_task, pool_of}
-use Rattle.batch_model.specs.Runs.{is_main, is_work, is_unended, is_run_of_task, ending_of, work_run}
+use Rattle.batch_model.specs.Runs.{is_start, is_main, is_work, is_unended, is_run_of_task, ending_of, work_run}
 use Rattle.batch_model.specs.Tasks.{is_active, is_placed, is_completed, is_undisturbed, is_busy, main_ending}
 use Rattle.batch_model.specs.Slots.{owns, holds_on, held_slots}
-use Rattle.batch_model.specs.Placing.{is_placeable, fits, placed, place}
+use Rattle.batch_model.specs.Placing.{is_placeable, fits, choice, placed, place}
 use Rattle.batch_model.specs.Sound.{IsConsistent, has_node_while_unended, belongs, can_be_settled, fits_nodes, names_no_task, has_slots_for}
 use Rattle.batch_model.specs.WellFormed.{has_fitting_marks, is_closed_if_completed, has_job_row, has_named_job, is_task_of_attempt, has_named_task, are_one_attempt}
 use Rattle.batch_model.specs.Variants.{State, PoolRow, NodeRow, JobRow, TaskRow, RunRow, TaskStage, Active, Placed, Completed, TaskRun, Queued}
 use Rattle.batch_model.proofs.Tests.{and_true, and_first, and_second, or_first, true_not, not_true, asked, under}
-use Rattle.batch_model.proofs.RowLists.{each_append, each_weaker, each_of_two, each_found, find_test, find_append_old, any_append_old, any_found, any_weaker, any_weaker_where, none_any}
+use Rattle.batch_model.proofs.RowLists.{each_append, each_weaker, each_of_two, each_found, find_append_old, any_append_old, any_found, any_weaker, any_weaker_where, none_any}
 use Rattle.batch_model.proofs.ChangedRows.{changed, each_change, each_change_same, any_change}
 use Rattle.batch_model.proofs.DistinctLists.{distinct_append, distinct_change, each_with_key}
 use Rattle.batch_model.proofs.KeyedLists.{put_is_change, sum_by-fewer}
+use Rattle.batch_model.proofs.NodeChosen.{chosen_fits, chosen_first}
 use Rattle.batch_model.proofs.NodeAdded.{below_other, below_next, below_own_next}
 use Rattle.batch_model.proofs.DueFalls.{placeable_active, active_counts, new_run_present}
 
@@ -77,9 +78,9 @@ at_most_equal a b c e h = grind (arith, nat_tests)
 less_is_enough : (a b c : ℕ) → a ≤ b → nat_le b c ≡ true → nat_le a c ≡ true
 less_is_enough a b c h k = grind (arith, nat_tests)
 
--- what is no more than one is at most one
-one_is_enough : (a b c : ℕ) → a ≤ b → nat_eq b 1 ≡ true → nat_eq c 1 ≡ true → nat_le a c ≡ true
-one_is_enough a b c h k l = grind (arith, nat_tests)
+-- what grows by no more than is free is no more than there is
+room_is_enough : (a b c d : ℕ) → a ≤ b + c → nat_le (b + c) d ≡ true → nat_le a d ≡ true
+room_is_enough a b c d h k = grind (arith, nat_tests)
 
 -- numbers that pass the test are equal
 equal_numbers : (a b : ℕ) → nat_eq a b ≡ true → a ≡ b
@@ -107,10 +108,6 @@ or_other : (a b : Bool) → (a || b) ≡ true → a ≡ false → b ≡ true
 or_other true b h k = cc
 or_other false b h k = h
 
--- a task that can be placed needs one slot
-placeable_slots : (job : JobRow) (task : TaskRow) → is_placeable job task ≡ true → nat_eq task.slots 1 ≡ true
-placeable_slots job task h = and_second _ _ (and_first _ _ (and_first _ _ (and_first _ _ h)))
-
 -- an active task isn't placed
 active_unplaced : (stage : TaskStage) → is_active stage ≡ true → is_placed stage ≡ false
 active_unplaced Active h = refl
@@ -127,10 +124,10 @@ ending_kept : (p : RunRow → Bool) (runs : List RunRow) (run : RunRow) (o : Opt
 ending_kept p runs run None e h = cc
 ending_kept p runs run (Some main) e h = rw (find_append_old p runs run main e) h
 
-module _ (seats : ℕ) (s : State) (job : JobRow) (node : NodeRow) (task : TaskRow) (h : IsConsistent seats s) (f : find (is_placeable job) s.tasks ≡ Some task) where
+module _ (seats : ℕ) (s : State) (job : JobRow) (node : NodeRow) (task : TaskRow) (test : TaskRow → Bool) (h : IsConsistent seats s) (f : find test s.tasks ≡ Some task) (can : is_placeable job task ≡ true) where
   -- the tables after the step, and the new run
   abbrev after : State
-  after = (place s node task).state
+  after = (place s task node).state
 
   abbrev run : RunRow
   run = work_run s node (placed task) TaskRun task.line task.slots Queued
@@ -141,11 +138,11 @@ module _ (seats : ℕ) (s : State) (job : JobRow) (node : NodeRow) (task : TaskR
 
   -- the task is the one with its key
   first : find (λ (other : TaskRow). same_task other task) s.tasks ≡ Some task
-  first = found_first same_task same_task_equiv (is_placeable job) task s.tasks h.keys.tasks f
+  first = found_first same_task same_task_equiv test task s.tasks h.keys.tasks f
 
   -- it was active
   active : is_active task.stage ≡ true
-  active = placeable_active job task (find_test (is_placeable job) task s.tasks f)
+  active = placeable_active job task can
 
   -- the task is changed in its place
   tasks_changed : after.tasks ≡ change_where is_it placed s.tasks
@@ -155,7 +152,7 @@ module _ (seats : ℕ) (s : State) (job : JobRow) (node : NodeRow) (task : TaskR
   placed_there : (p : TaskRow → Bool) → p (placed task) ≡ true → list_any p after.tasks ≡ true
   placed_there p k =
       any_change is_it (λ (old : TaskRow). placed task) is_it p (λ x t e. k) (λ x t e. cc) s.tasks
-      (any_found is_it (is_placeable job) task s.tasks f (same_task_equiv.refl task))
+      (any_found is_it test task s.tasks f (same_task_equiv.refl task))
 
   -- ids of tasks stay distinct
   tasks_distinct : AreDistinct same_task after.tasks
@@ -169,7 +166,7 @@ module _ (seats : ℕ) (s : State) (job : JobRow) (node : NodeRow) (task : TaskR
   placed_unclosed : is_closed_if_completed (placed task) ≡ true
   placed_unclosed =
       unclosed (is_completed task.stage) (is_some task.closed) (is_none task.closed) (active_counts task.stage active)
-      (each_found is_closed_if_completed (is_placeable job) task s.tasks f h.fitting.closing)
+      (each_found is_closed_if_completed test task s.tasks f h.fitting.closing)
 
   -- a run that names a task still names one
   named_kept : (old : RunRow) → has_named_task s old ≡ true → has_named_task after old ≡ true
@@ -283,18 +280,18 @@ module _ (seats : ℕ) (s : State) (job : JobRow) (node : NodeRow) (task : TaskR
 
   -- on the node
 
-  module _ (pool : PoolRow) (in_pool : pool_of s job.pool ≡ Some pool) (narrow : nat_eq pool.slots 1 ≡ true) (on_node : find (fits s pool) s.nodes ≡ Some node) where
+  module _ (pool : PoolRow) (in_pool : pool_of s job.pool ≡ Some pool) (chosen : choice s pool task.slots ≡ Some node) where
     -- the node fits
-    fitting_node : fits s pool node ≡ true
-    fitting_node = find_test (fits s pool) node s.nodes on_node
+    fitting_node : fits s pool task.slots node ≡ true
+    fitting_node = chosen_fits s pool task.slots node chosen
 
-    -- it held no slots
-    empty_node : held_slots s node.number ≡ 0
-    empty_node = equal_numbers (held_slots s node.number) 0 (and_second _ _ fitting_node)
+    -- it had the task's slots free
+    free_node : nat_le (held_slots s node.number + task.slots) pool.slots ≡ true
+    free_node = and_second _ _ fitting_node
 
     -- the node is the one with its number
     first_node : find (λ (other : NodeRow). same_node other node) s.nodes ≡ Some node
-    first_node = found_first same_node same_node_equiv (fits s pool) node s.nodes h.keys.nodes on_node
+    first_node = chosen_first s pool task.slots node chosen h.keys.nodes
 
     -- the pool is the one with its key
     first_pool : find (λ (other : PoolRow). same_pool other pool) s.pools ≡ Some pool
@@ -306,24 +303,20 @@ module _ (seats : ℕ) (s : State) (job : JobRow) (node : NodeRow) (task : TaskR
         each_with_key same_node same_node_equiv (λ (other : NodeRow). same other.pool node.pool && true) node node s.nodes h.keys.nodes first_node
         (and_true (same_equiv.refl node.pool) refl)
 
-    -- where the new run is, it alone holds slots, and the pool has one
+    -- where the new run is, it holds no more than was free
     slots_on_node : (other : NodeRow) → nat_eq node.number other.number ≡ true → same other.pool pool.id ≡ true → has_slots_for after other ≡ true
     slots_on_node other e i =
-        each_weaker (λ (each : PoolRow). not (same_pool each pool) || nat_eq each.slots 1) (λ (each : PoolRow). not (is_pool other.pool each) || nat_le (held_slots after other.number) each.slots)
+        each_weaker (λ (each : PoolRow). not (same_pool each pool) || nat_le (held_slots s node.number + task.slots) each.slots) (λ (each : PoolRow). not (is_pool other.pool each) || nat_le (held_slots after other.number) each.slots)
         (λ each k.
         under (is_pool other.pool each) (nat_le (held_slots after other.number) each.slots) (λ t.
-        one_is_enough (held_slots after other.number) task.slots each.slots at_most one
-        (asked (same_pool each pool) (nat_eq each.slots 1) k (same_equiv.congr each.id other.pool pool.id t ∙ i))))
-        s.pools (each_with_key same_pool same_pool_equiv (λ (each : PoolRow). nat_eq each.slots 1) pool pool s.pools h.keys.pools first_pool narrow)
+        room_is_enough (held_slots after other.number) (held_slots s node.number) task.slots each.slots at_most
+        (asked (same_pool each pool) (nat_le (held_slots s node.number + task.slots) each.slots) k (same_equiv.congr each.id other.pool pool.id t ∙ i))))
+        s.pools (each_with_key same_pool same_pool_equiv (λ (each : PoolRow). nat_le (held_slots s node.number + task.slots) each.slots) pool pool s.pools h.keys.pools first_pool free_node)
       where
-        one : nat_eq task.slots 1 ≡ true
-        one = placeable_slots job task (find_test (is_placeable job) task s.tasks f)
-
-        empty_before : held_slots s other.number ≡ 0
-        empty_before = subst (λ n. held_slots s n ≡ 0) (equal_numbers node.number other.number e) empty_node
-
-        at_most : held_slots after other.number ≤ task.slots
-        at_most = let m : held_slots after other.number ≤ held_slots s other.number + task.slots = subst (λ b. held_slots after other.number ≤ held_slots s other.number + cond b task.slots 0) e (held_after other.number) in omega (arith, m, empty_before)
+        at_most : held_slots after other.number ≤ held_slots s node.number + task.slots
+        at_most =
+            subst (λ n. held_slots after n ≤ held_slots s node.number + task.slots) (equal_numbers node.number other.number e)
+            (subst (λ b. held_slots after node.number ≤ held_slots s node.number + cond b task.slots 0) (is_itself node.number) (held_after node.number))
 
     -- elsewhere nothing changes
     slots_elsewhere : (other : NodeRow) → nat_eq node.number other.number ≡ false → has_slots_for s other ≡ true → has_slots_for after other ≡ true
@@ -347,7 +340,7 @@ module _ (seats : ℕ) (s : State) (job : JobRow) (node : NodeRow) (task : TaskR
         either false e = slots_elsewhere other e k
 
     -- a task that is placed keeps tables sound
-    pub consistent_placed : IsConsistent seats (place s node task).state
+    pub consistent_placed : IsConsistent seats (place s task node).state
     consistent_placed = record {
       keys = record {
         pools = h.keys.pools;
@@ -369,7 +362,7 @@ module _ (seats : ℕ) (s : State) (job : JobRow) (node : NodeRow) (task : TaskR
         nodes = h.numbers.nodes;
         nodes_of_runs =
             each_append (λ (each : RunRow). nat_lt each.node s.next_node) s.runs run h.numbers.nodes_of_runs
-            (each_found (λ (each : NodeRow). nat_lt each.number s.next_node) (fits s pool) node s.nodes on_node h.numbers.nodes);
+            (each_found (λ (each : NodeRow). nat_lt each.number s.next_node) (λ (each : NodeRow). same_node each node) node s.nodes first_node h.numbers.nodes);
         order = h.numbers.order;
       };
       fitting = record {
@@ -378,7 +371,7 @@ module _ (seats : ℕ) (s : State) (job : JobRow) (node : NodeRow) (task : TaskR
         attempts =
             each_change is_it (λ (old : TaskRow). placed task)
             (λ (each : TaskRow). nat_lt each.attempt s.next_run) (λ (each : TaskRow). nat_lt each.attempt (s.next_run + 1))
-            (λ x t p. next_below task.attempt s.next_run (each_found (λ (each : TaskRow). nat_lt each.attempt s.next_run) (is_placeable job) task s.tasks f h.fitting.attempts))
+            (λ x t p. next_below task.attempt s.next_run (each_found (λ (each : TaskRow). nat_lt each.attempt s.next_run) test task s.tasks f h.fitting.attempts))
             (λ x t. below_next x.attempt s.next_run) s.tasks h.fitting.attempts;
       };
       named = record {
@@ -396,7 +389,7 @@ module _ (seats : ℕ) (s : State) (job : JobRow) (node : NodeRow) (task : TaskR
         pools_of_nodes = h.seated.pools_of_nodes;
         nodes_of_runs =
             each_append (has_node_while_unended s) s.runs run h.seated.nodes_of_runs
-            (any_found (is_node node.number) (fits s pool) node s.nodes on_node (is_itself node.number));
+            (any_found (is_node node.number) (λ (each : NodeRow). same_node each node) node s.nodes first_node (is_itself node.number));
       };
       belonging = each_append (belongs after) s.runs run (each_weaker (belongs s) (belongs after) belongs_still s.runs h.belonging) is_owned;
       ending =
@@ -411,13 +404,13 @@ module _ (seats : ℕ) (s : State) (job : JobRow) (node : NodeRow) (task : TaskR
           (each_with_key same_node same_node_equiv (λ (other : NodeRow). same other.pool pool.id) node node s.nodes h.keys.nodes first_node (and_second _ _ (and_first _ _ fitting_node)))
           h.slots;
       built = record {
-        runs = each_append (λ (each : RunRow). is_main each.kind || not (is_unended each.state)) s.runs run h.built.runs refl;
+        runs = each_append (λ (each : RunRow). is_start each.kind || is_main each.kind || not (is_unended each.state)) s.runs run h.built.runs refl;
         nodes = h.built.nodes;
       };
     }
       where
         has_job : has_job_row s task.job ≡ true
-        has_job = each_found (λ (each : TaskRow). has_job_row s each.job) (is_placeable job) task s.tasks f h.named.jobs_of_tasks
+        has_job = each_found (λ (each : TaskRow). has_job_row s each.job) test task s.tasks f h.named.jobs_of_tasks
 
         number_is_new : list_any (λ (each : RunRow). same_run each run) s.runs ≡ false
         number_is_new =

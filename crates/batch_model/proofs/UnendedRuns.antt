@@ -32,5 +32,5 @@ pub unended_ended : (s : State) (ending : Ending) (run : RunRow) → UnendedRuns
 unended_ended s ending run = each_change_same (is_run run.number) (ended_run s.moment ending) has_no_end_yet (λ row t p. refl) s.runs
 
 -- a new run has no end
-pub unended_placed : (s : State) (node : NodeRow) (task : TaskRow) → UnendedRunsHaveNoEnd s → UnendedRunsHaveNoEnd (place s node task).state
+pub unended_placed : (s : State) (node : NodeRow) (task : TaskRow) → UnendedRunsHaveNoEnd s → UnendedRunsHaveNoEnd (place s task node).state
 unended_placed s node task h = each_append has_no_end_yet s.runs (work_run s node (placed task) TaskRun task.line task.slots Queued) h refl
