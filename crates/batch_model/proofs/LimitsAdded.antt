@@ -83,7 +83,7 @@ limited_pool_added s spec h in_range room = record {
     covered = h.pools.covered;
     kept = h.pools.kept;
   };
-  built = record { tries = h.built.tries; preps = h.built.preps };
+  built = record { preps = h.built.preps };
 }
 
 -- a job
@@ -106,7 +106,7 @@ limited_job_added s id in_pool spec h in_range room = record {
   counts = record { pools = h.counts.pools; jobs = takes_one job_limit s.jobs (new_job s.moment id in_pool spec) room; tasks = h.counts.tasks; first_node = h.counts.first_node; next_node = h.counts.next_node; first_run = h.counts.first_run; next_run = h.counts.next_run };
   quiet = each_append (has_no_placed_if_quiet s) s.jobs (new_job s.moment id in_pool spec) h.quiet refl;
   pools = record { deleting = h.pools.deleting; pools_of_scales = h.pools.pools_of_scales; pools_of_samples = h.pools.pools_of_samples; labels = h.pools.labels; order = h.pools.order; covered = h.pools.covered; kept = h.pools.kept };
-  built = record { tries = h.built.tries; preps = h.built.preps };
+  built = record { preps = h.built.preps };
 }
 
 -- a task
@@ -139,5 +139,5 @@ limited_task_added s in_job spec h in_range short room = record {
       (λ job k. ap (λ b. not (is_quiet job.state && b)) (any_append_same (is_placed_in job.id) s.tasks (new_task in_job spec) refl) ∙ k)
       s.jobs h.quiet;
   pools = record { deleting = h.pools.deleting; pools_of_scales = h.pools.pools_of_scales; pools_of_samples = h.pools.pools_of_samples; labels = h.pools.labels; order = h.pools.order; covered = h.pools.covered; kept = h.pools.kept };
-  built = record { tries = h.built.tries; preps = h.built.preps };
+  built = record { preps = h.built.preps };
 }

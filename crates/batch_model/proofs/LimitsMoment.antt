@@ -17,7 +17,7 @@ limited_empty = record {
   counts = record { pools = omega arith; jobs = omega arith; tasks = omega arith; first_node = omega arith; next_node = omega arith; first_run = omega arith; next_run = omega arith };
   quiet = refl;
   pools = record { deleting = refl; pools_of_scales = refl; pools_of_samples = refl; labels = refl; order = tt; covered = refl; kept = refl };
-  built = record { tries = refl; preps = refl };
+  built = record { preps = refl };
 }
 
 module _ (now later : ℕ) (h : now ≤ later) where
@@ -83,5 +83,5 @@ limited_moment now s last h =
       counts = record { pools = h.counts.pools; jobs = h.counts.jobs; tasks = h.counts.tasks; first_node = h.counts.first_node; next_node = h.counts.next_node; first_run = h.counts.first_run; next_run = h.counts.next_run };
       quiet = h.quiet;
       pools = record { deleting = h.pools.deleting; pools_of_scales = h.pools.pools_of_scales; pools_of_samples = h.pools.pools_of_samples; labels = h.pools.labels; order = h.pools.order; covered = h.pools.covered; kept = h.pools.kept };
-      built = record { tries = h.built.tries; preps = h.built.preps };
+      built = record { preps = h.built.preps };
     }

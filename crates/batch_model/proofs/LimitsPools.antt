@@ -59,7 +59,7 @@ module _ (s : State) (pool : PoolRow) where
       covered = h.pools.covered;
       kept = h.pools.kept;
     };
-    built = record { tries = h.built.tries; preps = h.built.preps };
+    built = record { preps = h.built.preps };
   }
 
 module _ (s : State) (pool : PoolRow) (h : IsWithinLimits s) (f : find (ends_resize s) s.pools ≡ Some pool) where

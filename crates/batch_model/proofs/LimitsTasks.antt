@@ -62,7 +62,7 @@ module _ (s : State) (task : TaskRow) where
         (λ job. less_placed (is_quiet job.state) (list_any (is_placed_in job.id) s.tasks) (list_any (is_placed_in job.id) (put_task task s).tasks) (none_placed out job))
         s.jobs h.quiet;
     pools = record { deleting = h.pools.deleting; pools_of_scales = h.pools.pools_of_scales; pools_of_samples = h.pools.pools_of_samples; labels = h.pools.labels; order = h.pools.order; covered = h.pools.covered; kept = h.pools.kept };
-    built = record { tries = h.built.tries; preps = h.built.preps };
+    built = record { preps = h.built.preps };
   }
 
 module _ (s : State) (task : TaskRow) (test : TaskRow → Bool) (h : IsWithinLimits s) (f : find test s.tasks ≡ Some task) where

@@ -8,7 +8,7 @@ use Rattle.bt_rows.specs.Keys.{same_pool, same_task, same_run}
 use Rattle.bt_rows.specs.Ranges.{passes_if_some, is_slot_count, is_target, is_resize_timeout, is_start_in_range}
 use Rattle.batch_model.specs.Finding.{Each, change_where}
 use Rattle.batch_model.specs.Rows.{is_pool}
-use Rattle.batch_model.specs.Runs.{is_unended, is_main, is_work, is_preparation, is_release, is_present, ending_of}
+use Rattle.batch_model.specs.Runs.{is_unended, is_start, is_main, is_work, is_preparation, is_release, is_present, ending_of}
 use Rattle.batch_model.specs.Tasks.{is_placed, is_placed_in, is_undisturbed, is_busy, main_ending}
 use Rattle.batch_model.specs.Jobs.{is_quiet}
 use Rattle.batch_model.specs.Pools.{is_stopping, is_resizing}
@@ -237,7 +237,7 @@ module _ (s : State) (h : IsWellFormed s) where
     };
     slots = refl;
     built = record {
-      runs = each_weaker is_over (λ run. is_main run.kind || not (is_unended run.state)) (λ run. or_second (is_main run.kind)) (opening s).runs over;
+      runs = each_weaker is_over (λ run. is_start run.kind || is_main run.kind || not (is_unended run.state)) (λ run. or_second (is_start run.kind || is_main run.kind)) (opening s).runs over;
       nodes = refl;
     };
   }
@@ -291,7 +291,7 @@ module _ (s : State) (h : IsWellFormed s) where
     counts = opening_counts;
     quiet = each_weaker (has_no_placed_if_quiet s) (has_no_placed_if_quiet (opening s)) quiet_kept s.jobs h.quiet;
     pools = opening_pools;
-    built = record { tries = refl; preps = refl };
+    built = record { preps = refl };
   }
 
 -- the opening of well-formed tables is sound, whatever the seats
@@ -300,4 +300,5 @@ sound_by_opening seats s h = record {
   consistent = opening_consistent s h seats;
   limited = opening_limited s h;
   unended = each_weaker is_over has_no_end_yet (λ run. or_first (is_none run.ended)) (opening s).runs (runs_over s.moment s.runs);
+  starts = record { usable = refl; tries = refl };
 }

@@ -1,24 +1,25 @@
 -- The event `take` keeps the tables sound.
-use Rattle.std.proofs.Common.{◌≡◌, ℕ, Bool, true, false, not, ◌&&◌, ◌||◌, List, map, Option, Some, None, cond, is_none, refl, sym, ◌∙◌, ap, subst}
+use Rattle.std.proofs.Common.{◌≡◌, ℕ, Bool, true, false, not, ◌&&◌, ◌||◌, List, [], ◌∷◌, map, Option, Some, None, cond, is_none, inl, inr, refl, sym, ◌∙◌, ap, subst}
 use Rattle.std.specs.List.{list_any, find}
 use Rattle.std.specs.Option.{unwrap_or}
 use Rattle.bt_base.specs.Ids.{same}
 use Rattle.bt_base.proofs.SameIds.{same_equiv}
 use Rattle.bt_rows.specs.Keys.{same_run, same_run_equiv, same_task, same_task_equiv}
 use Rattle.bt_rows.proofs.DistinctRows.{find-passes}
-use Rattle.batch_model.specs.Finding.{names}
+use Rattle.batch_model.specs.Finding.{names, change_where}
 use Rattle.batch_model.specs.Rows.{is_run, change_runs}
-use Rattle.batch_model.specs.Runs.{is_queued, is_unended, is_main, is_work}
+use Rattle.batch_model.specs.Runs.{is_queued, is_unended, is_start, is_main, is_work}
 use Rattle.batch_model.specs.Tasks.{is_placed, is_undisturbed}
 use Rattle.batch_model.specs.Slots.{owns}
 use Rattle.batch_model.specs.Events.{taken_run, started_task, is_task_of_run, run_taken}
-use Rattle.batch_model.specs.Sound.{IsConsistent, belongs, can_be_settled}
+use Rattle.batch_model.specs.Sound.{IsConsistent, has_node_while_unended, belongs, can_be_settled, fits_nodes}
 use Rattle.batch_model.specs.WellFormed.{has_fitting_marks, is_closed_if_completed}
 use Rattle.batch_model.specs.Variants.{State, TaskRow, RunKind, StartRun, PrepRun, TaskRun, CoordinationRun, ReleaseRun, RunRow, RunState, Waiting, Queued, Taken, Ended, Withdrawn}
-use Rattle.batch_model.proofs.Tests.{and_true, and_first, and_second, asked}
+use Rattle.batch_model.proofs.Tests.{passes_or_not, and_true, and_first, and_second, or_false, asked}
 use Rattle.batch_model.proofs.RowLists.{each_found, each_weaker, find_any}
 use Rattle.batch_model.proofs.MappedRows.{each_map, any_map, map_found}
-use Rattle.batch_model.proofs.RunsMove.{Moves, moves_same, moves_if, moved, consistent_moved, unended_main}
+use Rattle.batch_model.proofs.RunsMove.{Moves, moves_same, moves_if, moved, consistent_moved, start_names_none}
+use Rattle.batch_model.proofs.ChangedRows.{change_none}
 use Rattle.batch_model.proofs.TasksKept.{Marks, marked, consistent_marked}
 
 -- a queued run is taken, and others stay
@@ -166,19 +167,50 @@ main_works TaskRun h = refl
 main_works CoordinationRun h = refl
 main_works ReleaseRun h = cc
 
--- a placed task owns a queued run
-owned_while_queued : (seats : ℕ) (s : State) (run : RunRow) → IsConsistent seats s → find (is_run run.number) s.runs ≡ Some run → is_queued run.state ≡ true → list_any (owns run) s.tasks ≡ true
-owned_while_queued seats s run h found queued =
+-- a run that has not ended and is no start run is a main run
+other_main : (start main unended : Bool) → (start || main || not unended) ≡ true → start ≡ false → unended ≡ true → main ≡ true
+other_main true main unended h n u = cc
+other_main false true unended h n u = refl
+other_main false false true h n u = cc
+other_main false false false h n u = cc
+
+-- a placed task owns a queued run that is no start run
+owned_while_queued : (seats : ℕ) (s : State) (run : RunRow) → IsConsistent seats s → find (is_run run.number) s.runs ≡ Some run → is_queued run.state ≡ true → is_start run.kind ≡ false → list_any (owns run) s.tasks ≡ true
+owned_while_queued seats s run h found queued other =
     let unended : is_unended run.state ≡ true = queued_unended run.state queued in
     let main : is_main run.kind ≡ true =
-    unended_main (is_main run.kind) (is_unended run.state) (each_found (λ (row : RunRow). is_main row.kind || not (is_unended row.state)) (is_run run.number) run s.runs found h.built.runs) unended
+    other_main (is_start run.kind) (is_main run.kind) (is_unended run.state)
+    (each_found (λ (row : RunRow). is_start row.kind || is_main row.kind || not (is_unended row.state)) (is_run run.number) run s.runs found h.built.runs) other unended
     in
     asked (is_work run.kind && is_unended run.state) (list_any (owns run) s.tasks)
     (each_found (belongs s) (is_run run.number) run s.runs found h.belonging)
     (and_true (main_works run.kind main) unended)
 
--- a queued run is taken, and its task starts
+-- no task is a run's that names no job
+no_task_of_run : (run : RunRow) → is_none run.job ≡ true → (tasks : List TaskRow) → list_any (is_task_of_run run) tasks ≡ false
+no_task_of_run run h [] = refl
+no_task_of_run run h (task ∷ tasks) = or_false (unnamed run.job task.job (names run.task task.id) h) (no_task_of_run run h tasks)
+  where
+    unnamed : (name : Option (List ℕ)) (id : List ℕ) (b : Bool) → is_none name ≡ true → (names name id && b) ≡ false
+    unnamed None id b k = refl
+    unnamed (Some other) id b k = cc
+
+-- no task starts with a queued start run
+no_task_starts : (seats : ℕ) (s : State) (run : RunRow) → IsConsistent seats s → find (is_run run.number) s.runs ≡ Some run → is_queued run.state ≡ true → is_start run.kind ≡ true → change_where (is_task_of_run run) (started_task s.moment) s.tasks ≡ s.tasks
+no_task_starts seats s run h found queued start =
+    let none : (is_none run.job && is_none run.task) ≡ true =
+    start_names_none s run start (queued_unended run.state queued)
+    (each_found (has_node_while_unended s) (is_run run.number) run s.runs found h.seated.nodes_of_runs)
+    (each_found (fits_nodes s) (is_run run.number) run s.runs found h.naming.on_nodes)
+    in
+    change_none (is_task_of_run run) (started_task s.moment) s.tasks (no_task_of_run run (and_first (is_none run.job) (is_none run.task) none) s.tasks)
+
+-- a queued run is taken, and its task starts, if it is a task's
 pub consistent_taken : (seats : ℕ) (s : State) (run : RunRow) → IsConsistent seats s → find (is_run run.number) s.runs ≡ Some run → is_queued run.state ≡ true → IsConsistent seats (run_taken s run)
-consistent_taken seats s run h found queued =
-    let owner : (task : TaskRow) × (find (owns run) s.tasks ≡ Some task) = find_any (owns run) s.tasks (owned_while_queued seats s run h found queued) in
-    consistent_started seats (change_runs (is_run run.number) (taken_run s.moment) s) s.moment run owner.0 (consistent_queued seats s run h found queued) owner.1
+consistent_taken seats s run h found queued = elim (passes_or_not (is_start run.kind)) [
+  | inl start ↦
+      subst (λ (rows : List TaskRow). IsConsistent seats (record (change_runs (is_run run.number) (taken_run s.moment) s) { tasks = rows })) (sym (no_task_starts seats s run h found queued start)) (consistent_queued seats s run h found queued)
+  | inr other ↦
+      let owner : (task : TaskRow) × (find (owns run) s.tasks ≡ Some task) = find_any (owns run) s.tasks (owned_while_queued seats s run h found queued other) in
+      consistent_started seats (change_runs (is_run run.number) (taken_run s.moment) s) s.moment run owner.0 (consistent_queued seats s run h found queued) owner.1
+]

@@ -5,19 +5,20 @@ use Rattle.std.specs.Option.{option_and_then, option_map_or}
 use Rattle.std.specs.Cmp.{IsEquivalence, nat_eq_equiv}
 use Rattle.std.proofs.lemmas.Bool.Decides.{nat_tests}
 use Rattle.std.proofs.lemmas.Grind.{common_steps}
+use Rattle.bt_base.specs.Ids.{same}
 use Rattle.bt_base.proofs.SameIds.{same_equiv}
 use Rattle.bt_rows.specs.Lists.{AreDistinct}
 use Rattle.bt_rows.specs.Keys.{same_run}
 use Rattle.batch_model.specs.Finding.{Each, names}
-use Rattle.batch_model.specs.Rows.{is_pool}
-use Rattle.batch_model.specs.Runs.{is_unended, is_main, is_work, is_preparation, is_release, is_run_of_task, is_present, is_busy_for, ending_of}
+use Rattle.batch_model.specs.Rows.{is_pool, is_node}
+use Rattle.batch_model.specs.Runs.{is_unended, is_start, is_main, is_work, is_preparation, is_release, is_run_of_task, is_present, is_busy_for, ending_of}
 use Rattle.batch_model.specs.Tasks.{is_placed, is_undisturbed, is_busy, main_ending}
 use Rattle.batch_model.specs.Slots.{owns, held_slots, holds_on}
-use Rattle.batch_model.specs.Sound.{IsConsistent, has_node_while_unended, belongs, can_be_settled, fits_nodes, names_no_task, has_node_row}
+use Rattle.batch_model.specs.Sound.{IsConsistent, has_node_while_unended, belongs, can_be_settled, is_of_pool, fits_nodes, names_no_task, has_node_row}
 use Rattle.batch_model.specs.WellFormed.{has_named_job, has_named_task, are_one_attempt}
 use Rattle.batch_model.specs.Variants.{State, PoolRow, NodeRow, TaskRow, RunRow, RunState}
-use Rattle.batch_model.proofs.Tests.{and_first, and_second, or_first, or_second, or_false, or_false_first, or_false_second}
-use Rattle.batch_model.proofs.RowLists.{each_head, each_tail, each_weaker}
+use Rattle.batch_model.proofs.Tests.{asked, and_first, and_second, or_first, or_second, or_false, or_false_first, or_false_second}
+use Rattle.batch_model.proofs.RowLists.{each_head, each_tail, each_weaker, each_of_three, each_found, find_test, find_any}
 use Rattle.batch_model.proofs.MappedRows.{each_map, distinct_map, sum_map}
 
 -- a run's state moves on: it doesn't begin again, it goes on or ends, and an ending stays
@@ -51,11 +52,12 @@ unless_both : (k a b c : Bool) → (a ≡ true → b ≡ true) → (not (k && b)
 unless_both true a b c h m = unless_more a b c h m
 unless_both false a b c h m = refl
 
--- a test beside one that the new state has ended
-or_ended : (k a b : Bool) → (a ≡ true → b ≡ true) → (k || not b) ≡ true → (k || not a) ≡ true
-or_ended true a b h m = refl
-or_ended false true b h m = rw (h refl) at m
-or_ended false false b h m = refl
+-- a test beside those of the kind that the new state has ended
+or_ended : (j k a b : Bool) → (a ≡ true → b ≡ true) → (j || k || not b) ≡ true → (j || k || not a) ≡ true
+or_ended true k a b h m = refl
+or_ended false true a b h m = refl
+or_ended false false true b h m = rw (h refl) at m
+or_ended false false false b h m = refl
 
 -- slots
 
@@ -105,12 +107,59 @@ one_attempt task run other h main k other_main =
     in
     rw (main, other_main, attempt, jobs, tasks) refl
 
--- what is built: the run is a main run, or has ended
+-- what is built: the run is a start run, a main run, or has ended
+abbrev is_built : RunRow → Bool
+is_built run = is_start run.kind || is_main run.kind || not (is_unended run.state)
+
+-- a run that names a task is a main run, or has ended
 abbrev is_main_or_over : RunRow → Bool
-is_main_or_over run = is_main run.kind || not (is_unended run.state)
+is_main_or_over run = is_none run.task || (is_main run.kind || not (is_unended run.state))
+
+-- a run of a task's present attempt names a task
+names_one : (name : Option (List ℕ)) (id : List ℕ) → names name id ≡ true → is_none name ≡ false
+names_one None id h = cc
+names_one (Some other) id h = refl
+
+-- a start run that has not ended names no job and no task
+pub start_names_none : (s : State) (run : RunRow) → is_start run.kind ≡ true → is_unended run.state ≡ true → has_node_while_unended s run ≡ true → fits_nodes s run ≡ true → (is_none run.job && is_none run.task) ≡ true
+start_names_none s run start unended there fits =
+    let node : (node : NodeRow) × (find (is_node run.node) s.nodes ≡ Some node) = find_any (is_node run.node) s.nodes (asked (is_unended run.state) (has_node_row s run.node) there unended) in
+    let of_pool : is_of_pool run node.0 ≡ true = each_found (is_of_pool run) (is_node run.node) node.0 s.nodes node.1 fits in
+    names_none (is_node run.node node.0) (same node.0.pool run.pool) (is_start run.kind) (is_none run.job && is_none run.task) (find_test (is_node run.node) node.0 s.nodes node.1) start of_pool
+  where
+    names_none : (on pool start none : Bool) → on ≡ true → start ≡ true → (not on || (pool && not (start && not none))) ≡ true → none ≡ true
+    names_none true true true true h k m = refl
+    names_none true true true false h k m = cc
+    names_none true true false none h k m = cc
+    names_none true false start none h k m = cc
+    names_none false pool start none h k m = cc
+
+-- so the runs of consistent tables are such
+runs_of_tasks : (seats : ℕ) (s : State) → IsConsistent seats s → Each is_main_or_over s.runs
+runs_of_tasks seats s h =
+    each_of_three is_built (has_node_while_unended s) (fits_nodes s) is_main_or_over
+    (λ run built there fits. no_start (is_start run.kind) (is_main run.kind) (is_unended run.state) (is_none run.task) (λ start unended. and_second (is_none run.job) _ (start_names_none s run start unended there fits)) built)
+    s.runs h.built.runs h.seated.nodes_of_runs h.naming.on_nodes
+  where
+    no_start : (start main unended none : Bool) → (start ≡ true → unended ≡ true → none ≡ true) → ((start || main) || not unended) ≡ true → (none || (main || not unended)) ≡ true
+    no_start start main unended true give h = refl
+    no_start start true unended false give h = refl
+    no_start start false false false give h = refl
+    no_start true false true false give h = let n : false ≡ true = give refl refl in cc
+    no_start false false true false give h = cc
+
+-- a run of a task's present attempt is a main run, or has ended
+main_or_over : (task : TaskRow) (run : RunRow) → is_present task run ≡ true → is_main_or_over run ≡ true → (is_main run.kind || not (is_unended run.state)) ≡ true
+main_or_over task run h k =
+    let named : is_none run.task ≡ false = names_one run.task task.id (and_second (names run.job task.job) _ (and_first _ (nat_eq run.attempt task.attempt) h)) in
+    other_than (is_none run.task) (is_main run.kind || not (is_unended run.state)) named k
+  where
+    other_than : (a b : Bool) → a ≡ false → (a || b) ≡ true → b ≡ true
+    other_than true b n m = cc
+    other_than false b n m = m
 
 -- such a run that has not ended is a main run
-pub unended_main : (k u : Bool) → (k || not u) ≡ true → u ≡ true → k ≡ true
+unended_main : (k u : Bool) → (k || not u) ≡ true → u ≡ true → k ≡ true
 unended_main true u h e = refl
 unended_main false u h e = rw e at h
 
@@ -124,7 +173,7 @@ none_busy task run (other ∷ rest) h main alone built =
   where
     not_busy : (b : Bool) → is_busy_for task other ≡ b → b ≡ false
     not_busy true busy =
-        let other_main : is_main other.kind ≡ true = unended_main (is_main other.kind) (is_unended other.state) (each_head is_main_or_over other rest built) (and_second (is_present task other) _ busy) in
+        let other_main : is_main other.kind ≡ true = unended_main (is_main other.kind) (is_unended other.state) (main_or_over task other (and_first _ (is_unended other.state) busy) (each_head is_main_or_over other rest built)) (and_second (is_present task other) _ busy) in
         let one : are_one_attempt run other ≡ true = one_attempt task run other h main (and_first _ (is_unended other.state) busy) other_main in
         let not_one : are_one_attempt run other ≡ false = or_false_first (are_one_attempt run other) (list_any (are_one_attempt run) rest) alone in
         cc
@@ -142,9 +191,9 @@ busy_or_ends task runs = list_any (is_busy_for task) runs || ends_among task run
 
 -- the first run and the others, in tests: b whether it is of the present attempt, k whether it is a main run, u whether
 -- it has not ended, e whether it has, and whether others are busy or end; before and after
-keeps_on : (b k u u' e e' busy busy' ends ends' : Bool) → (k || not u) ≡ true → (u' ≡ true → u ≡ true) → (u ≡ true → (u' || e') ≡ true) → (e ≡ true → e' ≡ true) → (b ≡ true → k ≡ true → busy ≡ false) → ((busy || ends) ≡ true → (busy' || ends') ≡ true) → (((b && u) || busy) || cond (b && k) e ends) ≡ true → (((b && u') || busy') || cond (b && k) e' ends') ≡ true
+keeps_on : (b k u u' e e' busy busy' ends ends' : Bool) → (b ≡ true → (k || not u) ≡ true) → (u' ≡ true → u ≡ true) → (u ≡ true → (u' || e') ≡ true) → (e ≡ true → e' ≡ true) → (b ≡ true → k ≡ true → busy ≡ false) → ((busy || ends) ≡ true → (busy' || ends') ≡ true) → (((b && u) || busy) || cond (b && k) e ends) ≡ true → (((b && u') || busy') || cond (b && k) e' ends') ≡ true
 keeps_on false k u u' e e' busy busy' ends ends' built back on stay alone ih h = ih h
-keeps_on true false true u' e e' busy busy' ends ends' built back on stay alone ih h = cc
+keeps_on true false true u' e e' busy busy' ends ends' built back on stay alone ih h = let n : false ≡ true = built refl in cc
 keeps_on true false false true e e' busy busy' ends ends' built back on stay alone ih h = let n : false ≡ true = back refl in cc
 keeps_on true false false false e e' busy busy' ends ends' built back on stay alone ih h = ih h
 keeps_on true true u true e e' busy busy' ends ends' built back on stay alone ih h = refl
@@ -167,7 +216,7 @@ module _ (into : RunRow → RunState) (taken_at ended_at : RunRow → Option ℕ
       (keeps_on (is_present task run) (is_main run.kind) (is_unended run.state) (is_unended (into run)) (is_some (ending_of run.state)) (is_some (ending_of (into run)))
       (list_any (is_busy_for task) rest) (list_any (is_busy_for task) (map (moved into taken_at ended_at) rest))
       (ends_among task rest) (ends_among task (map (moved into taken_at ended_at) rest))
-      (each_head is_main_or_over run rest built) m.unended m.ends m.stays
+      (λ b. main_or_over task run b (each_head is_main_or_over run rest built)) m.unended m.ends m.stays
       (λ b k. none_busy task run rest b k distinct.0 (each_tail is_main_or_over run rest built))
       (busy_or_ends_after task rest distinct.1 (each_tail is_main_or_over run rest built))
       (rw (ends_of_first (is_present task run && is_main run.kind) run (find (λ r. is_present task r && is_main r.kind) rest)) at h))
@@ -219,7 +268,7 @@ module _ (into : RunRow → RunState) (taken_at ended_at : RunRow → Option ℕ
     belonging = each_map g (belongs s) (belongs (after s)) (λ run e. unless_both (is_work run.kind) (is_unended (into run)) (is_unended run.state) (list_any (owns run) s.tasks) (ended run) e) s.runs h.belonging;
     ending = each_weaker (can_be_settled s) (can_be_settled (after s))
         (λ task e. settled_after (is_placed task.stage) (not (is_undisturbed task)) (is_busy s task) (is_busy (after s) task) (is_some (main_ending s task)) (is_some (main_ending (after s) task))
-        (busy_or_ends_after task s.runs h.named.main_runs h.built.runs) e)
+        (busy_or_ends_after task s.runs h.named.main_runs (runs_of_tasks seats s h)) e)
         s.tasks h.ending;
     naming = record {
       on_nodes = each_map g (fits_nodes s) (fits_nodes (after s)) (λ run e. e) s.runs h.naming.on_nodes;
@@ -227,7 +276,7 @@ module _ (into : RunRow → RunState) (taken_at ended_at : RunRow → Option ℕ
     };
     slots = slots_suffice (held_slots (after s)) (held_slots s) s.pools (λ node. omega (arith, slots_after s node)) s.nodes h.slots;
     built = record {
-      runs = each_map g is_main_or_over is_main_or_over (λ run e. or_ended (is_main run.kind) (is_unended (into run)) (is_unended run.state) (ended run) e) s.runs h.built.runs;
+      runs = each_map g is_built is_built (λ run e. or_ended (is_start run.kind) (is_main run.kind) (is_unended (into run)) (is_unended run.state) (ended run) e) s.runs h.built.runs;
       nodes = h.built.nodes;
     };
   }

@@ -1,49 +1,9 @@
 -- Sound tables are well formed, as empty ones are.
-use Rattle.std.proofs.Common.{◌≡◌, ℕ, ◌+◌, ◌<◌, Bool, true, false, not, ◌&&◌, ◌||◌, nat_eq, nat_lt, List, [], ◌∷◌, cond, count_by, refl, sym, subst, arith}
-use Rattle.std.proofs.lemmas.Bool.Decides.{nat_tests}
-use Rattle.std.proofs.lemmas.List.Sums.{sum_by-cons}
+use Rattle.std.proofs.Common.{◌≡◌, ℕ, Bool, nat_lt, List, [], refl, sym, subst, arith}
 use Rattle.batch_model.specs.Finding.{Each}
-use Rattle.batch_model.specs.Runs.{is_unended, is_start, is_main}
 use Rattle.batch_model.specs.Sound.{IsSound}
-use Rattle.batch_model.specs.WellFormed.{IsWellFormed, is_unended_start_on, has_few_tries, has_few_preparations}
-use Rattle.batch_model.specs.Variants.{State, empty_state, NodeRow, RunRow, RunKind, StartRun, PrepRun, TaskRun, CoordinationRun, ReleaseRun, PrepRow}
-use Rattle.batch_model.proofs.Tests.{not_true}
-use Rattle.batch_model.proofs.RowLists.{each_head, each_tail, each_weaker}
-
--- a main run is no start run
-main_is_no_start : (kind : RunKind) → is_main kind ≡ true → is_start kind ≡ false
-main_is_no_start StartRun h = cc
-main_is_no_start PrepRun h = refl
-main_is_no_start TaskRun h = refl
-main_is_no_start CoordinationRun h = refl
-main_is_no_start ReleaseRun h = refl
-
--- tests of a run: whether it is a start run, a main run, unended, and on the node
-no_start : (start main unended on : Bool) → (main ≡ true → start ≡ false) → (main || not unended) ≡ true → not (start && unended && on) ≡ true
-no_start true true u n h k = let e : true ≡ false = h refl in cc
-no_start true false true n h k = cc
-no_start true false false n h k = refl
-no_start false m u n h k = refl
-
--- none passes, so none is counted
-count_none : {R : Type 0} (p : R → Bool) (xs : List R) → Each (λ x. not (p x)) xs → count_by p xs ≡ 0
-count_none p [] h = refl
-count_none p (x ∷ xs) h =
-    let first : p x ≡ false = not_true (p x) (each_head (λ y. not (p y)) x xs h) in
-    let others : count_by p xs ≡ 0 = count_none p xs (each_tail (λ y. not (p y)) x xs h) in
-    rw (sum_by-cons (λ y. cond {A = ℕ} (p y) 1 0) x xs, first, others) refl
-
--- no failures and no start runs are fewer than the next number
-few : (tries count next : ℕ) → nat_eq tries 0 ≡ true → count ≡ 0 → 0 < next → nat_lt (tries + count) next ≡ true
-few tries count next h k l = grind (arith, nat_tests)
-
--- no node of sound tables has an unended start run
-no_start_runs : (seats : ℕ) (s : State) → IsSound seats s → (node : NodeRow) → count_by (is_unended_start_on node.number) s.runs ≡ 0
-no_start_runs seats s h node =
-    count_none (is_unended_start_on node.number) s.runs
-    (each_weaker (λ (run : RunRow). is_main run.kind || not (is_unended run.state)) (λ run. not (is_unended_start_on node.number run))
-    (λ run e. no_start (is_start run.kind) (is_main run.kind) (is_unended run.state) (nat_eq run.node node.number) (main_is_no_start run.kind) e)
-    s.runs h.consistent.built.runs)
+use Rattle.batch_model.specs.WellFormed.{IsWellFormed, has_few_preparations}
+use Rattle.batch_model.specs.Variants.{State, empty_state, PrepRow}
 
 -- nothing is prepared, so each preparation passes
 none_prepared : (test : PrepRow → Bool) (preps : List PrepRow) → preps ≡ [] → Each test preps
@@ -63,9 +23,7 @@ well_formed seats s h = record {
   };
   fitting = h.consistent.fitting;
   tries = record {
-    nodes = each_weaker (λ (node : NodeRow). nat_eq node.tries 0) (has_few_tries s)
-        (λ node e. few node.tries (count_by (is_unended_start_on node.number) s.runs) s.next_run e (no_start_runs seats s h node) h.consistent.numbers.begun)
-        s.nodes h.limited.built.tries;
+    nodes = h.starts.tries;
     preps = none_prepared (has_few_preparations s) s.preps h.limited.built.preps;
   };
   named = h.consistent.named;
