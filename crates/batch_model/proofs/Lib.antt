@@ -6,7 +6,12 @@ pub mod RowSums
 pub mod DueCases
 pub mod DueFalls
 pub mod KeyedLists
+pub mod NextNumbers
+pub mod StartAdded
 pub mod NodeAdded
+pub mod NodeChanged
+pub mod StartCases
+pub mod StartEnded
 pub mod PoolSteady
 pub mod SoundMoment
 pub mod PoolAdded
