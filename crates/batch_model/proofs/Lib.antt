@@ -32,6 +32,7 @@ pub mod LimitsMoment
 pub mod LimitsAdded
 pub mod LimitsPools
 pub mod LimitsTasks
+pub mod LimitsNodes
 pub mod LimitsPlaced
 pub mod LimitsRuns
 pub mod UnendedRuns

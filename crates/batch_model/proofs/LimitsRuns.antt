@@ -1,25 +1,29 @@
 -- Tables stay within the limits when a run is taken, and when it ends.
-use Rattle.std.proofs.Common.{◌≡◌, ℕ, Bool, true, not, ◌&&◌, ◌||◌, nat_le, List, Option, Some, None, is_none, refl, ◌∙◌, ap}
+use Rattle.std.proofs.Common.{◌≡◌, ℕ, ◌+◌, Bool, true, not, ◌&&◌, ◌||◌, nat_le, List, Option, Some, None, is_none, refl, ◌∙◌, ap}
 use Rattle.std.specs.List.{find}
 use Rattle.std.specs.Option.{unwrap_or}
 use Rattle.bt_rows.specs.Keys.{same_run, same_run_equiv}
 use Rattle.bt_rows.specs.Lists.{AreDistinct}
 use Rattle.bt_rows.specs.Ranges.{passes_if_some}
 use Rattle.batch_model.specs.Finding.{Each}
-use Rattle.batch_model.specs.Rows.{is_run}
+use Rattle.batch_model.specs.Rows.{is_node, is_run, change_runs}
 use Rattle.batch_model.specs.Tasks.{is_placed_in}
 use Rattle.batch_model.specs.Jobs.{is_quiet}
-use Rattle.batch_model.specs.Events.{taken_run, started_task, is_task_of_run, run_taken, ended_run, run_ended}
+use Rattle.batch_model.specs.Events.{taken_run, started_task, is_task_of_run, run_taken, ended_run, ended_by, run_ended}
+use Rattle.batch_model.specs.Starts.{usable_in, failed_in, counted_node, change_node, start_ended}
 use Rattle.batch_model.specs.Limits.{task_limit}
 use Rattle.batch_model.specs.Sound.{IsWithinLimits}
 use Rattle.batch_model.specs.WellFormed.{is_past_if_some, is_ended_in_order, is_task_valid, is_run_valid, has_no_placed_if_quiet}
-use Rattle.batch_model.specs.Variants.{State, TaskRow, Ending, RunRow}
+use Rattle.batch_model.specs.Variants.{State, NodeRow, TaskRow, Ending, RunRow, RunKind, StartRun, PrepRun, TaskRun, CoordinationRun, ReleaseRun}
 use Rattle.batch_model.proofs.Tests.{and_true, and_first, and_second, asked}
 use Rattle.batch_model.proofs.RowLists.{each_weaker, each_and}
 use Rattle.batch_model.proofs.ChangedRows.{each_change, each_change_same, any_change_same}
 use Rattle.batch_model.proofs.DistinctLists.{each_with_key}
 use Rattle.batch_model.proofs.LimitsAdded.{is_not_after_itself}
 use Rattle.batch_model.proofs.LimitsPools.{change_keeps_length}
+use Rattle.batch_model.proofs.LimitsNodes.{limited_start_added}
+use Rattle.batch_model.proofs.NodeChanged.{limited_node_changed}
+use Rattle.batch_model.proofs.StartCases.{StartEnds, nothing, starts, again, fails, start_cases}
 
 -- a run that ends
 
@@ -30,8 +34,8 @@ ended_valid now ending run h =
     and_true (and_true (and_first _ _ (and_first _ _ h)) (and_true before (is_not_after_itself now))) (and_true (and_first _ _ (and_second _ _ h)) before)
 
 -- a run that ends now
-pub limited_ended : (s : State) (ending : Ending) (run : RunRow) → IsWithinLimits s → IsWithinLimits (run_ended s ending run)
-limited_ended s ending run h = record {
+limited_run : (s : State) (ending : Ending) (run : RunRow) → IsWithinLimits s → IsWithinLimits (change_runs (is_run run.number) (ended_run s.moment ending) s)
+limited_run s ending run h = record {
   rows = record {
     moment = h.rows.moment;
     pools = h.rows.pools;
@@ -45,8 +49,33 @@ limited_ended s ending run h = record {
   counts = record { pools = h.counts.pools; jobs = h.counts.jobs; tasks = h.counts.tasks; first_node = h.counts.first_node; next_node = h.counts.next_node; first_run = h.counts.first_run; next_run = h.counts.next_run };
   quiet = h.quiet;
   pools = record { deleting = h.pools.deleting; pools_of_scales = h.pools.pools_of_scales; pools_of_samples = h.pools.pools_of_samples; labels = h.pools.labels; order = h.pools.order; covered = h.pools.covered; kept = h.pools.kept };
-  built = record { tries = h.built.tries; preps = h.built.preps };
+  built = record { preps = h.built.preps };
 }
+
+-- each case of the ending of a start run
+limited_by_start : (s after : State) (run : RunRow) (ending : Ending) → IsWithinLimits s → StartEnds s run ending after → IsWithinLimits after
+limited_by_start s after run ending h nothing = h
+limited_by_start s after run ending h (starts node found well) =
+    limited_node_changed (is_node node.number) (λ (each : NodeRow). usable_in each.stage) (λ (each : NodeRow). each.tries) s h
+limited_by_start s after run ending h (again node start found there failed left) =
+    limited_start_added (change_node node counted_node s) node start
+    (limited_node_changed (is_node node.number) (λ (each : NodeRow). each.stage) (λ (each : NodeRow). each.tries + 1) s h)
+    left
+limited_by_start s after run ending h (fails node start found there failed) =
+    limited_node_changed (is_node node.number) (λ (each : NodeRow). failed_in each.stage) (λ (each : NodeRow). each.tries + 1) s h
+
+-- what else the ending of a run of each kind does
+limited_by_kind : (s : State) (kind : RunKind) (run : RunRow) (ending : Ending) → IsWithinLimits s → IsWithinLimits (ended_by kind run ending s)
+limited_by_kind s StartRun run ending h = limited_by_start s (start_ended run ending s) run ending h (start_cases s run ending)
+limited_by_kind s PrepRun run ending h = h
+limited_by_kind s TaskRun run ending h = h
+limited_by_kind s CoordinationRun run ending h = h
+limited_by_kind s ReleaseRun run ending h = h
+
+-- a run ends now, and then its kind decides
+pub limited_ended : (s : State) (ending : Ending) (run : RunRow) → IsWithinLimits s → IsWithinLimits (run_ended s ending run)
+limited_ended s ending run h =
+    limited_by_kind (change_runs (is_run run.number) (ended_run s.moment ending) s) run.kind run ending (limited_run s ending run h)
 
 -- a run that is taken
 
@@ -110,5 +139,5 @@ limited_taken s run h keys found running = record {
       (λ job k. ap (λ b. not (is_quiet job.state && b)) (any_change_same (is_task_of_run run) (started_task s.moment) (is_placed_in job.id) (λ task t. refl) s.tasks) ∙ k)
       s.jobs h.quiet;
   pools = record { deleting = h.pools.deleting; pools_of_scales = h.pools.pools_of_scales; pools_of_samples = h.pools.pools_of_samples; labels = h.pools.labels; order = h.pools.order; covered = h.pools.covered; kept = h.pools.kept };
-  built = record { tries = h.built.tries; preps = h.built.preps };
+  built = record { preps = h.built.preps };
 }

@@ -1,14 +1,15 @@
--- The event `end` keeps the tables sound.
+-- The event `end` keeps the tables sound: the run ends, and a start run's ending changes its node.
 use Rattle.std.proofs.Common.{◌≡◌, ℕ, Bool, true, false, List, map, Option, Some, cond, refl, sym, ap, subst}
 use Rattle.std.specs.List.{find}
 use Rattle.bt_rows.specs.Keys.{same_run, same_run_equiv}
-use Rattle.batch_model.specs.Rows.{is_run}
+use Rattle.batch_model.specs.Rows.{is_run, change_runs}
 use Rattle.batch_model.specs.Runs.{is_taken}
-use Rattle.batch_model.specs.Events.{ended_run, run_ended}
+use Rattle.batch_model.specs.Events.{ended_run, ended_by, run_ended}
 use Rattle.batch_model.specs.Sound.{IsConsistent}
-use Rattle.batch_model.specs.Variants.{State, Ending, RunRow, RunState, Waiting, Queued, Taken, Ended, Withdrawn}
+use Rattle.batch_model.specs.Variants.{State, Ending, RunRow, RunKind, StartRun, PrepRun, TaskRun, CoordinationRun, ReleaseRun, RunState, Waiting, Queued, Taken, Ended, Withdrawn}
 use Rattle.batch_model.proofs.MappedRows.{map_found}
 use Rattle.batch_model.proofs.RunsMove.{Moves, moves_same, moves_if, moved, consistent_moved}
+use Rattle.batch_model.proofs.StartEnded.{consistent_start_ended}
 
 -- a taken run ends, and others stay
 abbrev ended_if_taken : Ending → RunState → RunState
@@ -54,8 +55,8 @@ module _ (now : ℕ) (ending : Ending) (run : RunRow) where
   alike_elsewhere row false h = refl
 
 -- a taken run ends
-pub consistent_ended : (seats : ℕ) (s : State) (ending : Ending) (run : RunRow) → IsConsistent seats s → find (is_run run.number) s.runs ≡ Some run → is_taken run.state ≡ true → IsConsistent seats (run_ended s ending run)
-consistent_ended seats s ending run h found taken =
+consistent_run : (seats : ℕ) (s : State) (ending : Ending) (run : RunRow) → IsConsistent seats s → find (is_run run.number) s.runs ≡ Some run → is_taken run.state ≡ true → IsConsistent seats (change_runs (is_run run.number) (ended_run s.moment ending) s)
+consistent_run seats s ending run h found taken =
     let runs : map (λ row. cond (is_run run.number row) (ended_run s.moment ending row) row) s.runs ≡ map after s.runs =
     map_found same_run same_run_equiv (λ row. cond (is_run run.number row) (ended_run s.moment ending row) row) after (is_run run.number) (is_run run.number) run s.runs
     (λ row k. k)
@@ -69,3 +70,16 @@ consistent_ended seats s ending run h found taken =
   where
     after : RunRow → RunRow
     after = moved (into s.moment ending run) (λ row. row.taken) (ended_at s.moment ending run)
+
+-- what else the ending of a run of each kind does
+consistent_by_kind : (seats : ℕ) (s : State) (kind : RunKind) (run : RunRow) (ending : Ending) → IsConsistent seats s → IsConsistent seats (ended_by kind run ending s)
+consistent_by_kind seats s StartRun run ending h = consistent_start_ended seats s run ending h
+consistent_by_kind seats s PrepRun run ending h = h
+consistent_by_kind seats s TaskRun run ending h = h
+consistent_by_kind seats s CoordinationRun run ending h = h
+consistent_by_kind seats s ReleaseRun run ending h = h
+
+-- a taken run ends, and then its kind decides
+pub consistent_ended : (seats : ℕ) (s : State) (ending : Ending) (run : RunRow) → IsConsistent seats s → find (is_run run.number) s.runs ≡ Some run → is_taken run.state ≡ true → IsConsistent seats (run_ended s ending run)
+consistent_ended seats s ending run h found taken =
+    consistent_by_kind seats (change_runs (is_run run.number) (ended_run s.moment ending) s) run.kind run ending (consistent_run seats s ending run h found taken)
