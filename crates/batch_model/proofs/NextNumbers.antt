@@ -22,6 +22,10 @@ below_next a b h = grind (arith, nat_tests)
 pub below_own_next : (a : ℕ) → nat_lt a (a + 1) ≡ true
 below_own_next a = grind (arith, nat_tests)
 
+-- a number is equal to itself
+pub is_itself : (n : ℕ) → nat_eq n n ≡ true
+is_itself n = grind (arith, nat_tests)
+
 -- an equal number is below as well
 pub equal_below : (a b c : ℕ) → nat_eq a b ≡ true → nat_lt a c ≡ true → nat_lt b c ≡ true
 equal_below a b c e h = grind (arith, nat_tests)

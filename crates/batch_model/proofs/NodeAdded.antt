@@ -20,6 +20,7 @@ use Rattle.batch_model.proofs.Tests.{or_first, or_second, and_true, not_true, tr
 use Rattle.batch_model.proofs.RowLists.{each_append, each_any, each_weaker, each_of_two, each_found, find_test, any_append_old, any_append_new, any_found, none_any}
 use Rattle.batch_model.proofs.DistinctLists.{distinct_append}
 pub use Rattle.batch_model.proofs.NextNumbers.{below_other, below_other_back, below_not_above, below_next, below_own_next}
+use Rattle.batch_model.proofs.NextNumbers.{is_itself}
 use Rattle.batch_model.proofs.StartAdded.{HasNode, consistent_start_added}
 
 -- each number of a range is in it
@@ -170,9 +171,6 @@ has_row seats s pool seat h = record {
       (λ other l. or_first _ (true_not (below_other other.number s.next_node l))) s.nodes h.numbers.nodes)
       (or_second _ (same_equiv.refl pool.id));
 }
-  where
-    is_itself : (n : ℕ) → nat_eq n n ≡ true
-    is_itself n = grind (arith, nat_tests)
 
 -- a start task that begins on a node that is there keeps tables sound
 consistent_begun : (seats : ℕ) (s : State) (node : NodeRow) (start : Option StartTask) → IsConsistent seats s → HasNode s node → IsConsistent seats (begin_start start node s)

@@ -2,7 +2,6 @@
 use Rattle.std.proofs.Common.{◌≡◌, ℕ, Bool, true, not, ◌||◌, nat_lt, refl, ap, ◌∙◌}
 use Rattle.bt_rows.specs.Keys.{same_node}
 use Rattle.bt_rows.specs.Ranges.{is_from_to}
-use Rattle.batch_model.specs.Finding.{change_where}
 use Rattle.batch_model.specs.Rows.{is_node, change_nodes}
 use Rattle.batch_model.specs.Nodes.{is_leaving}
 use Rattle.batch_model.specs.Runs.{is_unended}

@@ -1,17 +1,16 @@
 -- Tables stay sound when a start run is queued on a node.
-use Rattle.std.proofs.Common.{◌≡◌, ℕ, ◌+◌, ◌<◌, ◌≤◌, Bool, true, false, not, ◌&&◌, ◌||◌, nat_eq, nat_lt, nat_le, List, [], ◌∷◌, ◌++◌, Option, is_some, filter, sum_by, option_and_then, refl, ◌∙◌, ap, arith}
-use Rattle.std.specs.List.{list_any, list_all}
-use Rattle.std.proofs.lemmas.List.Elements.{filter-append}
+use Rattle.std.proofs.Common.{◌≡◌, ℕ, ◌+◌, ◌<◌, Bool, true, false, not, ◌&&◌, ◌||◌, nat_eq, nat_lt, List, [], ◌∷◌, ◌++◌, filter, sum_by, refl, ap, arith}
+use Rattle.std.specs.List.{list_any}
 use Rattle.bt_base.specs.Ids.{same}
 use Rattle.bt_rows.specs.Keys.{same_run}
 use Rattle.batch_model.specs.Finding.{Each}
 use Rattle.batch_model.specs.Rows.{is_node, add_run_row}
-use Rattle.batch_model.specs.Runs.{is_start, is_main, is_unended, is_present, is_busy_for, ending_of, start_run}
-use Rattle.batch_model.specs.Tasks.{is_placed, is_undisturbed, is_busy, main_run, main_ending}
+use Rattle.batch_model.specs.Runs.{is_start, is_main, is_unended, is_present, is_busy_for, start_run}
+use Rattle.batch_model.specs.Tasks.{is_placed}
 use Rattle.batch_model.specs.Slots.{owns, holds_on, held_slots}
 use Rattle.batch_model.specs.Sound.{IsConsistent, has_node_row, has_node_while_unended, belongs, can_be_settled, is_of_pool, fits_nodes, names_no_task, has_slots_for}
 use Rattle.batch_model.specs.WellFormed.{has_named_job, has_named_task, are_one_attempt}
-use Rattle.batch_model.specs.Variants.{State, PoolRow, StartTask, NodeRow, TaskRow, RunRow}
+use Rattle.batch_model.specs.Variants.{State, StartTask, NodeRow, TaskRow, RunRow}
 use Rattle.batch_model.proofs.Tests.{and_true, true_not}
 use Rattle.batch_model.proofs.RowLists.{each_any, each_append, each_weaker, each_found, find_any, find_test, find_append_same, any_append_same, none_any}
 use Rattle.batch_model.proofs.DistinctLists.{distinct_append}

@@ -1,5 +1,5 @@
 -- What the ending of a start run does, in cases.
-use Rattle.std.proofs.Common.{◌≡◌, ℕ, ◌+◌, Bool, true, false, Option, Some, None, cond, refl}
+use Rattle.std.proofs.Common.{◌≡◌, ◌+◌, Bool, true, false, Option, Some, None, cond, refl}
 use Rattle.batch_model.specs.Finding.{at_row, is_within_limit, has_number_left}
 use Rattle.batch_model.specs.Rows.{node_of}
 use Rattle.batch_model.specs.Endings.{is_success}

@@ -1,6 +1,5 @@
 -- Tables stay sound when a start run ends.
-use Rattle.std.proofs.Common.{◌≡◌, ℕ, ◌+◌, Bool, true, not, ◌||◌, nat_eq, Some, find, refl, ◌∙◌, arith}
-use Rattle.std.proofs.lemmas.Bool.Decides.{nat_tests}
+use Rattle.std.proofs.Common.{◌≡◌, ℕ, ◌+◌, true, not, ◌||◌, Some, refl, ◌∙◌}
 use Rattle.bt_base.specs.Ids.{same}
 use Rattle.bt_base.proofs.SameIds.{same_equiv}
 use Rattle.bt_rows.specs.Keys.{same_node, same_node_equiv}
@@ -8,11 +7,12 @@ use Rattle.bt_rows.proofs.DistinctRows.{found_first}
 use Rattle.batch_model.specs.Rows.{is_node, node_of}
 use Rattle.batch_model.specs.Nodes.{is_leaving}
 use Rattle.batch_model.specs.Starts.{usable_in, failed_in, counted_node, change_node, start_ended}
-use Rattle.batch_model.specs.Sound.{IsConsistent, has_node_row}
+use Rattle.batch_model.specs.Sound.{IsConsistent}
 use Rattle.batch_model.specs.Variants.{State, NodeRow, NodeStage, Starting, Usable, StartFailed, Leaving, Ending, RunRow}
 use Rattle.batch_model.proofs.RowLists.{any_found}
 use Rattle.batch_model.proofs.ChangedRows.{each_change_same, any_change_same}
 use Rattle.batch_model.proofs.DistinctLists.{each_with_key}
+use Rattle.batch_model.proofs.NextNumbers.{is_itself}
 use Rattle.batch_model.proofs.NodeChanged.{consistent_node_changed}
 use Rattle.batch_model.proofs.StartAdded.{HasNode, consistent_start_added}
 use Rattle.batch_model.proofs.StartCases.{StartEnds, nothing, starts, again, fails, start_cases}
@@ -40,9 +40,6 @@ has_found_node seats s number node h found = record {
       (found_first same_node same_node_equiv (is_node number) node s.nodes h.keys.nodes found)
       (same_equiv.refl node.pool);
 }
-  where
-    is_itself : (n : ℕ) → nat_eq n n ≡ true
-    is_itself n = grind (arith, nat_tests)
 
 -- it is still there when its failures are counted
 has_counted : (s : State) (node : NodeRow) → HasNode s node → HasNode (change_node node counted_node s) node
