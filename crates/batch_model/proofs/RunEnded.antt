@@ -1,10 +1,12 @@
 -- The event `end` keeps the tables sound: the run ends, and a start run's ending changes its node.
-use Rattle.std.proofs.Common.{◌≡◌, ℕ, Bool, true, false, List, map, Option, Some, cond, refl, sym, ap, subst}
+use Rattle.std.proofs.Common.{◌≡◌, ℕ, Bool, true, false, not, List, [], ◌∷◌, map, Option, Some, cond, refl, sym, ap, subst}
 use Rattle.std.specs.List.{find}
+use Rattle.bt_rows.specs.declared.refusal.Refusal.TheVariants.{RunAlreadyEnded, RunNotTaken, RunWithdrawn}
 use Rattle.bt_rows.specs.Keys.{same_run, same_run_equiv}
 use Rattle.batch_model.specs.Rows.{is_run, change_runs}
-use Rattle.batch_model.specs.Runs.{is_taken}
-use Rattle.batch_model.specs.Events.{ended_run, ended_by, run_ended}
+use Rattle.batch_model.specs.Runs.{is_taken, is_ended, is_withdrawn}
+use Rattle.batch_model.specs.Events.{accept, answer, ended_run, ended_by, run_ended, end_run}
+use Rattle.batch_model.specs.Steps.{refuse_if}
 use Rattle.batch_model.specs.Sound.{IsConsistent}
 use Rattle.batch_model.specs.Variants.{State, Ending, RunRow, RunKind, StartRun, PrepRun, TaskRun, CoordinationRun, ReleaseRun, RunState, Waiting, Queued, Taken, Ended, Withdrawn}
 use Rattle.batch_model.proofs.MappedRows.{map_found}
@@ -83,3 +85,32 @@ consistent_by_kind seats s ReleaseRun run ending h = h
 pub consistent_ended : (seats : ℕ) (s : State) (ending : Ending) (run : RunRow) → IsConsistent seats s → find (is_run run.number) s.runs ≡ Some run → is_taken run.state ≡ true → IsConsistent seats (run_ended s ending run)
 consistent_ended seats s ending run h found taken =
     consistent_by_kind seats (change_runs (is_run run.number) (ended_run s.moment ending) s) run.kind run ending (consistent_run seats s ending run h found taken)
+
+-- the answer to the end of a taken run
+
+-- a taken run has not ended
+taken_not_ended : (state : RunState) → is_taken state ≡ true → is_ended state ≡ false
+taken_not_ended Waiting h = refl
+taken_not_ended Queued h = refl
+taken_not_ended Taken h = refl
+taken_not_ended (Ended ending) h = cc
+taken_not_ended Withdrawn h = refl
+
+-- nor is it withdrawn
+taken_not_withdrawn : (state : RunState) → is_taken state ≡ true → is_withdrawn state ≡ false
+taken_not_withdrawn Waiting h = refl
+taken_not_withdrawn Queued h = refl
+taken_not_withdrawn Taken h = refl
+taken_not_withdrawn (Ended ending) h = refl
+taken_not_withdrawn Withdrawn h = cc
+
+-- so its end is not refused
+pub end_taken : (s : State) (ending : Ending) (run : RunRow) → is_taken run.state ≡ true → end_run s ending run ≡ accept 200 (run_ended s ending run)
+end_taken s ending run taken =
+    accepted (is_ended run.state) (is_withdrawn run.state) (is_taken run.state) (taken_not_ended run.state taken) (taken_not_withdrawn run.state taken) taken (run_ended s ending run)
+  where
+    accepted : (a b c : Bool) → a ≡ false → b ≡ false → c ≡ true → (after : State) → answer s (refuse_if a RunAlreadyEnded ∷ refuse_if b RunWithdrawn ∷ refuse_if (not c) RunNotTaken ∷ []) 200 after ≡ accept 200 after
+    accepted false false true h k m after = refl
+    accepted false false false h k m after = cc
+    accepted false true c h k m after = cc
+    accepted true b c h k m after = cc
