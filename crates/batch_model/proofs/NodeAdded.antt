@@ -46,7 +46,7 @@ abbrev with_row : State → PoolRow → ℕ → State
 with_row s pool seat = add_node_row (new_node s pool seat) s
 
 -- a new node doesn't leave
-pub new_stays : (pool : PoolRow) → not (is_leaving (first_stage pool)) ≡ true
+new_stays : (pool : PoolRow) → not (is_leaving (first_stage pool)) ≡ true
 new_stays pool = either (waits_for_start pool)
   where
     either : (b : Bool) → not (is_leaving (cond b Starting Usable)) ≡ true

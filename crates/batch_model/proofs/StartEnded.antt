@@ -32,7 +32,7 @@ failed_stays StartFailed h = refl
 failed_stays (Leaving option) h = h
 
 -- a node that is found by its number is there
-pub has_found_node : (seats : ℕ) (s : State) (number : ℕ) (node : NodeRow) → IsConsistent seats s → node_of s number ≡ Some node → HasNode s node
+has_found_node : (seats : ℕ) (s : State) (number : ℕ) (node : NodeRow) → IsConsistent seats s → node_of s number ≡ Some node → HasNode s node
 has_found_node seats s number node h found = record {
   there = any_found (is_node node.number) (is_node number) node s.nodes found (is_itself node.number);
   in_pool =
