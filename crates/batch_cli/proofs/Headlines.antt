@@ -6,6 +6,7 @@ use Rattle.batch_model.specs.Opening.{opening}
 use Rattle.batch_model.specs.Variants.{State}
 use Rattle.batch_desk.specs.declared.entry.Entry.{Entry}
 use Rattle.batch_desk.specs.Kept.{Desk, Tells}
+use Rattle.batch_desk.specs.Laws.{KeepsSlots}
 use Rattle.batch_desk.specs.History.{IsLegal, after_all, asked_of, fault_count}
 use Rattle.batch_desk.specs.Answers.{IsInOrder, Begins, HasSameOpening}
 use Rattle.batch_cli.specs.Shown.{outputs, calls_of}
@@ -36,6 +37,11 @@ legal_from {K} {told} {faults} {options} {loaded} {before} {start} {now} r same 
     subst (λ seats. IsLegal seats (opening loaded) now.entries) (same.seats ∙ r.begins.seats_are)
     (subst (λ s. IsLegal now.seats s now.entries) (same.opened ∙ r.opened) r.in_order.legal)
 
+slots_from : {K : Type 0} {told : K → Option State} {faults : K → ℕ} {options : Options} {loaded : State} {before : ℕ} {start now : Desk K} → Runs told faults options loaded before start now → HasSameOpening start now → KeepsSlots options.seats (opening loaded) now.entries
+slots_from {K} {told} {faults} {options} {loaded} {before} {start} {now} r same =
+    subst (λ seats. KeepsSlots seats (opening loaded) now.entries) (same.seats ∙ r.begins.seats_are)
+    (subst (λ s. KeepsSlots now.seats s now.entries) (same.opened ∙ r.opened) r.in_order.slots)
+
 kept_from : {K : Type 0} {told : K → Option State} {faults : K → ℕ} {options : Options} {loaded : State} {before : ℕ} {start now : Desk K} → Runs told faults options loaded before start now → HasSameOpening start now → Tells (told now.keeper) (after_all options.seats (opening loaded) now.entries)
 kept_from {K} {told} {faults} {options} {loaded} {before} {start} {now} r same =
     subst (λ s. Tells (told now.keeper) s)
@@ -51,6 +57,7 @@ begun_from : {K : Type 0} {told : K → Option State} {faults : K → ℕ} {opti
 begun_from {K} {told} {faults} {options} {loaded} {count} {start} {now} script before taken r p = record {
   history = now.entries;
   legal = legal_from r p.same;
+  slots = slots_from r p.same;
   calls = p.calls;
   written = subst (λ w. GainsFront before taken w) (shown_from options loaded (lines script) now.entries r.begins r.opened) p.written;
   kept = kept_from r p.same;
@@ -64,6 +71,7 @@ done_from {K} {told} {faults} {options} {loaded} {count} {start} {now} {status} 
       few = e.few;
       history = now.entries;
       legal = legal_from r p.same;
+      slots = slots_from r p.same;
       calls = subst (λ limit. map asked_of now.entries ≡ take limit (calls_of (lines script))) r.begins.limit_is p.calls;
       settled = p.settled;
       written = subst (λ w. Gains before taken w) (shown_from options loaded (lines script) now.entries r.begins r.opened) p.written;

@@ -6,6 +6,7 @@ use Rattle.batch_model.specs.Opening.{opening}
 use Rattle.batch_model.specs.Variants.{State}
 use Rattle.batch_desk.specs.declared.entry.Entry.{Entry}
 use Rattle.batch_desk.specs.Kept.{Tells}
+use Rattle.batch_desk.specs.Laws.{KeepsSlots}
 use Rattle.batch_desk.specs.History.{IsLegal, after_all, asked_of, fault_count}
 use Rattle.batch_cli.specs.Shown.{outputs, calls_of, memory_stops}
 use Rattle.batch_cli.specs.Advance.{RoseBy}
@@ -20,6 +21,8 @@ pub record IsDone (options : Options) (script : List ℕ) (opened : State) (befo
   pub few : length script ≤ script_limit
   pub history : List Entry
   pub legal : IsLegal options.seats opened history
+  -- at no moment of the history a node holds more slots than its pool has
+  pub slots : KeepsSlots options.seats opened history
   pub calls : map asked_of history ≡ take options.limit (calls_of (lines script))
   -- no due steps stopped for want of memory
   pub settled : memory_stops history ≡ 0
@@ -34,6 +37,8 @@ pub record IsDone (options : Options) (script : List ℕ) (opened : State) (befo
 pub record IsBegun (options : Options) (script : List ℕ) (opened : State) (before now : Option (List ℕ)) (told : Option State) (faults_before faults_now : ℕ) : Type 0 where
   pub history : List Entry
   pub legal : IsLegal options.seats opened history
+  -- at no moment of the history a node holds more slots than its pool has
+  pub slots : KeepsSlots options.seats opened history
   pub calls : map asked_of history ≡ take (length history) (calls_of (lines script))
   pub written : GainsFront before now (outputs options.seats 1 (lines script) options.limit history opened)
   pub kept : Tells told (after_all options.seats opened history)

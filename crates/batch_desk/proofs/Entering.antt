@@ -6,6 +6,7 @@ use Rattle.bt_rows.specs.declared.due.Due.{Due}
 use Rattle.bt_rows.specs.declared.event.EventKind.{EventKind}
 use Rattle.bt_rows.specs.declared.reply.Reply.{Reply}
 use Rattle.batch_model.specs.Events.{event_step}
+use Rattle.batch_model.specs.Sound.{IsSound}
 use Rattle.batch_model.specs.Steps.{Answered}
 use Rattle.batch_model.specs.Variants.{State}
 use Rattle.batch_keeper.specs.declared.error.KeepError.{KeepError}
@@ -15,6 +16,7 @@ use Rattle.batch_desk.specs.declared.entry.Stop.{Stop}
 use Rattle.batch_desk.specs.declared.entry.Stop.TheVariants.{Rest, KeeperFault, Memory}
 use Rattle.batch_desk.specs.declared.answer.Answer.{Answer}
 use Rattle.batch_desk.specs.declared.answer.Answer.TheVariants.{Done, KeeperFault as Undone, JournalFull, Memory as OutOfMemory}
+use Rattle.batch_desk.proofs.LawsHold.{slots_kept}
 use Rattle.batch_desk.specs.Kept.{Desk, Pair, Tells}
 use Rattle.batch_desk.specs.Calls.{Finishes, Makes, IsFailed, IsFull, IsCalled, IsCalledWithin}
 use Rattle.batch_desk.specs.History.{IsAskable, IsCall, IsLegal, after_call, after_all, faults_of, fault_count, fault_entry, done_entry, due_state, due_list, StopsSo, refusal_of}
@@ -55,9 +57,12 @@ entered : {K : Type 0} {told : K → Option State} {faults : K → ℕ} (old new
 entered {K} {told} {faults} old new e ordered room same pushed call made kept counted =
     let at : old.state ≡ after_all old.seats old.opened old.entries = ordered.state in
     let after : new.state ≡ after_all old.seats old.opened (old.entries ++ e ∷ []) = made ∙ ap (λ s. after_call old.seats s e) at ∙ sym (after_push old.seats old.opened old.entries e) in
+    let begun : IsSound new.seats new.opened = rw (same.seats, same.opened) ordered.begun in
+    let legal : IsLegal new.seats new.opened new.entries = rw (same.seats, same.opened, pushed) (legal_push old.seats old.opened old.entries e ordered.legal (subst (λ s. IsCall old.seats s e) at call)) in
     record {
-      begun = rw (same.seats, same.opened) ordered.begun;
-      legal = rw (same.seats, same.opened, pushed) (legal_push old.seats old.opened old.entries e ordered.legal (subst (λ s. IsCall old.seats s e) at call));
+      begun = begun;
+      legal = legal;
+      slots = slots_kept new.seats new.opened new.entries begun legal;
       state = rw (same.seats, same.opened, pushed) after;
       kept = kept;
       counted = omega (arith, ap fault_count pushed, faults_push old.entries e, faults_within old.entries, fault_at_most e, ordered.counted, ordered.within, ordered.limit, counted);
@@ -70,6 +75,7 @@ left : {K : Type 0} {told : K → Option State} {faults : K → ℕ} (old new : 
 left {K} {told} {faults} old new ordered same state entries kept later = record {
   begun = rw (same.seats, same.opened) ordered.begun;
   legal = rw (same.seats, same.opened, entries) ordered.legal;
+  slots = rw (same.seats, same.opened, entries) ordered.slots;
   state = rw (same.seats, same.opened, entries) (state ∙ ordered.state);
   kept = kept;
   counted = rw entries (omega (arith, ordered.counted, later));

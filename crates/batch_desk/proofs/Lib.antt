@@ -1,3 +1,4 @@
 pub mod DueRuns
 pub mod Entering
+pub mod LawsHold
 pub mod Saved

@@ -11,6 +11,7 @@ use Rattle.batch_desk.specs.declared.entry.Stop.TheVariants.{KeeperFault as Faul
 use Rattle.batch_desk.specs.declared.answer.Answer.{Answer}
 use Rattle.batch_desk.specs.declared.answer.Answer.TheVariants.{Done, KeeperFault, JournalFull, Memory}
 use Rattle.batch_desk.specs.Kept.{Desk, Tells}
+use Rattle.batch_desk.specs.Laws.{KeepsSlots}
 use Rattle.batch_desk.specs.History.{IsLegal, after_all, after_call, fault_count, reply_to, dues_of, fault_entry, done_entry}
 
 -- what a call that stands in the journal was answered, from the tables before it
@@ -42,11 +43,13 @@ Answers faults old new moment event (Done reply dues stop) =
     Enters old new (done_entry moment event reply (length dues) stop) (Done reply dues stop)
     × (stop ≡ FaultStop → Rose (faults old.keeper) (faults new.keeper))
 
--- what every desk is: its journal is a legal history from sound tables, its tables are those after it, and its keeper
--- tells them
+-- what every desk is: its journal is a legal history from sound tables, which keeps the laws at every moment, its tables are
+-- those after it, and its keeper tells them
 pub record IsInOrder {K : Type 0} (told : K → Option State) (faults : K → ℕ) (d : Desk K) : Type 0 where
   pub begun : IsSound d.seats d.opened
   pub legal : IsLegal d.seats d.opened d.entries
+  -- at no moment a node holds more slots than its pool has
+  pub slots : KeepsSlots d.seats d.opened d.entries
   pub state : d.state ≡ after_all d.seats d.opened d.entries
   pub kept : Tells (told d.keeper) d.state
   -- each keeper fault in the journal was counted

@@ -6,6 +6,7 @@ ghost use Rattle.batch_model.specs.Opening.{opening};
 ghost use Rattle.batch_model.specs.Sound.{IsSound};
 ghost use Rattle.batch_keeper.specs.Told.{FailsWithCause};
 ghost use Rattle.batch_desk.specs.Kept.{Tells};
+ghost use Rattle.batch_desk.specs.Laws.{KeepsSlots};
 ghost use Rattle.batch_desk.specs.History.{IsLegal, after_all, fault_count, faults_of};
 ghost use Rattle.batch_desk.specs.Answers.{Answers, IsInOrder, HasSameOpening, Begins};
 
@@ -185,7 +186,7 @@ impl<K: Keeper + Drop> Desk<K> {
     }
 
     /// Gives back the keeper and the journal. The journal is a legal history, the keeper tells the tables after it, and
-    /// counted each keeper fault in it.
+    /// counted each keeper fault in it. At no moment of it a node holds more slots than its pool has.
     pub fn close(self) -> (K, Journal)
         ensures keeper { result.0 ≡ self.keeper }
         ensures opened { result.1.opened.state ≡ self.opened }
@@ -193,6 +194,7 @@ impl<K: Keeper + Drop> Desk<K> {
         ensures limit { result.1.limit ≡ self.limit }
         ensures entries { result.1.entries ≡ self.entries }
         ensures legal { IsLegal result.1.seats result.1.opened.state result.1.entries }
+        ensures slots { KeepsSlots result.1.seats result.1.opened.state result.1.entries }
         ensures kept { Tells (K.told result.0) (after_all result.1.seats result.1.opened.state result.1.entries) }
         ensures counted { fault_count result.1.entries ≤ K.faults result.0 }
     {
@@ -213,11 +215,12 @@ impl<K: Keeper + Drop> Desk<K> {
     }
 
     /// Makes a call: the event, and then due steps until no rule applies or until one can't be made. Each is saved before
-    /// it is made. A full journal takes no call.
+    /// it is made. A full journal takes no call. At no moment of the history a node holds more slots than its pool has.
     pub fn call(&mut self, alloc: Global, moment: Moment, event: Event) -> Answer
         ensures answers { Answers K.faults self.old self.new moment event result }
         ensures same { HasSameOpening self.old self.new }
         ensures in_order { IsInOrder K.told K.faults self.new }
+        ensures slots { KeepsSlots self.new.seats self.new.opened self.new.entries }
         ensures later { K.faults self.old.keeper ≤ K.faults self.new.keeper }
     {
         know_ranges(moment, &event);
