@@ -1,10 +1,10 @@
 -- Lists of rows that change in place: each row passes, some row passes, and the first that passes.
-use Rattle.std.proofs.Common.{◌≡◌, Bool, true, false, ◌||◌, List, [], ◌∷◌, Option, Some, cond, refl}
+use Rattle.std.proofs.Common.{◌≡◌, Bool, true, false, ◌&&◌, ◌||◌, List, [], ◌∷◌, Option, Some, cond, refl}
 use Rattle.std.specs.List.{list_any, find}
 use Rattle.std.specs.Option.{option_map}
 use Rattle.batch_model.specs.Finding.{Each, change_where}
-use Rattle.batch_model.proofs.Tests.{or_first, or_second, or_false_first, or_false_second}
-use Rattle.batch_model.proofs.RowLists.{each_cons, each_head, each_tail}
+use Rattle.batch_model.proofs.Tests.{and_true, and_first, and_second, or_first, or_second, or_false_first, or_false_second}
+use Rattle.batch_model.proofs.RowLists.{each_cons, each_head, each_tail, any_weaker_where}
 
 module _ {R : Type 0} (test : R → Bool) (change : R → R) where
   -- a row that passes the test, changed, and another as it is
@@ -54,6 +54,14 @@ module _ {R : Type 0} (test : R → Bool) (change : R → R) where
   any_change p q give keep [] h = cc
   any_change p q give keep (x ∷ xs) h =
       any_changed p q x xs (p x) refl h (λ k. passes_changed q x (λ e. give x e k) (λ e. keep x e k)) (any_change p q give keep xs)
+
+  -- some row passes the same test after the change, by what each row passes
+  pub any_change_where : (a p : R → Bool) → ((x : R) → a x ≡ true → test x ≡ true → p x ≡ true → p (change x) ≡ true) → (xs : List R) → Each a xs → list_any p xs ≡ true → list_any p (change_where test change xs) ≡ true
+  any_change_where a p give xs k h =
+      any_change (λ x. a x && p x) p
+      (λ x t e. give x (and_first (a x) (p x) e) t (and_second (a x) (p x) e))
+      (λ x t e. and_second (a x) (p x) e) xs
+      (any_weaker_where a p (λ x. a x && p x) (λ x e m. and_true e m) xs k h)
 
   -- a test that the change keeps: some row passes after it just if some row did before
   pub any_change_same : (p : R → Bool) → ((x : R) → test x ≡ true → p (change x) ≡ p x) → (xs : List R) → list_any p (change_where test change xs) ≡ list_any p xs

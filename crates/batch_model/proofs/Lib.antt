@@ -39,6 +39,9 @@ pub mod UnendedRuns
 pub mod LimitsEvent
 pub mod DueSound
 pub mod EventSound
+pub mod StartsKept
+pub mod StartsTaken
+pub mod StartsEnded
 pub mod WellFormedTables
 pub mod OpeningSound
 pub mod RefusedEvents

@@ -3,8 +3,15 @@ use Rattle.std.proofs.Common.{◌≡◌, ℕ, ◌+◌, ◌≤◌, ◌<◌, Bool,
 use Rattle.std.specs.List.{filter, find}
 use Rattle.std.proofs.lemmas.List.Sums.{sum_by-cons, sum_by_push}
 use Rattle.batch_model.specs.Finding.{Each, change_where}
-use Rattle.batch_model.proofs.RowLists.{each_head, each_tail}
+use Rattle.batch_model.proofs.RowLists.{each_any, each_head, each_tail}
 use Rattle.batch_model.proofs.ChangedRows.{changed, same_changed}
+
+-- what is counted of a row that passes where another does
+counts_at_most : (a b : Bool) → (a ≡ true → b ≡ true) → cond {A = ℕ} a 1 0 ≤ cond b 1 0
+counts_at_most true true h = omega arith
+counts_at_most true false h = let e : false ≡ true = h refl in cc
+counts_at_most false true h = omega arith
+counts_at_most false false h = omega arith
 
 module _ {R : Type 0} where
   -- parts that are alike on each row of the list
@@ -57,6 +64,23 @@ module _ {R : Type 0} where
       either true h n = h refl
       either false h n = n refl
 
+  -- what is counted of a row after the change
+  counts_changed : (test : R → Bool) (change : R → R) (p : R → Bool) (x : R) → (test x ≡ true → p (change x) ≡ true → p x ≡ true) → cond {A = ℕ} (p (changed test change x)) 1 0 ≤ cond (p x) 1 0
+  counts_changed test change p x give = counts_at_most (p (changed test change x)) (p x) (either (test x) give)
+    where
+      either : (b : Bool) → (b ≡ true → p (change x) ≡ true → p x ≡ true) → p (cond b (change x) x) ≡ true → p x ≡ true
+      either true h = h refl
+      either false h = λ k. k
+
+  -- changes in place after which no row passes that didn't
+  pub count_change_at_most : (test : R → Bool) (change : R → R) (a p : R → Bool) → ((x : R) → a x ≡ true → test x ≡ true → p (change x) ≡ true → p x ≡ true) → (xs : List R) → Each a xs → count_by p (change_where test change xs) ≤ count_by p xs
+  count_change_at_most test change a p give xs h =
+      let k : count_by p (change_where test change xs) ≡ sum_by (λ x. cond {A = ℕ} (p (changed test change x)) 1 0) xs = sum_change test change (λ x. cond {A = ℕ} (p x) 1 0) xs in
+      let m : sum_by (λ x. cond {A = ℕ} (p (changed test change x)) 1 0) xs ≤ count_by p xs =
+      sum_at_most_where a (λ x. cond {A = ℕ} (p (changed test change x)) 1 0) (λ x. cond {A = ℕ} (p x) 1 0) (λ x e. counts_changed test change p x (give x e)) xs h
+      in
+      rw k m
+
   -- a sum over the rows that pass is one over all rows, to which the others add nothing
   pub sum_filter : (p : R → Bool) (f : R → ℕ) (xs : List R) → sum_by f (filter p xs) ≡ sum_by (λ x. cond (p x) (f x) 0) xs
   sum_filter p f [] = refl
@@ -82,3 +106,13 @@ module _ {R : Type 0} where
       less_found f g y x ys (find test ys) (test y) e (at_most y (each_head a y ys h)) less
       (sum_at_most_where a f g at_most ys (each_tail a y ys h))
       (λ k. sum_less_where a f g at_most test x ys (each_tail a y ys h) k less)
+
+  -- changes in place after which a row that was found doesn't pass any more, and no row passes that didn't
+  pub count_change_less : (test : R → Bool) (change : R → R) (p : R → Bool) → ((x : R) → test x ≡ true → p (change x) ≡ true → p x ≡ true) → (x : R) (xs : List R) → find test xs ≡ Some x → test x ≡ true → p x ≡ true → p (change x) ≡ false → count_by p (change_where test change xs) < count_by p xs
+  count_change_less test change p give x xs found here before after =
+      let k : count_by p (change_where test change xs) ≡ sum_by (λ y. cond {A = ℕ} (p (changed test change y)) 1 0) xs = sum_change test change (λ y. cond {A = ℕ} (p y) 1 0) xs in
+      let m : sum_by (λ y. cond {A = ℕ} (p (changed test change y)) 1 0) xs < count_by p xs =
+      sum_less_where (λ y. true) (λ y. cond {A = ℕ} (p (changed test change y)) 1 0) (λ y. cond {A = ℕ} (p y) 1 0) (λ y e. counts_changed test change p y (give y)) test x xs
+      (each_any (λ y. true) (λ y. refl) xs) found (rw (here, after, before) (omega arith))
+      in
+      rw k m
