@@ -42,6 +42,7 @@ pub mod EventSound
 pub mod StartsKept
 pub mod StartsTaken
 pub mod StartsEnded
+pub mod StartsByEvent
 pub mod WellFormedTables
 pub mod OpeningSound
 pub mod RefusedEvents

@@ -13,7 +13,7 @@ use Rattle.batch_model.proofs.RowLists.{each_append, each_weaker, each_of_two, a
 use Rattle.batch_model.proofs.DistinctLists.{distinct_append}
 
 -- a pool whose id no pool has is not the pool of a node, which has a row
-is_other : (s : State) (pool : PoolRow) (id : List ℕ) → has_pool_row s pool.id ≡ false → has_pool_row s id ≡ true → same pool.id id ≡ true → false ≡ true
+pub is_other : (s : State) (pool : PoolRow) (id : List ℕ) → has_pool_row s pool.id ≡ false → has_pool_row s id ≡ true → same pool.id id ≡ true → false ≡ true
 is_other s pool id new there e =
     sym new ∙ any_agree (is_pool pool.id) (is_pool id) (λ other. same_equiv.symm other.id pool.id ∙ same_equiv.congr pool.id id other.id e ∙ same_equiv.symm id other.id) s.pools ∙ there
 
