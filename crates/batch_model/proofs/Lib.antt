@@ -43,6 +43,7 @@ pub mod StartsKept
 pub mod StartsTaken
 pub mod StartsEnded
 pub mod StartsByEvent
+pub mod StartsByDue
 pub mod WellFormedTables
 pub mod OpeningSound
 pub mod RefusedEvents

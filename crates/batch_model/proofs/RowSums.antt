@@ -1,8 +1,9 @@
 -- Sums and counts over rows, where a row is added and where rows change in place.
-use Rattle.std.proofs.Common.{◌≡◌, ℕ, ◌+◌, ◌≤◌, ◌<◌, Bool, true, false, List, [], ◌∷◌, ◌++◌, Option, Some, cond, sum_by, count_by, refl, sym, ◌∙◌, subst, arith}
+use Rattle.std.proofs.Common.{◌≡◌, ℕ, ◌+◌, ◌≤◌, ◌<◌, Bool, true, false, not, List, [], ◌∷◌, ◌++◌, Option, Some, cond, sum_by, count_by, refl, sym, ◌∙◌, subst, arith}
 use Rattle.std.specs.List.{filter, find}
 use Rattle.std.proofs.lemmas.List.Sums.{sum_by-cons, sum_by_push}
 use Rattle.batch_model.specs.Finding.{Each, change_where}
+use Rattle.batch_model.proofs.Tests.{not_true}
 use Rattle.batch_model.proofs.RowLists.{each_any, each_head, each_tail}
 use Rattle.batch_model.proofs.ChangedRows.{changed, same_changed}
 
@@ -40,6 +41,14 @@ module _ {R : Type 0} where
   -- an added row that passes counts one, and another nothing
   pub count_append : (p : R → Bool) (xs : List R) (x : R) → count_by p (xs ++ x ∷ []) ≡ count_by p xs + cond (p x) 1 0
   count_append p xs x = sum_by_push (λ y. cond {A = ℕ} (p y) 1 0) xs x
+
+  -- none passes, so none is counted
+  pub count_none : (p : R → Bool) (xs : List R) → Each (λ x. not (p x)) xs → count_by p xs ≡ 0
+  count_none p [] h = refl
+  count_none p (x ∷ xs) h =
+      let first : p x ≡ false = not_true (p x) (each_head (λ y. not (p y)) x xs h) in
+      let others : count_by p xs ≡ 0 = count_none p xs (each_tail (λ y. not (p y)) x xs h) in
+      rw (sum_by-cons (λ y. cond {A = ℕ} (p y) 1 0) x xs, first, others) refl
 
   -- changes in place: the sum of the parts of changed rows
   pub sum_change : (test : R → Bool) (change : R → R) (f : R → ℕ) (xs : List R) → sum_by f (change_where test change xs) ≡ sum_by (λ x. f (changed test change x)) xs
