@@ -1,20 +1,18 @@
 -- Each due step leaves what is said of start tasks.
-use Rattle.std.proofs.Common.{◌≡◌, ℕ, ◌+◌, ◌<◌, Bool, true, false, not, ◌&&◌, ◌||◌, nat_eq, nat_lt, Option, Some, None, inl, inr, refl, arith}
+use Rattle.std.proofs.Common.{◌≡◌, ℕ, ◌+◌, ◌<◌, Bool, true, false, not, ◌&&◌, ◌||◌, nat_eq, nat_lt, List, Option, Some, None, inl, inr, refl, arith}
 use Rattle.std.specs.List.{find}
 use Rattle.std.proofs.lemmas.Bool.Decides.{nat_tests}
 use Rattle.bt_rows.specs.Keys.{same_pool, same_pool_equiv}
-use Rattle.bt_rows.specs.Lists.{AreDistinct}
 use Rattle.bt_rows.proofs.DistinctRows.{found_first}
-use Rattle.batch_model.specs.Finding.{Each}
 use Rattle.batch_model.specs.Rows.{is_pool, put_pool, put_task, add_node_row}
 use Rattle.batch_model.specs.Runs.{is_unended, is_start, start_run, work_run}
 use Rattle.batch_model.specs.Pools.{waits_for_start}
-use Rattle.batch_model.specs.Placing.{placed, place}
+use Rattle.batch_model.specs.Placing.{placed}
 use Rattle.batch_model.specs.Dues.{steady, timed_out, ends_resize, lacks_node, new_node, begin_start, node_added, due_step}
 use Rattle.batch_model.specs.Steps.{DueStep}
 use Rattle.batch_model.specs.Sound.{IsConsistent, StartsAreSound, IsSound, awaits_no_start, has_usable_start}
-use Rattle.batch_model.specs.WellFormed.{is_unended_start_on, has_few_tries, has_pool_row}
-use Rattle.batch_model.specs.Variants.{State, PoolRow, StartTask, NodeRow, TaskRow, RunRow, TaskRun, Queued}
+use Rattle.batch_model.specs.WellFormed.{is_unended_start_on, has_few_tries}
+use Rattle.batch_model.specs.Variants.{State, PoolRow, StartTask, NodeRow, RunRow, TaskRun, Queued}
 use Rattle.batch_model.proofs.Tests.{passes_or_not}
 use Rattle.batch_model.proofs.RowLists.{each_weaker, each_found}
 use Rattle.batch_model.proofs.RowSums.{count_none}

@@ -1,5 +1,5 @@
 -- Each event leaves what is said of start tasks.
-use Rattle.std.proofs.Common.{◌≡◌, ℕ, true, false, not, ◌&&◌, nat_lt, nat_le, List, [], ◌∷◌, length, Option, Some, None, is_some, inl, inr, refl}
+use Rattle.std.proofs.Common.{◌≡◌, ℕ, true, false, not, ◌&&◌, nat_lt, List, [], ◌∷◌, length, Option, Some, None, is_some, inl, inr, refl}
 use Rattle.std.specs.List.{find}
 use Rattle.std.specs.Option.{option_map_or}
 use Rattle.bt_rows.specs.Keys.{same_run}
@@ -18,11 +18,11 @@ use Rattle.batch_model.specs.Runs.{is_taken, is_ended, is_withdrawn}
 use Rattle.batch_model.specs.Events.{refuse, accept, answer, for_row, add_pool, add_job, add_job_in, task_refusals, task_added, add_task, after_element, add_each, accept_all, add_tasks, take_run, end_run, run_ended, event_now, event_step, at_moment}
 use Rattle.batch_model.specs.Pools.{new_pool, waits_for_start}
 use Rattle.batch_model.specs.Jobs.{is_past, new_job}
-use Rattle.batch_model.specs.Limits.{pool_limit, collection_limit}
+use Rattle.batch_model.specs.Limits.{collection_limit}
 use Rattle.batch_model.specs.Sound.{StartsAreSound, IsSound, awaits_no_start}
 use Rattle.batch_model.specs.WellFormed.{has_pool_row}
 use Rattle.batch_model.specs.Variants.{State, PoolRow, NodeRow, JobRow, RunRow, RunState, Waiting, Queued, Taken, Ended, Withdrawn, Ending}
-use Rattle.batch_model.proofs.Tests.{passes_or_not, not_true, true_not}
+use Rattle.batch_model.proofs.Tests.{passes_or_not}
 use Rattle.batch_model.proofs.RowLists.{each_append, find_none}
 use Rattle.batch_model.proofs.PoolAdded.{is_other}
 use Rattle.batch_model.proofs.StartsKept.{none_awaited, starts_with_pools}
