@@ -11,9 +11,15 @@ use Rattle.batch_desk.specs.History.{IsLegal, after_all, asked_of, fault_count}
 use Rattle.batch_cli.specs.Shown.{outputs, calls_of, memory_stops}
 use Rattle.batch_cli.specs.Advance.{RoseBy}
 use Rattle.batch_cli.specs.Ending.{script_limit, ending_of}
-use Rattle.batch_cli.specs.declared.options.Options.{Options}
+use Rattle.cli_words.specs.declared.command.ReplayOptions.{ReplayOptions as Options}
+use Rattle.cli_words.specs.declared.command.FormulaOptions.{FormulaOptions}
+use Rattle.cli_words.specs.declared.command.Command.{Command}
+use Rattle.cli_words.specs.declared.command.Command.TheVariants.{Replay, Formula}
+use Rattle.cli_formula.specs.declared.end.End.{End}
+use Rattle.cli_formula.specs.declared.end.End.TheVariants as ends
+use Rattle.cli_formula.specs.Showing.{FormulaRan}
 use Rattle.batch_cli.specs.declared.status.Status.{Status}
-use Rattle.batch_cli.specs.declared.status.Status.TheVariants.{Done, Memory, Usage, SourceFault, SinkFault, KeeperFault, UnreadableLines, ScriptTooLong, JournalFull}
+use Rattle.batch_cli.specs.declared.status.Status.TheVariants.{Done, Memory, Usage, SourceFault, SinkFault, KeeperFault, UnreadableLines, ScriptTooLong, FormulaError, JournalFull}
 
 -- The script was done to its end: its calls, as many as the journal takes, are one legal history from the opened tables,
 -- what was written shows them, and the keeper tells the tables after them.
@@ -61,9 +67,35 @@ RanWith options script loaded before now told f g Memory = IsUntouched loaded be
 RanWith options script loaded before now told f g KeeperFault = IsUntouched loaded before now told ⊎ IsDone options script (opening loaded) before now told f g KeeperFault
 RanWith options script loaded before now told f g JournalFull = IsDone options script (opening loaded) before now told f g JournalFull
 RanWith options script loaded before now told f g UnreadableLines = IsDone options script (opening loaded) before now told f g UnreadableLines
+RanWith options script loaded before now told f g FormulaError = ⊥
 RanWith options script loaded before now told f g Done = IsDone options script (opening loaded) before now told f g Done
 
+-- how the command `formula` ended, by the status
+abbrev pub end_of : Status → Option End
+end_of Done = Some ends.Done
+end_of Memory = Some ends.Memory
+end_of Usage = None
+end_of SourceFault = Some ends.SourceFault
+end_of SinkFault = Some ends.SinkFault
+end_of KeeperFault = None
+end_of UnreadableLines = None
+end_of ScriptTooLong = Some ends.TooLong
+end_of FormulaError = Some ends.Fault
+end_of JournalFull = None
+
+-- what a status says of the command `formula`, whose formula are the bytes of the source
+abbrev pub RanFormula : FormulaOptions → List ℕ → Option (List ℕ) → Option (List ℕ) → Option End → Type 0
+RanFormula options formula before taken None = ⊥
+RanFormula options formula before taken (Some end) = FormulaRan options.now options.dedicated formula before taken end
+
 -- the same of words, which are a command with options or no command
-abbrev pub Ran : Option Options → List ℕ → State → Option (List ℕ) → Option (List ℕ) → Option State → ℕ → ℕ → Status → Type 0
+abbrev pub Ran : Option Command → List ℕ → State → Option (List ℕ) → Option (List ℕ) → Option State → ℕ → ℕ → Status → Type 0
 Ran None script loaded before now told f g status = (status ≡ Usage) × IsUntouched loaded before now told
-Ran (Some options) script loaded before now told f g status = RanWith options script loaded before now told f g status
+Ran (Some (Replay options)) script loaded before now told f g status = RanWith options script loaded before now told f g status
+Ran (Some (Formula options)) formula loaded before now told f g status = RanFormula options formula before now (end_of status) × Tells told loaded
+
+-- the command calls no keeper
+abbrev pub CallsNoKeeper : Option Command → Type 0
+CallsNoKeeper None = Unit {0}
+CallsNoKeeper (Some (Replay options)) = ⊥
+CallsNoKeeper (Some (Formula options)) = Unit {0}

@@ -18,8 +18,10 @@ pub enum Status {
     KeeperFault,
     /// 6: the script was done to its end, and a line of it is no request.
     UnreadableLines,
-    /// 7: the source gave more than 67,108,864 bytes; nothing was called.
+    /// 7: the source gave more than 67,108,864 bytes, or for `formula` more than 8,192; nothing was called.
     ScriptTooLong,
+    /// 8: `formula` wrote a fault.
+    FormulaError,
     /// 9: the script was done to its end, and a call found the journal full.
     JournalFull,
 }
@@ -41,6 +43,7 @@ impl Status {
             Status::KeeperFault => 5,
             Status::UnreadableLines => 6,
             Status::ScriptTooLong => 7,
+            Status::FormulaError => 8,
             Status::JournalFull => 9,
         }
     }

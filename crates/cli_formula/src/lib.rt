@@ -1,0 +1,9 @@
+//! The command `formula`: a formula that the source gives is evaluated over metrics without samples and without current values,
+//! and its results, or its fault with its place, are written to the sink. It knows no keeper and no tables.
+#![tactic(auto)]
+
+mod end;
+mod run;
+
+pub use end::End;
+pub use run::run_formula;
