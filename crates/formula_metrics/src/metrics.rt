@@ -1,0 +1,119 @@
+//! Current values and samples of metrics.
+ghost use Rattle.std.specs.Prelude.{◌≡◌, IfOk};
+ghost use Rattle.bt_samples.specs.Histories.{push_answer};
+ghost use Rattle.formula_metrics.specs.Parts.{blank, blank_metrics, part_of, with_part, with_current, with_sample};
+
+use bt_base::{NoMemory, Num};
+use bt_samples::{History, SampleTooOld};
+use formula_names::Metric;
+use std::alloc::Global;
+
+/// What is known of one metric: its value now, if it has one, and its last samples.
+#[derive(Debug, Drop)]
+pub struct MetricPart {
+    pub current: Option<Num>,
+    pub history: History,
+}
+
+/// What is known of each metric of a pool.
+#[derive(Debug, Drop)]
+pub struct Metrics {
+    pub cpu_percent: MetricPart,
+    pub active_tasks: MetricPart,
+    pub running_tasks: MetricPart,
+    pub pending_tasks: MetricPart,
+    pub succeeded_tasks: MetricPart,
+    pub failed_tasks: MetricPart,
+    pub task_slots_per_node: MetricPart,
+    pub current_dedicated_nodes: MetricPart,
+    pub current_low_priority_nodes: MetricPart,
+    pub preempted_node_count: MetricPart,
+}
+
+impl MetricPart {
+    /// A metric without a current value and without samples. It takes the memory of all samples that are ever kept.
+    pub fn new(alloc: Global) -> Result<MetricPart, NoMemory>
+        ensures { IfOk result (λ part. part ≡ blank) }
+    {
+        Ok(MetricPart {
+            current: None,
+            history: History::new(alloc)?,
+        })
+    }
+}
+
+impl Metrics {
+    /// Metrics without current values and without samples. It takes the memory of all samples that are ever kept.
+    pub fn new(alloc: Global) -> Result<Metrics, NoMemory>
+        ensures { IfOk result (λ metrics. metrics ≡ blank_metrics) }
+    {
+        Ok(Metrics {
+            cpu_percent: MetricPart::new(alloc)?,
+            active_tasks: MetricPart::new(alloc)?,
+            running_tasks: MetricPart::new(alloc)?,
+            pending_tasks: MetricPart::new(alloc)?,
+            succeeded_tasks: MetricPart::new(alloc)?,
+            failed_tasks: MetricPart::new(alloc)?,
+            task_slots_per_node: MetricPart::new(alloc)?,
+            current_dedicated_nodes: MetricPart::new(alloc)?,
+            current_low_priority_nodes: MetricPart::new(alloc)?,
+            preempted_node_count: MetricPart::new(alloc)?,
+        })
+    }
+
+    /// What is known of a metric. It takes no memory.
+    pub fn part(&self, metric: Metric) -> &MetricPart
+        ensures { result.now ≡ part_of self.now metric }
+    {
+        match metric {
+            Metric::CpuPercent => &self.cpu_percent,
+            Metric::ActiveTasks => &self.active_tasks,
+            Metric::RunningTasks => &self.running_tasks,
+            Metric::PendingTasks => &self.pending_tasks,
+            Metric::SucceededTasks => &self.succeeded_tasks,
+            Metric::FailedTasks => &self.failed_tasks,
+            Metric::TaskSlotsPerNode => &self.task_slots_per_node,
+            Metric::CurrentDedicatedNodes => &self.current_dedicated_nodes,
+            Metric::CurrentLowPriorityNodes => &self.current_low_priority_nodes,
+            Metric::PreemptedNodeCount => &self.preempted_node_count,
+        }
+    }
+
+    /// Sets a metric's value now, or takes it away. It takes no memory.
+    pub fn set_current(&mut self, metric: Metric, current: Option<Num>)
+        ensures { self.new ≡ with_part self.old metric (with_current (part_of self.old metric) current) }
+    {
+        match metric {
+            Metric::CpuPercent => self.cpu_percent.current = current,
+            Metric::ActiveTasks => self.active_tasks.current = current,
+            Metric::RunningTasks => self.running_tasks.current = current,
+            Metric::PendingTasks => self.pending_tasks.current = current,
+            Metric::SucceededTasks => self.succeeded_tasks.current = current,
+            Metric::FailedTasks => self.failed_tasks.current = current,
+            Metric::TaskSlotsPerNode => self.task_slots_per_node.current = current,
+            Metric::CurrentDedicatedNodes => self.current_dedicated_nodes.current = current,
+            Metric::CurrentLowPriorityNodes => self.current_low_priority_nodes.current = current,
+            Metric::PreemptedNodeCount => self.preempted_node_count.current = current,
+        }
+    }
+
+    /// Adds a metric's newest sample; past 2,880 the oldest goes. `SampleTooOld` exactly where the label, in milliseconds since
+    /// 1970, is not above the newest, and then nothing changes. It takes no memory.
+    pub fn push(&mut self, metric: Metric, label: u64, value: Num) -> Result<(), SampleTooOld>
+        ensures answer { result ≡ push_answer (part_of self.old metric).history label }
+        ensures samples { self.new ≡ with_part self.old metric (with_sample (part_of self.old metric) label value) }
+    {
+        match metric {
+            Metric::CpuPercent => self.cpu_percent.history.push(label, value),
+            Metric::ActiveTasks => self.active_tasks.history.push(label, value),
+            Metric::RunningTasks => self.running_tasks.history.push(label, value),
+            Metric::PendingTasks => self.pending_tasks.history.push(label, value),
+            Metric::SucceededTasks => self.succeeded_tasks.history.push(label, value),
+            Metric::FailedTasks => self.failed_tasks.history.push(label, value),
+            Metric::TaskSlotsPerNode => self.task_slots_per_node.history.push(label, value),
+            Metric::CurrentDedicatedNodes => self.current_dedicated_nodes.history.push(label, value),
+            Metric::CurrentLowPriorityNodes => self.current_low_priority_nodes.history.push(label, value),
+            Metric::PreemptedNodeCount => self.preempted_node_count.history.push(label, value),
+        }
+    }
+}

@@ -1,0 +1,19 @@
+//! Values of formulas: what operators, functions and members give, and the texts of values.
+#![tactic(auto)]
+
+mod fault;
+mod functions;
+mod members;
+mod operators;
+mod rounding;
+mod texts;
+mod times;
+mod value;
+
+pub use fault::ValueFault;
+pub use functions::{call, flattened};
+pub use members::member;
+pub use operators::{binary, is_true, truth, unary};
+pub use rounding::floor_of;
+pub use times::{TimeInterval, Timestamp, interval_value, timestamp_value};
+pub use value::{Value, whole};
