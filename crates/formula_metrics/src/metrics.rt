@@ -111,8 +111,14 @@ impl Metrics {
             Metric::SucceededTasks => self.succeeded_tasks.history.push(label, value),
             Metric::FailedTasks => self.failed_tasks.history.push(label, value),
             Metric::TaskSlotsPerNode => self.task_slots_per_node.history.push(label, value),
-            Metric::CurrentDedicatedNodes => self.current_dedicated_nodes.history.push(label, value),
-            Metric::CurrentLowPriorityNodes => self.current_low_priority_nodes.history.push(label, value),
+            Metric::CurrentDedicatedNodes => self
+                .current_dedicated_nodes
+                .history
+                .push(label, value),
+            Metric::CurrentLowPriorityNodes => self
+                .current_low_priority_nodes
+                .history
+                .push(label, value),
             Metric::PreemptedNodeCount => self.preempted_node_count.history.push(label, value),
         }
     }

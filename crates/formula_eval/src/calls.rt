@@ -1,0 +1,187 @@
+//! What stands at a token, once its operands or arguments have values.
+ghost use Rattle.std.specs.Prelude.{◌≡◌};
+ghost use Rattle.bt_base.specs.Fails.{Gives};
+ghost use Rattle.formula_names.specs.Names.{function_named, member_named, method_named};
+ghost use Rattle.formula_types.specs.Scopes.{part as part_of};
+ghost use Rattle.formula_trees.specs.View.{tree_of};
+ghost use Rattle.formula_values.specs.Values.{no_value};
+ghost use Rattle.formula_values.specs.Operators.{unary_value, binary_value};
+ghost use Rattle.formula_values.specs.Functions.{function_value};
+ghost use Rattle.formula_metrics.specs.Parts.{part_of as metric_part};
+ghost use Rattle.formula_metrics.specs.Methods.{method_value};
+ghost use Rattle.formula_eval.specs.Names.{name_value};
+ghost use Rattle.formula_eval.specs.Evaluation.{at, call_at, member_at, metric_of, method_at, decided};
+
+use crate::fault::{EvalFault, Halt};
+use crate::names::name_value;
+use crate::outcome::Outcome;
+use bt_base::{Fail, Moment};
+use formula_lex::{BinaryOperator, Span};
+use formula_metrics::Metrics;
+use formula_names::{Function, Metric, function_named, member_named, method_named, metric_named};
+use formula_trees::{Expr, UnaryOperator};
+use formula_types::part;
+use formula_values::{Value, ValueFault, binary, call, is_true, member, truth, unary, whole};
+use std::alloc::Global;
+
+/// A fault, with the place of a token.
+pub fn fault_at(span: Span, fault: ValueFault) -> Halt
+    ensures { result ≡ Halt.Fault (record { fault = fault; place = span.from }) }
+{
+    Halt::Fault(EvalFault {
+        fault,
+        place: span.from,
+    })
+}
+
+/// The value of a name alone.
+pub fn name_at(
+    alloc: Global,
+    text: &[u8],
+    metrics: &Metrics,
+    set: &Outcome,
+    span: Span,
+) -> Result<Value, Fail<Halt>>
+    ensures { Gives result (at span (name_value metrics.now set.now (part_of text.now span))) }
+{
+    match name_value(alloc, metrics, set, part(text, span)) {
+        Ok(found) => Ok(found),
+        Err(Fail::Memory) => Err(Fail::Memory),
+        Err(Fail::Why(fault)) => Err(Fail::Why(fault_at(span, fault))),
+    }
+}
+
+/// What a unary operator gives.
+pub fn unary_at(
+    alloc: Global,
+    operator: UnaryOperator,
+    span: Span,
+    operand: &Value,
+) -> Result<Value, Fail<Halt>>
+    ensures { Gives result (at span (unary_value operator operand.now)) }
+{
+    match unary(alloc, operator, operand) {
+        Ok(found) => Ok(found),
+        Err(Fail::Memory) => Err(Fail::Memory),
+        Err(Fail::Why(fault)) => Err(Fail::Why(fault_at(span, fault))),
+    }
+}
+
+/// What a binary operator gives.
+pub fn binary_at(
+    alloc: Global,
+    operator: BinaryOperator,
+    span: Span,
+    left: &Value,
+    right: &Value,
+) -> Result<Value, Fail<Halt>>
+    ensures { Gives result (at span (binary_value operator left.now right.now)) }
+{
+    match binary(alloc, operator, left, right) {
+        Ok(found) => Ok(found),
+        Err(Fail::Memory) => Err(Fail::Memory),
+        Err(Fail::Why(fault)) => Err(Fail::Why(fault_at(span, fault))),
+    }
+}
+
+/// What the left side of `&&` or `||` decides alone.
+pub fn decided(operator: BinaryOperator, left: &Value) -> Option<Value>
+    ensures { result ≡ decided operator left.now }
+{
+    match operator {
+        BinaryOperator::And => {
+            if is_true(left) {
+                None
+            } else {
+                Some(truth(false))
+            }
+        }
+        BinaryOperator::Or => {
+            if is_true(left) {
+                Some(truth(true))
+            } else {
+                None
+            }
+        }
+        _ => None,
+    }
+}
+
+/// What a function of these arguments gives.
+fn function_at(
+    alloc: Global,
+    now: Moment,
+    span: Span,
+    function: Function,
+    arguments: &[Value],
+) -> Result<Value, Fail<Halt>>
+    ensures { Gives result (at span (function_value function arguments.now now)) }
+{
+    match call(alloc, function, arguments, now) {
+        Ok(found) => Ok(found),
+        Err(Fail::Memory) => Err(Fail::Memory),
+        Err(Fail::Why(fault)) => Err(Fail::Why(fault_at(span, fault))),
+    }
+}
+
+/// What the function of this name gives with these arguments; `stop()` ends the evaluation.
+pub fn call_at(
+    alloc: Global,
+    text: &[u8],
+    now: Moment,
+    span: Span,
+    arguments: &[Value],
+) -> Result<Value, Fail<Halt>>
+    ensures { Gives result (call_at now span (function_named (part_of text.now span)) arguments.now) }
+{
+    match function_named(part(text, span)) {
+        Some(Function::Stop) => Err(Fail::Why(Halt::Stop)),
+        Some(function) => function_at(alloc, now, span, function, arguments),
+        None => Ok(whole(0)),
+    }
+}
+
+/// What the member of this name gives.
+pub fn member_at(text: &[u8], span: Span, operand: &Value) -> Value
+    ensures { result ≡ member_at (member_named (part_of text.now span)) operand.now }
+{
+    match member_named(part(text, span)) {
+        Some(named) => member(named, operand),
+        None => whole(0),
+    }
+}
+
+/// The metric that a method is of.
+pub fn metric_of(text: &[u8], operand: &Expr) -> Option<Metric>
+    ensures { result ≡ metric_of text.now (tree_of operand.now) }
+{
+    match operand {
+        Expr::Name(span) => metric_named(part(text, *span)),
+        _ => None,
+    }
+}
+
+/// What the method of this name gives with these arguments.
+pub fn method_at(
+    alloc: Global,
+    text: &[u8],
+    metrics: &Metrics,
+    now: Moment,
+    span: Span,
+    metric: Option<Metric>,
+    arguments: &[Value],
+) -> Result<Value, Fail<Halt>>
+    ensures { Gives result (method_at metrics.now now span metric (method_named (part_of text.now span)) arguments.now) }
+{
+    let Some(metric) = metric else {
+        return Ok(whole(0));
+    };
+    let Some(method) = method_named(part(text, span)) else {
+        return Ok(whole(0));
+    };
+    match metrics.part(metric).call(alloc, method, arguments, now) {
+        Ok(found) => Ok(found),
+        Err(Fail::Memory) => Err(Fail::Memory),
+        Err(Fail::Why(fault)) => Err(Fail::Why(fault_at(span, fault))),
+    }
+}

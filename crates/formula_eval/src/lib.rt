@@ -1,0 +1,21 @@
+//! Evaluation of formulas: `specs/Evaluation.antt` says which value an expression has, `specs/Statements.antt` what a formula
+//! sets, `specs/Results.antt` how the results are written.
+#![tactic(auto)]
+
+mod calls;
+mod fault;
+mod formula;
+mod names;
+mod options;
+mod outcome;
+mod results;
+mod settings;
+mod spine;
+mod strings;
+mod values;
+
+pub use fault::EvalFault;
+pub use formula::evaluate;
+pub use options::{option_named, option_word};
+pub use outcome::{Other, Others, Outcome, Targets};
+pub use results::results_text;

@@ -1,0 +1,97 @@
+//! What a formula sets.
+ghost use Rattle.std.specs.Prelude.{◌≡◌, [], IfOk, option_map};
+ghost use Rattle.bt_base.specs.Utf8.{utf8_text};
+ghost use Rattle.formula_eval.specs.Outcomes.{value_among, with_value};
+
+use bt_base::{NoMemory, Text};
+use bt_rows::pool::Dealloc;
+use formula_values::Value;
+use std::alloc::Global;
+use std::marker::Model;
+
+/// How many nodes a pool is to have: dedicated ones, from 0 to 1,000, and low-priority ones, always 0.
+#[derive(Clone, Copy, Debug, PartialEq, Eq)]
+pub struct Targets {
+    pub dedicated: u32,
+    pub low: u32,
+}
+
+/// A variable of the formula's own, and its value.
+#[derive(Debug, Drop)]
+pub struct Other {
+    pub name: Text,
+    pub value: Value,
+}
+
+/// Variables with names that differ, in the order in which they were set first. Contracts see them as a list.
+#[derive(Debug, Drop)]
+pub struct Others {
+    items: Vec<Other>,
+}
+
+impl Model for Others {
+    ghost use Rattle.std.specs.Prelude.{List as Items};
+    ghost use Rattle.formula_eval.specs.declared.outcome.Other.{Other};
+
+    ghost Value = { Items Other };
+
+    ghost view = { λ o. o.items.items };
+}
+
+/// What a formula has set: the targets, what becomes of the tasks of a node that leaves, and its own variables.
+#[derive(Debug, Drop)]
+pub struct Outcome {
+    pub targets: Targets,
+    pub option: Dealloc,
+    pub others: Others,
+}
+
+impl Others {
+    /// No variables.
+    pub fn empty(alloc: Global) -> Others
+        ensures { result ≡ [] }
+    {
+        Others {
+            items: Vec::new(alloc),
+        }
+    }
+
+    /// The variables in order. It takes no memory.
+    pub fn as_slice(&self) -> &[Other]
+        ensures { result.now ≡ self.now }
+    {
+        self.items.as_slice()
+    }
+
+    /// The value of the variable of this name, if it is set. It takes no memory.
+    pub fn value(&self, name: &[u8]) -> Option<&Value>
+        ensures { option_map (λ known. known.now) result ≡ value_among self.now name.now }
+    {
+        for other in self.items.as_slice() {
+            if other.name.as_str().as_bytes() == name {
+                return Some(&other.value);
+            }
+        }
+        None
+    }
+
+    /// Gives the variable of this name a value; it comes last if it was not set before.
+    pub fn set(&mut self, name: Text, value: Value) -> Result<(), NoMemory>
+        ensures { IfOk result (λ _. self.new ≡ with_value self.old name value) }
+    {
+        let place = self
+            .items
+            .iter()
+            .position(|other| other.name.as_str() == name.as_str());
+        match place {
+            Some(place) => {
+                self.items[place].value = value;
+                Ok(())
+            }
+            None => {
+                self.items.push(Other { name, value })?;
+                Ok(())
+            }
+        }
+    }
+}

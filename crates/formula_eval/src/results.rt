@@ -1,0 +1,64 @@
+//! The text of results.
+ghost use Rattle.std.specs.Prelude.{◌≡◌, ◌++◌, IfOk, string_bytes};
+ghost use Rattle.formula_eval.specs.Results.{has_dollar, shown_name, other_text, others_text, results_text};
+ghost use Rattle.formula_eval.specs.Options.{option_word};
+
+use crate::options::option_word;
+use crate::outcome::{Other, Outcome};
+use bt_base::{NoMemory, Text};
+use std::alloc::Global;
+
+fn has_dollar(name: &[u8]) -> bool
+    ensures { result ≡ has_dollar name.now }
+{
+    match name.first() {
+        Some(b) => *b == b'$',
+        None => false,
+    }
+}
+
+/// Appends a name, with a `$` if it has none.
+fn push_name(text: &mut String, name: &str) -> Result<(), NoMemory>
+    ensures { IfOk result (λ _. string_bytes text.new ≡ string_bytes text.old ++ shown_name name.now) }
+{
+    if !has_dollar(name.as_bytes()) {
+        text.push('$')?;
+    }
+    text.push_str(name)?;
+    Ok(())
+}
+
+/// Appends a variable: `;`, its name, `=` and its value.
+fn push_other(alloc: Global, text: &mut String, other: &Other) -> Result<(), NoMemory>
+    ensures { IfOk result (λ _. string_bytes text.new ≡ string_bytes text.old ++ other_text other.now) }
+{
+    let value = other.value.text(alloc)?;
+    text.push(';')?;
+    push_name(text, other.name.as_str())?;
+    text.push('=')?;
+    text.push_str(value.as_str())?;
+    Ok(())
+}
+
+fn push_others(alloc: Global, text: &mut String, others: &[Other]) -> Result<(), NoMemory>
+    ensures { IfOk result (λ _. string_bytes text.new ≡ string_bytes text.old ++ others_text others.now) }
+{
+    for other in others {
+        push_other(alloc, text, other)?;
+    }
+    Ok(())
+}
+
+/// What a formula has set, as text: the targets, the word for what becomes of the tasks of a node that leaves, then its variables
+/// in the order in which they were set first, each with a `$` before its name.
+#[tactic(auto, unfolding(crate::specs::Results::settings_text))]
+pub fn results_text(alloc: Global, outcome: &Outcome) -> Result<Text, NoMemory>
+    ensures { IfOk result (λ text. text ≡ results_text outcome.now) }
+{
+    let dedicated = outcome.targets.dedicated;
+    let low = outcome.targets.low;
+    let word = option_word(outcome.option);
+    let mut text = format!(in alloc; "$TargetDedicatedNodes={dedicated};$TargetLowPriorityNodes={low};$NodeDeallocationOption={word}")?;
+    push_others(alloc, &mut text, outcome.others.as_slice())?;
+    Ok(Text::of_string(text))
+}
