@@ -7,8 +7,8 @@ use Rattle.bt_base.specs.Moments.{last_moment}
 use Rattle.bt_rows.specs.Ranges.{is_from_to}
 use Rattle.bt_rows.specs.Keys.{same_pool, same_node, same_job, same_task, same_run, same_prep, same_sample, same_scale}
 use Rattle.batch_model.specs.Variants.{State, empty_state, NodeRow, RunRow, SampleRow, ScaleRow}
-use Rattle.batch_model.specs.Runs.{is_main, is_unended}
-use Rattle.batch_model.specs.Nodes.{is_usable}
+use Rattle.batch_model.specs.Runs.{is_start, is_main, is_unended}
+use Rattle.batch_model.specs.Nodes.{is_leaving}
 use Rattle.batch_model.specs.WellFormed as well
 use Rattle.batch_model.specs.Sound as sound
 use Rattle.batch_model.specs.Finding.{last_number}
@@ -71,13 +71,13 @@ has_fitting_nodes s = all_of
     (are_distinct sound.share_seat s.nodes
     ∷ list_all (λ node. is_from_to 1 seat_count node.seat) s.nodes
     ∷ list_all (λ node. well.has_pool_row s node.pool) s.nodes
-    ∷ list_all (λ node. is_usable node.stage) s.nodes
+    ∷ list_all (λ node. not (is_leaving node.stage)) s.nodes
     ∷ list_all (sound.has_slots_for s) s.nodes
     ∷ list_all (sound.has_node_while_unended s) s.runs
     ∷ list_all (sound.belongs s) s.runs
     ∷ list_all (sound.fits_nodes s) s.runs
     ∷ list_all sound.names_no_task s.runs
-    ∷ list_all (λ run. is_main run.kind || not (is_unended run.state)) s.runs
+    ∷ list_all (λ run. is_start run.kind || is_main run.kind || not (is_unended run.state)) s.runs
     ∷ list_all (sound.can_be_settled s) s.tasks
     ∷ [])
 
@@ -115,7 +115,6 @@ has_fitting_pools s = all_of
     ∷ are_distinct well.are_labels_out_of_order s.samples
     ∷ list_all (well.is_covered s) s.samples
     ∷ list_all (well.has_kept s) s.samples
-    ∷ list_all (λ (node : NodeRow). nat_eq node.tries 0) s.nodes
     ∷ nat_eq (length s.preps) 0
     ∷ [])
 
@@ -127,9 +126,13 @@ is_consistent s = has_distinct_keys s && has_new_numbers s && has_fitting_rows s
 abbrev pub is_within_limits : State → Bool
 is_within_limits s = has_valid_rows s && has_counts_in_range s && has_fitting_pools s
 
+-- usable nodes have begun as their pools ask, and failures of start tasks are few
+abbrev pub has_sound_starts : State → Bool
+has_sound_starts s = list_all (sound.has_usable_start s) s.nodes && list_all (well.has_few_tries s) s.nodes
+
 -- all of these, and runs that have not ended have no moment at which they ended
 abbrev pub is_sound : State → Bool
-is_sound s = is_consistent s && is_within_limits s && list_all sound.has_no_end_yet s.runs
+is_sound s = is_consistent s && is_within_limits s && list_all sound.has_no_end_yet s.runs && has_sound_starts s
 
 -- the tables after due steps to rest, and whether each of these steps was good
 pub record Tested : Type 0 where

@@ -1,23 +1,22 @@
 -- What is not built yet.
 use Rattle.std.specs.Prelude.{List, [], ◌∷◌, map, replicate, Some, None, pos, negsuc, codes, true, false}
 use Rattle.bt_rows.specs.declared.event.EventKind.{EventKind}
-use Rattle.bt_rows.specs.declared.event.EventKind.TheVariants.{AddPool, DeletePool, StopResize, DisableAutoscale, EnableJob, TerminateJob, DeleteJob, AddJob, AddTask, AddTasks, DeleteTask, TerminateTask, ReactivateTask, Take, End}
+use Rattle.bt_rows.specs.declared.event.EventKind.TheVariants.{AddPool, DeletePool, StopResize, DisableAutoscale, EnableJob, TerminateJob, DeleteJob, AddJob, AddTask, DeleteTask, TerminateTask, ReactivateTask, Take, End}
 use Rattle.bt_rows.specs.declared.reply.Reply.{Reply}
 use Rattle.bt_rows.specs.declared.reply.Reply.TheVariants.{Status, Refused}
 use Rattle.bt_rows.specs.declared.refusal.Refusal.TheVariants as refusal
 use Rattle.bt_rows.specs.declared.due.ResizeEnd.TheVariants.{Reached}
 use Rattle.bt_rows.specs.declared.due.Due.TheVariants.{PoolResized, NodeAdded, TaskPlaced}
-use Rattle.batch_model.specs.Variants.{empty_state, Steady, Resizing, Usable, JobActive, Active, Placed, Code, TaskRun, Queued, Ended, StartTask}
+use Rattle.batch_model.specs.Variants.{empty_state, Steady, Usable, JobActive, Active, Placed, Code, TaskRun, Queued, Ended, StartTask}
 use Rattle.batch_model.specs.Events.{event_step}
 use Rattle.model_scripts.specs.Scripts.{Call, at, Line, line, Sheet}
 use Rattle.model_scripts.specs.Bodies.{pool_body, job_body, task_body}
 
--- a task of two slots, two with dependencies and one with instances, and then one with none of these
+-- two tasks with dependencies and one with instances, and then one with none of these
 abbrev pub unplaced_tasks : List Call
 unplaced_tasks =
     at 0 (AddPool (pool_body (codes "p") 1))
     ∷ at 0 (AddJob (codes "j") (job_body (codes "p")))
-    ∷ at 0 (AddTask (codes "j") (record (task_body (codes "a")) { slots = 2 }))
     ∷ at 0 (AddTask (codes "j") (record (task_body (codes "b")) { needs = codes "a" ∷ [] }))
     ∷ at 0 (AddTask (codes "j") (record (task_body (codes "c")) { spans = (1, 3) ∷ [] }))
     ∷ at 0 (AddTask (codes "j") (record (task_body (codes "d")) { multi = Some (record { count = 1; line = codes "w" }) }))
@@ -31,7 +30,6 @@ unplaced_tasks_lines =
     ∷ line (Status 201) []
     ∷ line (Status 201) []
     ∷ line (Status 201) []
-    ∷ line (Status 201) []
     ∷ line (Status 201) (TaskPlaced (codes "j") (codes "e") 1 1 ∷ [])
     ∷ []
 
@@ -41,8 +39,7 @@ unplaced_tasks_rows = record {
   nodes = (1, codes "p", 1, Usable) ∷ [];
   jobs = (codes "j", codes "p", JobActive, 0) ∷ [];
   tasks =
-      (codes "j", codes "a", Active, 0, 0, None, None)
-      ∷ (codes "j", codes "b", Active, 0, 0, None, None)
+      (codes "j", codes "b", Active, 0, 0, None, None)
       ∷ (codes "j", codes "c", Active, 0, 0, None, None)
       ∷ (codes "j", codes "d", Active, 0, 0, None, None)
       ∷ (codes "j", codes "e", Placed, 1, 0, None, None)
@@ -51,9 +48,9 @@ unplaced_tasks_rows = record {
   moment = 0;
 }
 
--- a start or preparation task
-abbrev pub start_body : StartTask
-start_body = record { line = codes "w"; retries = pos 0; wait = true }
+-- a preparation task
+abbrev pub prep_body : StartTask
+prep_body = record { line = codes "w"; retries = pos 0; wait = true }
 
 -- jobs with a higher and a lower priority, a limit on placed tasks and a preparation, and then one with none of these
 abbrev pub unheeded_jobs : List Call
@@ -62,7 +59,7 @@ unheeded_jobs =
     ∷ at 0 (AddJob (codes "a") (record (job_body (codes "p")) { priority = pos 1 }))
     ∷ at 0 (AddJob (codes "b") (record (job_body (codes "p")) { priority = negsuc 0 }))
     ∷ at 0 (AddJob (codes "c") (record (job_body (codes "p")) { parallel = pos 1 }))
-    ∷ at 0 (AddJob (codes "d") (record (job_body (codes "p")) { prep = Some start_body }))
+    ∷ at 0 (AddJob (codes "d") (record (job_body (codes "p")) { prep = Some prep_body }))
     ∷ at 0 (AddJob (codes "e") (job_body (codes "p")))
     ∷ at 0 (AddTask (codes "a") (task_body (codes "t")))
     ∷ at 0 (AddTask (codes "b") (task_body (codes "t")))
@@ -108,34 +105,17 @@ unheeded_jobs_rows = record {
   moment = 0;
 }
 
--- a pool of two slots a node with a task, a pool with a start task, and a pool that scales automatically
+-- a pool that scales automatically
 abbrev pub unheeded_pools : List Call
 unheeded_pools =
-    at 0 (AddPool (record (pool_body (codes "p") 1) { slots = 2 }))
-    ∷ at 0 (AddJob (codes "j") (job_body (codes "p")))
-    ∷ at 0 (AddTask (codes "j") (task_body (codes "t")))
-    ∷ at 0 (AddPool (record (pool_body (codes "q") 1) { start = Some start_body }))
-    ∷ at 0 (AddPool (record (pool_body (codes "r") 1) { scale = Some (record { formula = codes "1"; interval = 900000 }) }))
+    at 0 (AddPool (record (pool_body (codes "r") 1) { scale = Some (record { formula = codes "1"; interval = 900000 }) }))
     ∷ []
 
 abbrev pub unheeded_pools_lines : List Line
-unheeded_pools_lines =
-    line (Status 201) (NodeAdded (codes "p") 1 1 ∷ PoolResized (codes "p") Reached ∷ [])
-    ∷ line (Status 201) []
-    ∷ line (Status 201) []
-    ∷ line (Status 201) []
-    ∷ line (Refused refusal.UnreadableBody) []
-    ∷ []
+unheeded_pools_lines = line (Refused refusal.UnreadableBody) [] ∷ []
 
 abbrev pub unheeded_pools_rows : Sheet
-unheeded_pools_rows = record {
-  pools = (codes "p", false, Steady, 1, 0) ∷ (codes "q", false, Resizing, 1, 0) ∷ [];
-  nodes = (1, codes "p", 1, Usable) ∷ [];
-  jobs = (codes "j", codes "p", JobActive, 0) ∷ [];
-  tasks = (codes "j", codes "t", Active, 0, 0, None, None) ∷ [];
-  runs = [];
-  moment = 0;
-}
+unheeded_pools_rows = record { pools = []; nodes = []; jobs = []; tasks = []; runs = []; moment = 0 }
 
 -- a task with a limit of retries, one of a job with such a limit, one with exit conditions, and one of a job that heeds
 -- failures
@@ -206,7 +186,6 @@ unbuilt =
     ∷ EnableJob (codes "j")
     ∷ TerminateJob (codes "j") None
     ∷ DeleteJob (codes "j")
-    ∷ AddTasks (codes "j") []
     ∷ DeleteTask (codes "j") (codes "t")
     ∷ TerminateTask (codes "j") (codes "t")
     ∷ ReactivateTask (codes "j") (codes "t")
@@ -216,4 +195,4 @@ abbrev pub replies_to_unbuilt : List Reply
 replies_to_unbuilt = map (λ event. (event_step 0 event empty_state).reply) unbuilt
 
 abbrev pub all_unreadable : List Reply
-all_unreadable = replicate 10 (Refused refusal.UnreadableBody)
+all_unreadable = replicate 9 (Refused refusal.UnreadableBody)

@@ -9,4 +9,5 @@ pub mod OpeningScripts
 pub mod PlacingScripts
 pub mod PoolScripts
 pub mod Scripts
+pub mod SlotScripts
 pub mod TickScripts

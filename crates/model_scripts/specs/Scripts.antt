@@ -5,6 +5,7 @@ use Rattle.bt_rows.specs.declared.event.EventKind.{EventKind}
 use Rattle.bt_rows.specs.declared.reply.Reply.{Reply}
 use Rattle.bt_rows.specs.declared.due.Due.{Due}
 use Rattle.batch_model.specs.Variants.{State, empty_state, Alloc, PoolRow, NodeStage, NodeRow, JobState, JobRow, TaskStage, How, Closed, TaskRow, RunKind, RunState, RunRow}
+use Rattle.batch_model.specs.Slots.{held_slots}
 use Rattle.batch_model.specs.Steps.{Answered, DueStep}
 use Rattle.batch_model.specs.Dues.{due_step}
 use Rattle.batch_model.specs.Events.{event_step}
@@ -126,6 +127,14 @@ sheet_of s = record {
 -- the rows after the calls from empty tables
 abbrev pub rows_after : List Call → Sheet
 rows_after calls = sheet_of (state_after calls)
+
+-- the slots held on each node after them
+abbrev pub held_after : List Call → List ℕ
+held_after calls = let s = state_after calls in map (λ (node : NodeRow). held_slots s node.number) s.nodes
+
+-- the failures of the start task on each node after them
+abbrev pub tries_after : List Call → List ℕ
+tries_after calls = map (λ (node : NodeRow). node.tries) (state_after calls).nodes
 
 -- opened tables
 

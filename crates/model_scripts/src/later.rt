@@ -6,7 +6,7 @@ ghost use Rattle.model_scripts.specs.Scripts.{lines_of, rows_after};
 ghost use Rattle.model_scripts.specs.Checks.{is_good};
 ghost use Rattle.model_scripts.specs.LaterScripts as row;
 
-/// A task of two slots, with dependencies or with instances is not placed yet, and holds up none.
+/// A task with dependencies or with instances is not placed yet, and holds up none.
 pub fn tasks_are_not_placed_yet()
     ensures lines { lines_of row.unplaced_tasks ≡ row.unplaced_tasks_lines }
     ensures rows { rows_after row.unplaced_tasks ≡ row.unplaced_tasks_rows }
@@ -20,8 +20,8 @@ pub fn jobs_are_not_heeded_yet()
     ensures good { is_good row.unheeded_jobs ≡ true }
 {}
 
-/// In a pool of two slots a node tasks are not placed yet, and a pool with a start task gets no nodes yet.
-pub fn pools_of_two_slots_are_not_heeded_yet()
+/// A pool that scales automatically is not read yet.
+pub fn pools_that_scale_are_not_read_yet()
     ensures lines { lines_of row.unheeded_pools ≡ row.unheeded_pools_lines }
     ensures rows { rows_after row.unheeded_pools ≡ row.unheeded_pools_rows }
     ensures good { is_good row.unheeded_pools ≡ true }

@@ -11,6 +11,7 @@ mod later;
 mod openings;
 mod placing;
 mod pools;
+mod slots;
 mod ticks;
 
 pub use adding::{
@@ -29,7 +30,7 @@ pub use first_path::{
     a_task_ends_with_success, nothing_comes_of_no_calls, runs_are_taken_and_ended_once,
 };
 pub use later::{
-    events_are_not_read_yet, jobs_are_not_heeded_yet, pools_of_two_slots_are_not_heeded_yet,
+    events_are_not_read_yet, jobs_are_not_heeded_yet, pools_that_scale_are_not_read_yet,
     retries_are_not_made_yet, tasks_are_not_placed_yet,
 };
 pub use openings::{
@@ -43,5 +44,9 @@ pub use placing::{
 pub use pools::{
     a_pool_gets_its_nodes, at_most_64_pools, ids_of_pools_have_no_case, nodes_are_as_many_as_seats,
     pools_share_seats,
+};
+pub use slots::{
+    a_task_fits_no_smaller_node, a_wide_task_is_passed_over, fill_types_go_before_numbers,
+    tasks_are_packed, tasks_are_spread, the_lower_number_of_full_nodes,
 };
 pub use ticks::{a_resize_times_out, a_tick_moves_the_moment};
