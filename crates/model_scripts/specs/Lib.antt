@@ -2,6 +2,7 @@ pub mod AddingScripts
 pub mod Bodies
 pub mod ByHand
 pub mod Checks
+pub mod CollectionScripts
 pub mod EndingScripts
 pub mod FirstPath
 pub mod LaterScripts
@@ -10,4 +11,6 @@ pub mod PlacingScripts
 pub mod PoolScripts
 pub mod Scripts
 pub mod SlotScripts
+pub mod StartScripts
+pub mod StartsByHand
 pub mod TickScripts

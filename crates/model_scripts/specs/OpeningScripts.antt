@@ -6,11 +6,12 @@ use Rattle.bt_rows.specs.declared.refusal.Refusal.TheVariants as refusal
 use Rattle.bt_rows.specs.declared.due.Outcome.TheVariants.{Success, Again}
 use Rattle.bt_rows.specs.declared.due.ResizeEnd.TheVariants.{Reached}
 use Rattle.bt_rows.specs.declared.due.Due.TheVariants.{TaskSettled, PoolResized, NodeAdded, TaskPlaced}
-use Rattle.batch_model.specs.Variants.{State, empty_state, Alloc, Steady, Resizing, Stopping, ResizeError, AllocationTimedOut, ResizeStopped, PoolRow, Usable, JobActive, Placed, Code, Want, WantRequeue, WantTerminate, TaskRow, TaskRun, Queued, Withdrawn}
+use Rattle.batch_model.specs.Variants.{State, empty_state, Alloc, Steady, Resizing, Stopping, ResizeError, AllocationTimedOut, ResizeStopped, PoolRow, Starting, Usable, JobActive, Placed, Code, Want, WantRequeue, WantTerminate, TaskRow, StartRun, TaskRun, Queued, Ended, Withdrawn}
 use Rattle.batch_model.specs.Pools.{new_pool}
 use Rattle.batch_model.specs.Events.{event_step}
 use Rattle.batch_model.specs.Opening.{opening}
 use Rattle.model_scripts.specs.Scripts.{Call, at, Line, line, Sheet, state_after, seat_count, run}
+use Rattle.model_scripts.specs.StartScripts.{start_pool}
 use Rattle.model_scripts.specs.Bodies.{pool_body, job_body, task_body}
 
 -- a run is taken
@@ -141,3 +142,41 @@ all_pools =
 
 abbrev pub empty_opened : State
 empty_opened = opening empty_state
+
+-- start tasks
+
+-- a start run is taken, and another one has made its node usable
+abbrev pub starting : List Call
+starting =
+    at 0 (AddPool (start_pool 2 (pos 3) true))
+    ∷ at 1 (Take 1)
+    ∷ at 2 (Take 2)
+    ∷ at 3 (End 2 (Code (pos 0)))
+    ∷ []
+
+-- the nodes begin anew, and the run that was taken can't be ended any more
+abbrev pub after_starting : List Call
+after_starting = at 5 Tick ∷ at 6 (End 1 (Code (pos 0))) ∷ at 7 (Take 3) ∷ at 8 (End 3 (Code (pos 0))) ∷ []
+
+abbrev pub after_starting_lines : List Line
+after_starting_lines =
+    line (Status 200) (NodeAdded (codes "p") 3 1 ∷ NodeAdded (codes "p") 4 2 ∷ PoolResized (codes "p") Reached ∷ [])
+    ∷ line (Refused refusal.RunWithdrawn) []
+    ∷ line (Status 200) []
+    ∷ line (Status 200) []
+    ∷ []
+
+abbrev pub after_starting_rows : Sheet
+after_starting_rows = record {
+  pools = (codes "p", false, Steady, 2, 3) ∷ [];
+  nodes = (3, codes "p", 1, Usable) ∷ (4, codes "p", 2, Starting) ∷ [];
+  jobs = [];
+  tasks = [];
+  runs =
+      (1, StartRun, 1, codes "p", (None, None, 0), Withdrawn, 0, Some 1, Some 3)
+      ∷ (2, StartRun, 2, codes "p", (None, None, 0), Ended (Code (pos 0)), 0, Some 2, Some 3)
+      ∷ (3, StartRun, 3, codes "p", (None, None, 0), Ended (Code (pos 0)), 5, Some 7, Some 8)
+      ∷ (4, StartRun, 4, codes "p", (None, None, 0), Queued, 5, None, None)
+      ∷ [];
+  moment = 8;
+}

@@ -1,5 +1,5 @@
 -- Slots of nodes and the fill types of pools.
-use Rattle.std.specs.Prelude.{ℕ, List, [], ◌∷◌, Some, None, pos, codes, true, false}
+use Rattle.std.specs.Prelude.{ℕ, List, [], ◌∷◌, map, replicate, Some, None, pos, codes, true, false}
 use Rattle.bt_rows.specs.declared.event.EventKind.{EventKind}
 use Rattle.bt_rows.specs.declared.event.EventKind.TheVariants.{AddPool, AddJob, AddTask, AddTasks, Take, End}
 use Rattle.bt_rows.specs.declared.event.PoolSpec.{PoolSpec}
@@ -11,8 +11,10 @@ use Rattle.bt_rows.specs.declared.due.Outcome.TheVariants.{Success}
 use Rattle.bt_rows.specs.declared.due.ResizeEnd.TheVariants.{Reached}
 use Rattle.bt_rows.specs.declared.due.Due.{Due}
 use Rattle.bt_rows.specs.declared.due.Due.TheVariants.{TaskSettled, PoolResized, NodeAdded, TaskPlaced}
-use Rattle.batch_model.specs.Variants.{Steady, Usable, JobActive, Active, Placed, Completed, ByEnding, Code, TaskRun, Queued, Ended, Pack}
+use Rattle.batch_model.specs.Variants.{State, Steady, Usable, JobActive, TaskStage, Active, Placed, Completed, TaskRow, ByEnding, Code, TaskRun, Queued, Ended, Pack}
+use Rattle.batch_model.specs.Slots.{held_slots}
 use Rattle.model_scripts.specs.Scripts.{Call, at, Line, line, Sheet}
+use Rattle.model_scripts.specs.ByHand.{placed_task, with_runs_in, run_states}
 use Rattle.model_scripts.specs.Bodies.{pool_body, job_body, task_body}
 
 -- a pool of so many nodes, each of so many slots, which are spread over
@@ -247,3 +249,28 @@ too_wide_lines =
 
 abbrev pub too_wide_held : List ℕ
 too_wide_held = 1 ∷ 0 ∷ []
+
+-- what holds slots: a task is placed on node 1 in its first attempt
+
+-- however far its run is
+abbrev pub held_by_run_state : List ℕ
+held_by_run_state = map (λ one. held_slots (with_runs_in one placed_task) 1) run_states
+
+abbrev pub all_held : List ℕ
+all_held = replicate 5 1
+
+-- the tasks in this stage and attempt
+abbrev pub with_tasks_in : TaskStage → ℕ → State → State
+with_tasks_in one n s = record s { tasks = map (λ (task : TaskRow). record task { stage = one; attempt = n }) s.tasks }
+
+-- not on another node, of a task that is active again, of one that is completed, and of an earlier attempt
+abbrev pub not_held : List ℕ
+not_held =
+    held_slots placed_task 2
+    ∷ held_slots (with_tasks_in Active 1 placed_task) 1
+    ∷ held_slots (with_tasks_in Completed 1 placed_task) 1
+    ∷ held_slots (with_tasks_in Placed 2 placed_task) 1
+    ∷ []
+
+abbrev pub none_held : List ℕ
+none_held = replicate 4 0

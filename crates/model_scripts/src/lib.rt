@@ -5,6 +5,7 @@
 
 mod adding;
 mod by_hand;
+mod collections;
 mod endings;
 mod first_path;
 mod later;
@@ -12,6 +13,7 @@ mod openings;
 mod placing;
 mod pools;
 mod slots;
+mod starts;
 mod ticks;
 
 pub use adding::{
@@ -25,6 +27,10 @@ pub use by_hand::{
     resizes_end_in_two_ways, rules_begin_again, runs_are_refused_by_state,
     tasks_go_on_usable_nodes,
 };
+pub use collections::{
+    at_most_100_elements, collections_are_refused_in_order, dependency_lists_are_not_too_long,
+    each_element_is_answered,
+};
 pub use endings::{any_other_ending_is_a_failure, the_limit_of_the_task_goes_before};
 pub use first_path::{
     a_task_ends_with_success, nothing_comes_of_no_calls, runs_are_taken_and_ended_once,
@@ -35,7 +41,7 @@ pub use later::{
 };
 pub use openings::{
     a_taken_run_is_made_again, an_ending_is_settled_after_the_opening, empty_tables_open_as_empty,
-    pools_are_filled_again, tasks_that_were_cut_short_are_requeued,
+    nodes_start_anew, pools_are_filled_again, tasks_that_were_cut_short_are_requeued,
 };
 pub use placing::{
     nodes_are_taken_in_order, pools_are_apart, tasks_take_turns_on_a_node,
@@ -47,6 +53,13 @@ pub use pools::{
 };
 pub use slots::{
     a_task_fits_no_smaller_node, a_wide_task_is_passed_over, fill_types_go_before_numbers,
-    tasks_are_packed, tasks_are_spread, the_lower_number_of_full_nodes,
+    placed_tasks_hold_their_slots, tasks_are_packed, tasks_are_spread,
+    the_lower_number_of_full_nodes,
+};
+pub use starts::{
+    a_node_fails_to_start, a_start_run_is_ended_once, a_start_task_fails_over_and_over,
+    a_start_task_is_not_waited_for, a_start_task_is_tried_again, a_start_task_without_retries,
+    endings_by_stage, failures_count_before_retries, nodes_start_by_themselves,
+    start_runs_come_to_an_end,
 };
 pub use ticks::{a_resize_times_out, a_tick_moves_the_moment};

@@ -16,6 +16,14 @@ pub fn a_taken_run_is_made_again()
     ensures good_opened { is_good_opened row.taken row.after_taken ≡ true }
 {}
 
+/// A pool with a start task gets new nodes, which begin it anew, whatever became of it on the old ones.
+pub fn nodes_start_anew()
+    ensures lines { lines_opened row.starting row.after_starting ≡ row.after_starting_lines }
+    ensures rows { rows_opened row.starting row.after_starting ≡ row.after_starting_rows }
+    ensures good { is_good row.starting ≡ true }
+    ensures good_opened { is_good_opened row.starting row.after_starting ≡ true }
+{}
+
 /// An ending that was not settled yet is not lost.
 pub fn an_ending_is_settled_after_the_opening()
     ensures { row.unsettled_lines ≡ row.settled_lines }

@@ -51,3 +51,9 @@ pub fn a_task_fits_no_smaller_node()
     ensures held { held_after row.too_wide ≡ row.too_wide_held }
     ensures good { is_good row.too_wide ≡ true }
 {}
+
+/// A run of the present attempt of a placed task holds its slots whatever its state, and any other run holds none.
+pub fn placed_tasks_hold_their_slots()
+    ensures held { row.held_by_run_state ≡ row.all_held }
+    ensures not_held { row.not_held ≡ row.none_held }
+{}
