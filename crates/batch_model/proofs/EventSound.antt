@@ -1,5 +1,5 @@
 -- Each event leaves consistent tables consistent, and sound tables sound.
-use Rattle.std.proofs.Common.{◌≡◌, ℕ, ◌≤◌, true, false, nat_le, List, length, Option, Some, None, is_some, inl, inr, refl}
+use Rattle.std.proofs.Common.{◌≡◌, ℕ, ◌≤◌, true, false, nat_lt, nat_le, List, length, Option, Some, None, is_some, inl, inr, refl}
 use Rattle.std.specs.List.{find}
 use Rattle.bt_base.specs.Moments.{last_moment}
 use Rattle.bt_base.proofs.SameIds.{same_equiv}
@@ -13,10 +13,10 @@ use Rattle.bt_rows.specs.declared.refusal.Refusal.TheVariants.{PoolNotFound, Job
 use Rattle.bt_rows.specs.Ranges.{is_event_in_range}
 use Rattle.batch_model.specs.Steps.{Answered}
 use Rattle.batch_model.specs.Rows.{is_pool, is_job, is_task, is_run, pool_of, job_of, task_of, run_of}
-use Rattle.batch_model.specs.Events.{for_row, add_pool, add_job, add_job_in, has_long_needs, add_task, take_run, end_run, event_now, event_step, at_moment}
+use Rattle.batch_model.specs.Events.{for_row, add_pool, add_job, add_job_in, has_long_needs, add_task, add_tasks, take_run, end_run, event_now, event_step, at_moment}
 use Rattle.batch_model.specs.Pools.{new_pool}
 use Rattle.batch_model.specs.Jobs.{is_past, new_job}
-use Rattle.batch_model.specs.Limits.{pool_limit, job_limit, task_limit}
+use Rattle.batch_model.specs.Limits.{pool_limit, job_limit, task_limit, collection_limit}
 use Rattle.batch_model.specs.Sound.{IsConsistent, IsSound}
 use Rattle.batch_model.specs.WellFormed.{has_job_row}
 use Rattle.batch_model.specs.Variants.{State, PoolRow, JobRow, RunRow, RunState, Waiting, Queued, Taken, Ended, Withdrawn, Ending}
@@ -26,9 +26,12 @@ use Rattle.batch_model.proofs.SoundMoment.{consistent_moment}
 use Rattle.batch_model.proofs.PoolAdded.{consistent_pool_added}
 use Rattle.batch_model.proofs.JobAdded.{consistent_job_added}
 use Rattle.batch_model.proofs.TaskAdded.{consistent_task_added}
+use Rattle.batch_model.proofs.TasksAdded.{none_found, consistent_tasks_added}
 use Rattle.batch_model.proofs.RunTaken.{consistent_taken}
 use Rattle.batch_model.proofs.RunEnded.{consistent_ended}
+use Rattle.batch_model.proofs.EndedRuns.{after_end}
 use Rattle.batch_model.proofs.LimitsEvent.{own_number, limited_by_event}
+use Rattle.batch_model.proofs.StartsByEvent.{starts_by_event}
 
 -- refusals and rows
 
@@ -51,7 +54,7 @@ module _ (seats : ℕ) (s : State) (h : IsConsistent seats s) where
       | inl e ↦ rw (plain, e) h
       | inr new ↦ elim (passes_or_not (nat_le pool_limit (length s.pools))) [
         | inl e ↦ rw (plain, new, e) h
-        | inr room ↦ rw (plain, new, room) (consistent_pool_added seats s (new_pool s.moment spec) h (find_none (is_pool spec.id) s.pools (is_nothing (pool_of s spec.id) new)))
+        | inr room ↦ rw (plain, new, room) (consistent_pool_added seats s (new_pool s.moment spec) h (none_found (is_pool spec.id) s.pools new))
       ]
     ]
   ]
@@ -87,9 +90,19 @@ module _ (seats : ℕ) (s : State) (h : IsConsistent seats s) where
           | inl e ↦ rw (open_job, new, short, e) h
           | inr room ↦
               rw (open_job, new, short, room)
-              (consistent_task_added s job.id spec seats h (has_found_job id job there) (find_none (is_task job.id spec.id) s.tasks (is_nothing (task_of s job.id spec.id) new)))
+              (consistent_task_added s job.id spec seats h (has_found_job id job there) (none_found (is_task job.id spec.id) s.tasks new))
         ]
       ]
+    ]
+  ]
+
+  -- `add-tasks`
+  by_add_tasks : (id : List ℕ) (specs : List TaskSpec) (job : JobRow) → job_of s id ≡ Some job → IsConsistent seats (add_tasks s specs job).state
+  by_add_tasks id specs job there = elim (passes_or_not (is_past job.state)) [
+    | inl e ↦ rw e h
+    | inr open_job ↦ elim (passes_or_not (nat_lt collection_limit (length specs))) [
+      | inl e ↦ rw (open_job, e) h
+      | inr few ↦ rw (open_job, few) (consistent_tasks_added seats s job specs h (has_found_job id job there))
     ]
   ]
 
@@ -105,15 +118,9 @@ module _ (seats : ℕ) (s : State) (h : IsConsistent seats s) where
   by_take number run there = by_take_in run run.state refl (own_number s number run there)
 
   -- `end`: only a taken run is ended
-  by_end_in : (ending : Ending) (run : RunRow) (state : RunState) → run.state ≡ state → find (is_run run.number) s.runs ≡ Some run → IsConsistent seats (end_run s ending run).state
-  by_end_in ending run Waiting e there = rw e h
-  by_end_in ending run Queued e there = rw e h
-  by_end_in ending run Taken e there = rw e (consistent_ended seats s ending run h there (rw e refl))
-  by_end_in ending run (Ended before) e there = rw e h
-  by_end_in ending run Withdrawn e there = rw e h
-
   by_end : (number : ℕ) (ending : Ending) (run : RunRow) → run_of s number ≡ Some run → IsConsistent seats (end_run s ending run).state
-  by_end number ending run there = by_end_in ending run run.state refl (own_number s number run there)
+  by_end number ending run there =
+      after_end (IsConsistent seats) s h ending run (λ taken. consistent_ended seats s ending run h (own_number s number run there) taken)
 
   -- each event at the tables' moment
   pub consistent_now : (event : EventKind) → IsConsistent seats (event_now event s).state
@@ -131,7 +138,7 @@ module _ (seats : ℕ) (s : State) (h : IsConsistent seats s) where
   consistent_now (TerminateJob job reason) = h
   consistent_now (DeleteJob job) = h
   consistent_now (AddTask job spec) = consistent_for_row seats s JobNotFound (add_task s spec) (job_of s job) h (by_add_task job spec)
-  consistent_now (AddTasks job specs) = h
+  consistent_now (AddTasks job specs) = consistent_for_row seats s JobNotFound (add_tasks s specs) (job_of s job) h (by_add_tasks job specs)
   consistent_now (DeleteTask job task) = h
   consistent_now (TerminateTask job task) = h
   consistent_now (ReactivateTask job task) = h
@@ -152,4 +159,5 @@ sound_by_event seats moment event s last in_range h =
       consistent = consistent_by_event seats moment event s h.consistent;
       limited = limited.limits;
       unended = limited.unended;
+      starts = starts_by_event seats moment event s h;
     }

@@ -18,11 +18,13 @@ pub mod PoolAdded
 pub mod JobAdded
 pub mod TaskAdded
 pub mod NodeChosen
+pub mod TasksAdded
 pub mod TaskPlaced
 pub mod Putting
 pub mod MappedRows
 pub mod RunsMove
 pub mod RunEnded
+pub mod EndedRuns
 pub mod TasksKept
 pub mod RunTaken
 pub mod SettledRows

@@ -1,5 +1,5 @@
 -- Each event leaves tables within the limits.
-use Rattle.std.proofs.Common.{◌≡◌, ℕ, ◌≤◌, true, nat_le, List, length, Option, Some, None, is_some, inl, inr, refl, sym, subst}
+use Rattle.std.proofs.Common.{◌≡◌, ℕ, ◌≤◌, true, false, nat_lt, nat_le, List, length, Option, Some, None, is_some, inl, inr, refl, sym, subst}
 use Rattle.std.specs.List.{find}
 use Rattle.std.proofs.lemmas.Bool.Decides.{Decides-eqb}
 use Rattle.bt_base.specs.Moments.{last_moment}
@@ -14,16 +14,20 @@ use Rattle.bt_rows.specs.Keys.{same_run}
 use Rattle.bt_rows.specs.Lists.{AreDistinct}
 use Rattle.bt_rows.specs.Ranges.{is_pool_spec_in_range, is_job_spec_in_range, is_task_spec_in_range, is_event_in_range}
 use Rattle.batch_model.specs.Steps.{Answered}
-use Rattle.batch_model.specs.Rows.{is_run, pool_of, job_of, task_of, run_of}
+use Rattle.batch_model.specs.Rows.{is_run, pool_of, job_of, task_of, run_of, add_task_row}
+use Rattle.batch_model.specs.Finding.{Each}
+use Rattle.batch_model.specs.Tasks.{new_task}
 use Rattle.batch_model.specs.Jobs.{is_past}
-use Rattle.batch_model.specs.Events.{for_row, add_pool, add_job, add_job_in, has_long_needs, add_task, take_run, end_run, event_now, event_step, at_moment}
-use Rattle.batch_model.specs.Limits.{pool_limit, job_limit, task_limit}
+use Rattle.batch_model.specs.Events.{for_row, add_pool, add_job, add_job_in, has_long_needs, add_task, add_tasks, take_run, end_run, event_now, event_step, at_moment}
+use Rattle.batch_model.specs.Limits.{pool_limit, job_limit, task_limit, collection_limit}
 use Rattle.batch_model.specs.Sound.{IsWithinLimits, UnendedRunsHaveNoEnd, IsSound}
 use Rattle.batch_model.specs.Variants.{State, PoolRow, JobRow, RunRow, RunState, Waiting, Queued, Taken, Ended, Withdrawn, Ending}
 use Rattle.batch_model.proofs.Tests.{passes_or_not}
 use Rattle.batch_model.proofs.RowLists.{find_test}
 use Rattle.batch_model.proofs.LimitsMoment.{limited_moment}
 use Rattle.batch_model.proofs.LimitsAdded.{limited_pool_added, limited_job_added, limited_task_added}
+use Rattle.batch_model.proofs.TasksAdded.{each_added}
+use Rattle.batch_model.proofs.EndedRuns.{after_end}
 use Rattle.batch_model.proofs.LimitsRuns.{limited_taken, limited_ended}
 use Rattle.batch_model.proofs.UnendedRuns.{found_without_end, unended_taken, unended_ended}
 
@@ -41,6 +45,10 @@ limited_for_row s refusal answer_for (Some row) h give = give row refl
 pub own_number : (s : State) (number : ℕ) (run : RunRow) → run_of s number ≡ Some run → find (is_run run.number) s.runs ≡ Some run
 own_number s number run e =
     subst (λ n. find (is_run n) s.runs ≡ Some run) (sym ((Decides-eqb run.number number).0 (find_test (is_run number) run s.runs e))) e
+
+-- a task that nothing refuses is added
+limited_with_task : (s : State) (in_job : List ℕ) (spec : TaskSpec) → IsLimited s → is_task_spec_in_range spec ≡ true → has_long_needs spec ≡ false → nat_le task_limit (length s.tasks) ≡ false → IsLimited (add_task_row (new_task in_job spec) s)
+limited_with_task s in_job spec h in_range short room = record { limits = limited_task_added s in_job spec h.limits in_range short room; unended = h.unended }
 
 module _ (s : State) (keys : AreDistinct same_run s.runs) (h : IsLimited s) where
   -- `add-pool`
@@ -82,10 +90,21 @@ module _ (s : State) (keys : AreDistinct same_run s.runs) (h : IsLimited s) wher
         | inl e ↦ rw (open_job, new, e) h
         | inr short ↦ elim (passes_or_not (nat_le task_limit (length s.tasks))) [
           | inl e ↦ rw (open_job, new, short, e) h
-          | inr room ↦
-              rw (open_job, new, short, room) (record { limits = limited_task_added s job.id spec h.limits in_range short room; unended = h.unended })
+          | inr room ↦ rw (open_job, new, short, room) (limited_with_task s job.id spec h in_range short room)
         ]
       ]
+    ]
+  ]
+
+  -- `add-tasks`
+  by_add_tasks : (specs : List TaskSpec) (job : JobRow) → Each is_task_spec_in_range specs → IsLimited (add_tasks s specs job).state
+  by_add_tasks specs job in_range = elim (passes_or_not (is_past job.state)) [
+    | inl e ↦ rw e h
+    | inr open_job ↦ elim (passes_or_not (nat_lt collection_limit (length specs))) [
+      | inl e ↦ rw (open_job, e) h
+      | inr few ↦
+          rw (open_job, few)
+          (each_added IsLimited job is_task_spec_in_range (λ tables spec k g new short room. limited_with_task tables job.id spec k g short room) specs s in_range h)
     ]
   ]
 
@@ -100,12 +119,9 @@ module _ (s : State) (keys : AreDistinct same_run s.runs) (h : IsLimited s) wher
   by_take_in run Withdrawn e there = rw e h
 
   -- `end`: only a taken run is ended
-  by_end_in : (ending : Ending) (run : RunRow) (state : RunState) → run.state ≡ state → IsLimited (end_run s ending run).state
-  by_end_in ending run Waiting e = rw e h
-  by_end_in ending run Queued e = rw e h
-  by_end_in ending run Taken e = rw e (record { limits = limited_ended s ending run h.limits; unended = unended_ended s ending run h.unended })
-  by_end_in ending run (Ended before) e = rw e h
-  by_end_in ending run Withdrawn e = rw e h
+  by_end : (ending : Ending) (run : RunRow) → IsLimited (end_run s ending run).state
+  by_end ending run =
+      after_end IsLimited s h ending run (λ taken. record { limits = limited_ended s ending run h.limits; unended = unended_ended s ending run h.unended })
 
   -- each event at the tables' moment
   limited_now : (event : EventKind) → is_event_in_range event ≡ true → IsLimited (event_now event s).state
@@ -123,12 +139,12 @@ module _ (s : State) (keys : AreDistinct same_run s.runs) (h : IsLimited s) wher
   limited_now (TerminateJob job reason) k = h
   limited_now (DeleteJob job) k = h
   limited_now (AddTask job spec) k = limited_for_row s JobNotFound (add_task s spec) (job_of s job) h (λ found e. by_add_task spec found k)
-  limited_now (AddTasks job specs) k = h
+  limited_now (AddTasks job specs) k = limited_for_row s JobNotFound (add_tasks s specs) (job_of s job) h (λ found e. by_add_tasks specs found k)
   limited_now (DeleteTask job task) k = h
   limited_now (TerminateTask job task) k = h
   limited_now (ReactivateTask job task) k = h
   limited_now (Take run) k = limited_for_row s RunNotFound (take_run s) (run_of s run) h (λ found e. by_take_in found found.state refl (own_number s run found e))
-  limited_now (End run ending) k = limited_for_row s RunNotFound (end_run s ending) (run_of s run) h (λ found e. by_end_in ending found found.state refl)
+  limited_now (End run ending) k = limited_for_row s RunNotFound (end_run s ending) (run_of s run) h (λ found e. by_end ending found)
   limited_now (Sample pool given) k = h
   limited_now Tick k = h
 

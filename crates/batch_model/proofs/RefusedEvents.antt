@@ -9,7 +9,7 @@ use Rattle.bt_rows.specs.declared.refusal.Refusal.TheVariants.{PoolNotFound, Job
 use Rattle.bt_rows.specs.declared.reply.Reply.TheVariants.{Refused}
 use Rattle.batch_model.specs.Rows.{pool_of, job_of, run_of}
 use Rattle.batch_model.specs.Steps.{Answered}
-use Rattle.batch_model.specs.Events.{refuse, accept, for_row, add_job_in, add_job, add_task, take_run, end_run, event_now, event_step, at_moment}
+use Rattle.batch_model.specs.Events.{refuse, accept, for_row, add_job_in, add_job, add_task, AddedAll, add_each, accept_all, add_tasks, take_run, end_run, event_now, event_step, at_moment}
 use Rattle.batch_model.specs.Variants.{State}
 use Rattle.batch_model.proofs.Tests.{passes_or_not}
 
@@ -21,6 +21,11 @@ Keeps s answered = (refusal : Refusal) → answered.reply ≡ Refused refusal �
 kept : (s after : State) (status : ℕ) (first : Option Refusal) → Keeps s (option_map_or (λ one. refuse one s) first (accept status after))
 kept s after status None refusal k = cc
 kept s after status (Some one) refusal k = refl
+
+-- the same of a collection
+kept_all : (s : State) (added : AddedAll) (first : Option Refusal) → Keeps s (option_map_or (λ one. refuse one s) first (accept_all added))
+kept_all s added None refusal k = cc
+kept_all s added (Some one) refusal k = refl
 
 -- for a row
 keeps_for_row : {R : Type 0} (s : State) (refusal : Refusal) (answer_for : R → Answered) (row : Option R) → ((one : R) → Keeps s (answer_for one)) → Keeps s (for_row s refusal answer_for row)
@@ -51,7 +56,7 @@ module _ (s : State) where
   keeps_now (TerminateJob job reason) refusal k = refl
   keeps_now (DeleteJob job) refusal k = refl
   keeps_now (AddTask job spec) refusal k = keeps_for_row s JobNotFound (add_task s spec) (job_of s job) (λ found. kept s _ 201 _) refusal k
-  keeps_now (AddTasks job specs) refusal k = refl
+  keeps_now (AddTasks job specs) refusal k = keeps_for_row s JobNotFound (add_tasks s specs) (job_of s job) (λ found. kept_all s (add_each s found specs) _) refusal k
   keeps_now (DeleteTask job task) refusal k = refl
   keeps_now (TerminateTask job task) refusal k = refl
   keeps_now (ReactivateTask job task) refusal k = refl
