@@ -21,7 +21,7 @@ use Rattle.batch_model.specs.Sound.{IsConsistent, IsSound}
 use Rattle.batch_model.specs.WellFormed.{has_job_row}
 use Rattle.batch_model.specs.Variants.{State, PoolRow, JobRow, RunRow, RunState, Waiting, Queued, Taken, Ended, Withdrawn, Ending}
 use Rattle.batch_model.proofs.Tests.{passes_or_not}
-use Rattle.batch_model.proofs.RowLists.{find_none, any_found}
+use Rattle.batch_model.proofs.RowLists.{any_found}
 use Rattle.batch_model.proofs.SoundMoment.{consistent_moment}
 use Rattle.batch_model.proofs.PoolAdded.{consistent_pool_added}
 use Rattle.batch_model.proofs.JobAdded.{consistent_job_added}
@@ -34,11 +34,6 @@ use Rattle.batch_model.proofs.LimitsEvent.{own_number, limited_by_event}
 use Rattle.batch_model.proofs.StartsByEvent.{starts_by_event}
 
 -- refusals and rows
-
--- nothing is there
-is_nothing : {A : Type 0} (o : Option A) → is_some o ≡ false → o ≡ None
-is_nothing None e = refl
-is_nothing (Some x) e = cc
 
 -- the answer for a row leaves sound tables, if it does for each row that may be there
 pub consistent_for_row : {R : Type 0} (seats : ℕ) (s : State) (refusal : Refusal) (answer_for : R → Answered) (row : Option R) → IsConsistent seats s → ((one : R) → row ≡ Some one → IsConsistent seats (answer_for one).state) → IsConsistent seats (for_row s refusal answer_for row).state
@@ -60,19 +55,19 @@ module _ (seats : ℕ) (s : State) (h : IsConsistent seats s) where
   ]
 
   -- `add-job`
-  by_add_job_in : (id : List ℕ) (spec : JobSpec) (pool : PoolRow) → job_of s id ≡ None → IsConsistent seats (add_job_in s id spec pool).state
+  by_add_job_in : (id : List ℕ) (spec : JobSpec) (pool : PoolRow) → is_some (job_of s id) ≡ false → IsConsistent seats (add_job_in s id spec pool).state
   by_add_job_in id spec pool new = elim (passes_or_not pool.deleting) [
     | inl e ↦ rw e h
     | inr kept ↦ elim (passes_or_not (nat_le job_limit (length s.jobs))) [
       | inl e ↦ rw (kept, e) h
-      | inr room ↦ rw (kept, room) (consistent_job_added seats s (new_job s.moment id pool.id spec) h (find_none (is_job id) s.jobs new))
+      | inr room ↦ rw (kept, room) (consistent_job_added seats s (new_job s.moment id pool.id spec) h (none_found (is_job id) s.jobs new))
     ]
   ]
 
   by_add_job : (id : List ℕ) (spec : JobSpec) → IsConsistent seats (add_job s id spec).state
   by_add_job id spec = elim (passes_or_not (is_some (job_of s id))) [
     | inl e ↦ rw e h
-    | inr new ↦ rw new (consistent_for_row seats s PoolNotFound (add_job_in s id spec) (pool_of s spec.pool) h (λ pool e. by_add_job_in id spec pool (is_nothing (job_of s id) new)))
+    | inr new ↦ rw new (consistent_for_row seats s PoolNotFound (add_job_in s id spec) (pool_of s spec.pool) h (λ pool e. by_add_job_in id spec pool new))
   ]
 
   -- `add-task`
