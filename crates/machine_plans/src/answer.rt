@@ -1,5 +1,6 @@
 //! What a machine answers to an event.
-ghost use Rattle.std.specs.Prelude.{IfOk};
+ghost use Rattle.std.specs.Prelude.{◌≡◌, Ok, Err, IfOk, IsErr};
+ghost use Rattle.bt_base.specs.declared.fail.Fail.TheVariants.{Memory};
 ghost use Rattle.batch_model.specs.Steps.{Answered};
 ghost use Rattle.machine_plans.specs.Plans.{IsAnswer, IsPlanOf};
 
@@ -17,7 +18,9 @@ pub fn or_refused(
     moment: u64,
     answer: Result<Plan, Fail<Refusal>>,
 ) -> Result<Plan, NoMemory>
-    ensures { (answered : Answered) → IsAnswer moment answered tables.now.state answer → IfOk result (IsPlanOf answered tables.now.state) }
+    ensures plan { (answered : Answered) → IsAnswer moment answered tables.now.state answer → IfOk result (IsPlanOf answered tables.now.state) }
+    ensures kept { (plan : Plan) → answer ≡ Ok plan → result ≡ Ok plan }
+    ensures memory { answer ≡ Err Memory → IsErr result }
 {
     match answer {
         Ok(plan) => Ok(plan),

@@ -3,7 +3,9 @@
 #![tactic(auto)]
 
 mod answer;
+mod listed;
 mod plan;
 
 pub use answer::or_refused;
+pub use listed::reply_listed;
 pub use plan::{accept_none, accept_one, accept_two, refuse, step_one, step_three, step_two};

@@ -14,7 +14,7 @@ use bt_rows::tables::{Change, Tables};
 use std::alloc::Global;
 
 /// The change of the last moment, where it rises.
-fn moved(alloc: Global, tables: &Tables, moment: u64) -> Result<Vec<Change>, NoMemory>
+pub fn moved(alloc: Global, tables: &Tables, moment: u64) -> Result<Vec<Change>, NoMemory>
     ensures { IfOk result (λ changes. changes.items ≡ moved_to moment tables.now.state) }
 {
     if tables.moment() < moment {
