@@ -60,12 +60,28 @@ node_put s row after run numbers is_next rises stays =
     made : (nodes : List NodeRow) → nodes ≡ s.nodes ++ row ∷ [] → record s { nodes = nodes; next_node = after; next_run = run } ≡ add_node_row row s
     made nodes e = rw (e, rises, stays) refl
 
--- a run with the next number, and the counter behind it
-pub run_put : (s : State) (row : RunRow) (after node : ℕ) → NumbersAreNew s → row.number ≡ s.next_run → after ≡ s.next_run + 1 → node ≡ s.next_node → apply_changes (PutRun row ∷ Counters node after ∷ []) s ≡ add_run_row row s
-run_put s row after node numbers is_next rises stays =
+-- a run with the next number, and the counter behind it, where every run has a lower number
+pub next_run_put : (s : State) (row : RunRow) (after node : ℕ) → Each (λ run. nat_lt run.number s.next_run) s.runs → row.number ≡ s.next_run → after ≡ s.next_run + 1 → node ≡ s.next_node → apply_changes (PutRun row ∷ Counters node after ∷ []) s ≡ add_run_row row s
+next_run_put s row after node below is_next rises stays =
     made (put_row (λ (other : RunRow). same_run other row) row s.runs)
     (put_row-new (λ (other : RunRow). nat_eq other.number row.number) row s.runs
-    (next_is_new (λ (other : RunRow). other.number) s.next_run row s.runs numbers.runs is_next))
+    (next_is_new (λ (other : RunRow). other.number) s.next_run row s.runs below is_next))
   where
     made : (runs : List RunRow) → runs ≡ s.runs ++ row ∷ [] → record s { runs = runs; next_node = node; next_run = after } ≡ add_run_row row s
     made runs e = rw (e, rises, stays) refl
+
+-- the same in sound tables
+pub run_put : (s : State) (row : RunRow) (after node : ℕ) → NumbersAreNew s → row.number ≡ s.next_run → after ≡ s.next_run + 1 → node ≡ s.next_node → apply_changes (PutRun row ∷ Counters node after ∷ []) s ≡ add_run_row row s
+run_put s row after node numbers = next_run_put s row after node numbers.runs
+
+-- a node and a run with the next numbers, and the counters behind them
+pub node_and_run_put : (s : State) (node : NodeRow) (run : RunRow) (nodes runs : ℕ) → NumbersAreNew s → node.number ≡ s.next_node → run.number ≡ s.next_run → nodes ≡ s.next_node + 1 → runs ≡ s.next_run + 1 → apply_changes (PutNode node ∷ PutRun run ∷ Counters nodes runs ∷ []) s ≡ add_run_row run (add_node_row node s)
+node_and_run_put s node run nodes runs numbers is_node is_run more_nodes more_runs =
+    made (put_row (λ (other : NodeRow). same_node other node) node s.nodes) (put_row (λ (other : RunRow). same_run other run) run s.runs)
+    (put_row-new (λ (other : NodeRow). nat_eq other.number node.number) node s.nodes
+    (next_is_new (λ (other : NodeRow). other.number) s.next_node node s.nodes numbers.nodes is_node))
+    (put_row-new (λ (other : RunRow). nat_eq other.number run.number) run s.runs
+    (next_is_new (λ (other : RunRow). other.number) s.next_run run s.runs numbers.runs is_run))
+  where
+    made : (new_nodes : List NodeRow) (new_runs : List RunRow) → new_nodes ≡ s.nodes ++ node ∷ [] → new_runs ≡ s.runs ++ run ∷ [] → record s { nodes = new_nodes; runs = new_runs; next_node = nodes; next_run = runs } ≡ add_run_row run (add_node_row node s)
+    made new_nodes new_runs e f = rw (e, f, more_nodes, more_runs) refl

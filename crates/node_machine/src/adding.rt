@@ -1,20 +1,22 @@
 //! The due step that adds a node.
-ghost use Rattle.std.specs.Prelude.{◌≡◌, ◌≤◌, IsTrue, IfOk, find, nat_eq};
+ghost use Rattle.std.specs.Prelude.{◌≡◌, ◌≤◌, IsTrue, IfOk, find, nat_eq, None, Some};
 ghost use Rattle.std.specs.List.{list_any};
 ghost use Rattle.std.specs.Option.{option_copied};
+ghost use Rattle.bt_rows.specs.declared.due.Due.TheVariants.{NodeAdded};
 ghost use Rattle.batch_model.specs.Finding.{has_number_left};
 ghost use Rattle.batch_model.specs.Pools.{free_seat};
 ghost use Rattle.batch_model.specs.Dues.{lacks_node, new_node, node_added, add_on, add_node};
 ghost use Rattle.batch_model.specs.Sound.{NumbersAreNew};
 ghost use Rattle.machine_plans.specs.Plans.{IsPlanOf, IsRule, answer_of_step};
 
+use crate::starting::{first_stage, start_run};
 use bt_base::{Duplicate, NoMemory};
 use bt_rows::due::Due;
-use bt_rows::node::{NodeRow, NodeStage};
+use bt_rows::node::NodeRow;
 use bt_rows::plan::Plan;
-use bt_rows::pool::PoolRow;
+use bt_rows::pool::{PoolRow, StartTask};
 use bt_rows::tables::{Change, Tables};
-use machine_plans::step_two;
+use machine_plans::{step_three, step_two};
 use std::alloc::Global;
 use table_scans::{has_number_left, is_resizing, staying_count};
 
@@ -33,13 +35,12 @@ fn free_seat(tables: &Tables, seats: u8) -> Option<u8>
     (1..seats + 1).find(|seat| !is_taken(tables, *seat))
 }
 
-/// Whether the pool is to get a node. Pools with a start task get none.
+/// Whether the pool is to get a node.
 fn lacks_node(tables: &Tables, pool: &PoolRow) -> bool
     ensures { result ≡ lacks_node tables.now.state pool.now }
 {
     !pool.deleting
         && is_resizing(pool.alloc)
-        && pool.start.is_none()
         && staying_count(tables, &pool.id) < pool.dedicated as usize
 }
 
@@ -50,7 +51,7 @@ fn first_lacking<'a>(tables: &'a Tables) -> Option<&'a PoolRow>
     tables.pools().iter().find(|pool| lacks_node(tables, pool))
 }
 
-/// A usable node of the pool on the seat, with the next number.
+/// A node of the pool on the seat, with the next number.
 fn new_node(tables: &Tables, pool: &PoolRow, seat: u8) -> Result<NodeRow, NoMemory>
     ensures { IfOk result (λ node. node ≡ new_node tables.now.state pool.now seat) }
 {
@@ -58,28 +59,76 @@ fn new_node(tables: &Tables, pool: &PoolRow, seat: u8) -> Result<NodeRow, NoMemo
         number: tables.next_node(),
         pool: pool.id.copy()?,
         seat,
-        stage: NodeStage::Usable,
+        stage: first_stage(pool),
         tries: 0,
     })
+}
+
+/// The line of a node that is added to the pool on the seat.
+fn node_line(tables: &Tables, pool: &PoolRow, seat: u8) -> Result<Due, NoMemory>
+    ensures { IfOk result (λ due. due ≡ NodeAdded pool.now.id tables.now.state.next_node seat) }
+{
+    Ok(Due::NodeAdded(pool.id.copy()?, tables.next_node(), seat))
+}
+
+/// The plan that adds a node of the pool on the seat, where there is no start task.
+fn added_alone(alloc: Global, tables: &Tables, pool: &PoolRow, seat: u8) -> Result<Plan, NoMemory>
+    requires numbers { NumbersAreNew tables.now.state }
+    requires nodes { IsTrue (has_number_left tables.now.state.next_node) }
+    requires start { pool.now.start ≡ None }
+    ensures { IfOk result (IsPlanOf (answer_of_step (node_added tables.now.state seat pool.now)) tables.now.state) }
+{
+    let due = node_line(tables, pool, seat)?;
+    let node = new_node(tables, pool, seat)?;
+    let counters = Change::Counters(tables.next_node() + 1, tables.next_run());
+    step_two(alloc, due, Change::PutNode(node), counters)
+}
+
+/// The plan that adds a node of the pool on the seat, which begins the start task.
+fn added_starting(
+    alloc: Global,
+    tables: &Tables,
+    pool: &PoolRow,
+    seat: u8,
+    start: &StartTask,
+) -> Result<Plan, NoMemory>
+    requires numbers { NumbersAreNew tables.now.state }
+    requires nodes { IsTrue (has_number_left tables.now.state.next_node) }
+    requires runs { IsTrue (has_number_left tables.now.state.next_run) }
+    requires start { pool.now.start ≡ Some start.now }
+    ensures { IfOk result (IsPlanOf (answer_of_step (node_added tables.now.state seat pool.now)) tables.now.state) }
+{
+    let due = node_line(tables, pool, seat)?;
+    let node = new_node(tables, pool, seat)?;
+    let run = start_run(tables, tables.moment(), &node, start)?;
+    let counters = Change::Counters(tables.next_node() + 1, tables.next_run() + 1);
+    step_three(
+        alloc,
+        due,
+        Change::PutNode(node),
+        Change::PutRun(run),
+        counters,
+    )
 }
 
 /// The plan that adds a node of the pool on the seat.
 fn node_added(alloc: Global, tables: &Tables, pool: &PoolRow, seat: u8) -> Result<Plan, NoMemory>
     requires numbers { NumbersAreNew tables.now.state }
-    requires left { IsTrue (has_number_left tables.now.state.next_node) }
+    requires nodes { IsTrue (has_number_left tables.now.state.next_node) }
+    requires runs { IsTrue (has_number_left tables.now.state.next_run) }
     ensures { IfOk result (IsPlanOf (answer_of_step (node_added tables.now.state seat pool.now)) tables.now.state) }
 {
-    let number = tables.next_node();
-    let due = Due::NodeAdded(pool.id.copy()?, number, seat);
-    let node = new_node(tables, pool, seat)?;
-    let counters = Change::Counters(number + 1, tables.next_run());
-    step_two(alloc, due, Change::PutNode(node), counters)
+    match &pool.start {
+        Some(start) => added_starting(alloc, tables, pool, seat, start),
+        None => added_alone(alloc, tables, pool, seat),
+    }
 }
 
 /// The plan that adds a node on the seat, to the first pool that is to get one.
 fn add_on(alloc: Global, tables: &Tables, seat: u8) -> Result<Option<Plan>, NoMemory>
     requires numbers { NumbersAreNew tables.now.state }
-    requires left { IsTrue (has_number_left tables.now.state.next_node) }
+    requires nodes { IsTrue (has_number_left tables.now.state.next_node) }
+    requires runs { IsTrue (has_number_left tables.now.state.next_run) }
     ensures { IfOk result (IsRule (add_on tables.now.state seat) tables.now.state) }
 {
     match first_lacking(tables) {

@@ -3,7 +3,9 @@
 #![tactic(auto)]
 
 mod adding;
+mod ending;
 mod machine;
+mod starting;
 mod taking;
 
 pub use machine::{next_due, plan_event};

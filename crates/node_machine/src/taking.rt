@@ -1,39 +1,22 @@
-//! Events of runs.
+//! Taking of runs.
 ghost use Rattle.std.specs.Prelude.{◌≡◌, IfOk, Some};
 ghost use Rattle.std.specs.List.{find};
 ghost use Rattle.std.specs.Option.{option_copied};
 ghost use Rattle.bt_rows.specs.declared.refusal.Refusal.TheVariants.{RunNotFound};
-ghost use Rattle.batch_model.specs.Events.{accept, at_moment, end_run, ended_run, for_row, is_task_of_run, run_ended, run_taken, started_task, take_run, taken_run};
-ghost use Rattle.batch_model.specs.Finding.{names};
+ghost use Rattle.batch_model.specs.Events.{accept, at_moment, for_row, is_task_of_run, run_taken, started_task, take_run, taken_run};
 ghost use Rattle.batch_model.specs.Rows.{run_of};
 ghost use Rattle.batch_model.specs.WellFormed.{KeysAreDistinct};
-ghost use Rattle.machine_plans.specs.Plans.{IsPlanOf};
+ghost use Rattle.machine_plans.specs.Plans.{IsAnswer, IsPlanOf};
 
-use machine_plans::{accept_one, accept_two, refuse};
-use bt_base::{Duplicate, Id, NoMemory};
+use bt_base::{Duplicate, Fail, NoMemory};
 use bt_rows::plan::Plan;
 use bt_rows::refusal::Refusal;
-use bt_rows::run::{Ending, RunRow, RunState};
+use bt_rows::run::{RunRow, RunState};
 use bt_rows::tables::{Change, Tables};
 use bt_rows::task::TaskRow;
+use machine_plans::{accept_one, accept_two};
 use std::alloc::Global;
-
-/// The run with this number.
-fn find_run<'a>(tables: &'a Tables, number: u64) -> Option<&'a RunRow>
-    ensures { option_copied result ≡ run_of tables.now.state number }
-{
-    tables.runs().iter().find(|run| run.number == number)
-}
-
-/// Whether the option holds this id, but for case.
-pub fn names(name: &Option<Id>, id: &Id) -> bool
-    ensures { result ≡ names name.now id.now }
-{
-    match name {
-        Some(name) => name.same(id),
-        None => false,
-    }
-}
+use table_scans::{find_run, names};
 
 /// Whether the run is the task's.
 fn is_task_of_run(run: &RunRow, task: &TaskRow) -> bool
@@ -93,93 +76,38 @@ fn put_taken(alloc: Global, tables: &Tables, moment: u64, run: &RunRow) -> Resul
 }
 
 /// The plan of `take` of the run that was found.
-fn take_found(alloc: Global, tables: &Tables, moment: u64, run: &RunRow) -> Result<Plan, NoMemory>
+fn take_found(
+    alloc: Global,
+    tables: &Tables,
+    moment: u64,
+    run: &RunRow,
+) -> Result<Plan, Fail<Refusal>>
     requires keys { KeysAreDistinct tables.now.state }
     requires there { run_of tables.now.state run.now.number ≡ Some run.now }
-    ensures { IfOk result (IsPlanOf (take_run (at_moment moment tables.now.state) run.now) tables.now.state) }
+    ensures { IsAnswer moment (take_run (at_moment moment tables.now.state) run.now) tables.now.state result }
 {
     match run.state {
-        RunState::Queued => put_taken(alloc, tables, moment, run),
-        RunState::Ended(_) => refuse(alloc, tables, moment, Refusal::RunAlreadyEnded),
-        RunState::Withdrawn => refuse(alloc, tables, moment, Refusal::RunWithdrawn),
-        RunState::Taken => refuse(alloc, tables, moment, Refusal::RunAlreadyTaken),
-        RunState::Waiting => refuse(alloc, tables, moment, Refusal::RunWaiting),
+        RunState::Queued => Ok(put_taken(alloc, tables, moment, run)?),
+        RunState::Ended(_) => Err(Fail::Why(Refusal::RunAlreadyEnded)),
+        RunState::Withdrawn => Err(Fail::Why(Refusal::RunWithdrawn)),
+        RunState::Taken => Err(Fail::Why(Refusal::RunAlreadyTaken)),
+        RunState::Waiting => Err(Fail::Why(Refusal::RunWaiting)),
     }
 }
 
 /// The plan of `take`. A run that is not there is refused as `RunNotFound`; only a queued one is taken, and another is
 /// refused as its state says: `RunAlreadyEnded`, `RunWithdrawn`, `RunAlreadyTaken` or `RunWaiting`.
-pub fn take_run(alloc: Global, tables: &Tables, moment: u64, number: u64) -> Result<Plan, NoMemory>
-    requires { KeysAreDistinct tables.now.state }
-    ensures { IfOk result (IsPlanOf (for_row (at_moment moment tables.now.state) RunNotFound (take_run (at_moment moment tables.now.state)) (run_of (at_moment moment tables.now.state) number)) tables.now.state) }
-{
-    match find_run(tables, number) {
-        Some(run) => take_found(alloc, tables, moment, run),
-        None => refuse(alloc, tables, moment, Refusal::RunNotFound),
-    }
-}
-
-/// The run, ended so at this moment.
-fn ended_run(now: u64, ending: Ending, run: &RunRow) -> Result<RunRow, NoMemory>
-    ensures { IfOk result (λ ended. ended ≡ ended_run now ending run.now) }
-{
-    let mut ended = run.copy()?;
-    ended.state = RunState::Ended(ending);
-    ended.ended = Some(now);
-    Ok(ended)
-}
-
-/// The plan that ends a run.
-fn put_ended(
-    alloc: Global,
-    tables: &Tables,
-    moment: u64,
-    ending: Ending,
-    run: &RunRow,
-) -> Result<Plan, NoMemory>
-    requires keys { KeysAreDistinct tables.now.state }
-    requires there { run_of tables.now.state run.now.number ≡ Some run.now }
-    ensures { IfOk result (IsPlanOf (accept 200 (run_ended (at_moment moment tables.now.state) ending run.now)) tables.now.state) }
-{
-    let now = tables.moment().max(moment);
-    let ended = ended_run(now, ending, run)?;
-    accept_one(alloc, tables, moment, 200, Change::PutRun(ended))
-}
-
-/// The plan of `end` of the run that was found.
-fn end_found(
-    alloc: Global,
-    tables: &Tables,
-    moment: u64,
-    ending: Ending,
-    run: &RunRow,
-) -> Result<Plan, NoMemory>
-    requires keys { KeysAreDistinct tables.now.state }
-    requires there { run_of tables.now.state run.now.number ≡ Some run.now }
-    ensures { IfOk result (IsPlanOf (end_run (at_moment moment tables.now.state) ending run.now) tables.now.state) }
-{
-    match run.state {
-        RunState::Taken => put_ended(alloc, tables, moment, ending, run),
-        RunState::Ended(_) => refuse(alloc, tables, moment, Refusal::RunAlreadyEnded),
-        RunState::Withdrawn => refuse(alloc, tables, moment, Refusal::RunWithdrawn),
-        RunState::Waiting | RunState::Queued => refuse(alloc, tables, moment, Refusal::RunNotTaken),
-    }
-}
-
-/// The plan of `end`. A run that is not there is refused as `RunNotFound`; only a taken one is ended, and another is
-/// refused as its state says: `RunAlreadyEnded`, `RunWithdrawn` or `RunNotTaken`.
-pub fn end_run(
+pub fn take_run(
     alloc: Global,
     tables: &Tables,
     moment: u64,
     number: u64,
-    ending: Ending,
-) -> Result<Plan, NoMemory>
+) -> Result<Plan, Fail<Refusal>>
     requires { KeysAreDistinct tables.now.state }
-    ensures { IfOk result (IsPlanOf (for_row (at_moment moment tables.now.state) RunNotFound (end_run (at_moment moment tables.now.state) ending) (run_of (at_moment moment tables.now.state) number)) tables.now.state) }
+    ensures { IsAnswer moment (for_row (at_moment moment tables.now.state) RunNotFound (take_run (at_moment moment tables.now.state)) (run_of (at_moment moment tables.now.state) number)) tables.now.state result }
 {
     match find_run(tables, number) {
-        Some(run) => end_found(alloc, tables, moment, ending, run),
-        None => refuse(alloc, tables, moment, Refusal::RunNotFound),
+        Some(run) => take_found(alloc, tables, moment, run),
+        None => Err(Fail::Why(Refusal::RunNotFound)),
     }
 }

@@ -1,0 +1,2 @@
+pub mod OnNodes
+pub mod StartPuts
