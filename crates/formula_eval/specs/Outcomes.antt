@@ -1,7 +1,8 @@
 -- What a formula has set, and the variables of its own: names with values, in the order in which they were set first.
-use Rattle.std.specs.Prelude.{ℕ, List, [], ◌∷◌, Option, Some, None, unwrap_or, if◌then◌else◌}
+use Rattle.std.specs.Prelude.{ℕ, Bool, List, [], ◌∷◌, Option, Some, None, unwrap_or, if◌then◌else◌}
 use Rattle.std.specs.Str.{bytes_eq}
 use Rattle.bt_base.specs.Utf8.{utf8_text}
+use Rattle.bt_rows.specs.Lists.{put_row}
 use Rattle.bt_rows.specs.declared.pool.Dealloc.{Dealloc}
 use Rattle.bt_rows.specs.declared.pool.Dealloc.TheVariants.{Requeue}
 use Rattle.formula_values.specs.declared.value.Value.{Value}
@@ -13,16 +14,18 @@ use Rattle.formula_eval.specs.declared.outcome.Outcome.{Outcome}
 abbrev pub text_in : List ℕ → List ℕ
 text_in bytes = unwrap_or (utf8_text bytes) []
 
+-- the variable has this name
+abbrev pub is_named : List ℕ → Other → Bool
+is_named name other = bytes_eq other.name name
+
 -- the value of the variable of this name
 abbrev pub value_among : List Other → List ℕ → Option Value
 value_among [] name = None
-value_among (o ∷ others) name = if bytes_eq o.name name then Some o.value else value_among others name
+value_among (other ∷ others) name = if is_named name other then Some other.value else value_among others name
 
 -- the variables, of which this one has the value; it comes last if it was not set before
 abbrev pub with_value : List Other → List ℕ → Value → List Other
-with_value [] word known = record { name = word; value = known } ∷ []
-with_value (o ∷ others) word known =
-    if bytes_eq o.name word then record o { value = known } ∷ others else o ∷ with_value others word known
+with_value others word known = put_row (is_named word) (record { name = word; value = known }) others
 
 -- before the first statement: the targets as they are handed in, and `requeue`
 abbrev pub at_start : Targets → Outcome

@@ -26,9 +26,9 @@ others_text (other ∷ others) = other_text other ++ others_text others
 -- the three settings
 unfoldable pub settings_text : ℕ → ℕ → List ℕ → List ℕ
 settings_text dedicated low word =
-    codes "$TargetDedicatedNodes=" ++ decimal dedicated
-    ++ codes ";$TargetLowPriorityNodes=" ++ decimal low
-    ++ codes ";$NodeDeallocationOption=" ++ word
+    codes "$TargetDedicatedNodes=" ++ (decimal dedicated
+    ++ (codes ";$TargetLowPriorityNodes=" ++ (decimal low
+    ++ (codes ";$NodeDeallocationOption=" ++ word))))
 
 -- the settings, then the variables in order of first setting
 abbrev pub results_text : Outcome → List ℕ

@@ -1,7 +1,7 @@
 //! What a formula sets.
-ghost use Rattle.std.specs.Prelude.{◌≡◌, [], IfOk, option_map};
-ghost use Rattle.bt_base.specs.Utf8.{utf8_text};
-ghost use Rattle.formula_eval.specs.Outcomes.{value_among, with_value};
+ghost use Rattle.std.specs.Prelude.{◌≡◌, ◌<◌, [], IfOk, option_map, slice_set, vec_len};
+ghost use Rattle.std.specs.List.{position};
+ghost use Rattle.formula_eval.specs.Outcomes.{is_named, value_among, with_value};
 
 use bt_base::{NoMemory, Text};
 use bt_rows::pool::Dealloc;
@@ -79,19 +79,24 @@ impl Others {
     pub fn set(&mut self, name: Text, value: Value) -> Result<(), NoMemory>
         ensures { IfOk result (λ _. self.new ≡ with_value self.old name value) }
     {
-        let place = self
-            .items
-            .iter()
-            .position(|other| other.name.as_str() == name.as_str());
-        match place {
-            Some(place) => {
-                self.items[place].value = value;
-                Ok(())
-            }
-            None => {
-                self.items.push(Other { name, value })?;
-                Ok(())
-            }
+        match place_of(&self.items, name.as_str()) {
+            Some(place) => put_at(&mut self.items, place, Other { name, value }),
+            None => self.items.push(Other { name, value })?,
         }
+        Ok(())
     }
+}
+
+/// The place of the variable of this name.
+fn place_of(others: &[Other], name: &str) -> Option<usize>
+    ensures { result ≡ position (is_named name.now) others.now }
+{
+    others.iter().position(|other| other.name.as_str() == name)
+}
+
+fn put_at(others: &mut Vec<Other>, place: usize, other: Other)
+    requires { place < vec_len others.old }
+    ensures { others.new.items ≡ slice_set others.old.items place other }
+{
+    others[place] = other;
 }

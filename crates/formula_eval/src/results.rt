@@ -1,12 +1,12 @@
 //! The text of results.
 ghost use Rattle.std.specs.Prelude.{◌≡◌, ◌++◌, IfOk, string_bytes};
-ghost use Rattle.formula_eval.specs.Results.{has_dollar, shown_name, other_text, others_text, results_text};
+ghost use Rattle.formula_eval.specs.Results.{has_dollar, shown_name, other_text, others_text, settings_text, results_text};
 ghost use Rattle.formula_eval.specs.Options.{option_word};
 
 use crate::options::option_word;
 use crate::outcome::{Other, Outcome};
 use bt_base::{NoMemory, Text};
-use std::alloc::Global;
+use std::alloc::{AllocError, Global};
 
 fn has_dollar(name: &[u8]) -> bool
     ensures { result ≡ has_dollar name.now }
@@ -49,16 +49,30 @@ fn push_others(alloc: Global, text: &mut String, others: &[Other]) -> Result<(),
     Ok(())
 }
 
+/// The three settings.
+#[tactic(auto, unfolding(crate::specs::Results::settings_text))]
+fn settings_text(
+    alloc: Global,
+    dedicated: u32,
+    low: u32,
+    word: &str,
+) -> Result<String, AllocError>
+    ensures { IfOk result (λ text. string_bytes text ≡ settings_text dedicated low word.now) }
+{
+    let dedicated_name = "$TargetDedicatedNodes=";
+    let low_name = ";$TargetLowPriorityNodes=";
+    let option_name = ";$NodeDeallocationOption=";
+    format!(in alloc; "{dedicated_name}{dedicated}{low_name}{low}{option_name}{word}")
+}
+
 /// What a formula has set, as text: the targets, the word for what becomes of the tasks of a node that leaves, then its variables
 /// in the order in which they were set first, each with a `$` before its name.
-#[tactic(auto, unfolding(crate::specs::Results::settings_text))]
 pub fn results_text(alloc: Global, outcome: &Outcome) -> Result<Text, NoMemory>
     ensures { IfOk result (λ text. text ≡ results_text outcome.now) }
 {
-    let dedicated = outcome.targets.dedicated;
-    let low = outcome.targets.low;
     let word = option_word(outcome.option);
-    let mut text = format!(in alloc; "$TargetDedicatedNodes={dedicated};$TargetLowPriorityNodes={low};$NodeDeallocationOption={word}")?;
+    let targets = outcome.targets;
+    let mut text = settings_text(alloc, targets.dedicated, targets.low, word)?;
     push_others(alloc, &mut text, outcome.others.as_slice())?;
     Ok(Text::of_string(text))
 }

@@ -1,0 +1,31 @@
+use Rattle.std.proofs.Common.{List, Ok, pos, sym, ap, ◌∙◌, ◌≤◌, All, subst, arith}
+use Rattle.std.proofs.lemmas.List.Elements.{All-push}
+use denote.Ref.{Bor}
+use Rattle.formula_trees.specs.declared.tree.Expr.{Expr, size-Expr}
+use Rattle.formula_trees.specs.View.{tree_of}
+use Rattle.formula_values.specs.Values.{whole_value}
+use Rattle.formula_eval.specs.Evaluation.{value_of}
+use Rattle.formula_eval.specs.Walks.{through}
+use Rattle.formula_eval.proofs.Nodes.{value_by_first, value_alone, through_push}
+use Rattle.formula_eval.proofs.spine.spine.Goals as goal
+
+pub down-preserved : goal.down-preserved
+down-preserved c =
+    let Fits : List (Bor Expr) → Type 0 = λ es. All (λ (e : Bor Expr). size-Expr e.now ≤ size-Expr c.args.expr.now) es in
+    let pushed = c.in_ok-push.ensures.items in (
+      λ text metrics now set.
+          ap (λ es. through text metrics now set es (value_of text metrics now set (tree_of c.in-Some.operand.now))) pushed
+          ∙ through_push text metrics now set c.down.nodes.items c.down.inner (value_of text metrics now set (tree_of c.in-Some.operand.now))
+          ∙ ap (through text metrics now set c.down.nodes.items) (sym (value_by_first text metrics now set (tree_of c.down.inner.now) (tree_of c.in-Some.operand.now) (whole_value 0) c.in-Some.ensures.value))
+          ∙ c.down.invariant.0 text metrics now set,
+      omega (arith, c.in-Some.ensures.within, c.down.invariant.1),
+      subst Fits (sym pushed) (All-push (λ (e : Bor Expr). size-Expr e.now ≤ size-Expr c.args.expr.now) c.down.nodes.items c.down.inner c.down.invariant.2 c.down.invariant.1),
+    )
+
+pub returns-clause-value : goal.returns-clause-value
+returns-clause-value c =
+    λ text metrics now set any.
+    ap (λ es. through text metrics now set es (Ok any)) c.in_ok-push-2.ensures.items
+    ∙ through_push text metrics now set c.down.nodes.items c.down.inner (Ok any)
+    ∙ ap (through text metrics now set c.down.nodes.items) (sym (value_alone text metrics now set (tree_of c.down.inner.now) any c.in_default.ensures.value))
+    ∙ c.down.invariant.0 text metrics now set
