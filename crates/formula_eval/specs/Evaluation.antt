@@ -23,7 +23,6 @@ use Rattle.formula_values.specs.Members.{member_value}
 use Rattle.formula_metrics.specs.declared.metrics.Metrics.{Metrics}
 use Rattle.formula_metrics.specs.Parts.{part_of}
 use Rattle.formula_metrics.specs.Methods.{method_value}
-use Rattle.formula_eval.specs.declared.fault.EvalFault.{EvalFault}
 use Rattle.formula_eval.specs.declared.fault.Halt.{Halt}
 use Rattle.formula_eval.specs.declared.fault.Halt.TheVariants.{Stop, Fault}
 use Rattle.formula_eval.specs.declared.outcome.Outcome.{Outcome}

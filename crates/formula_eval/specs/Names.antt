@@ -1,5 +1,5 @@
 -- The values of names.
-use Rattle.std.specs.Prelude.{ℕ, pos, List, Option, Some, None, Result, Ok, Err}
+use Rattle.std.specs.Prelude.{ℕ, pos, List, Option, Some, None, Result, Ok}
 use Rattle.bt_rows.specs.declared.pool.Dealloc.{Dealloc}
 use Rattle.formula_names.specs.declared.names.Metric.{Metric}
 use Rattle.formula_names.specs.declared.names.Setting.{Setting}
@@ -49,7 +49,7 @@ variable_or None other = other
 abbrev pub constant_value : Outcome → List ℕ → Result Value ValueFault
 constant_value set name =
     interval_or (interval_named name) (word_or (option_named name)
-      (setting_or set (setting_named name) (variable_or (value_among set.others name) no_value)))
+    (setting_or set (setting_named name) (variable_or (value_among set.others name) no_value)))
 
 -- the value of a name: of a metric, a constant, a setting or a variable
 abbrev pub name_value : Metrics → Outcome → List ℕ → Result Value ValueFault

@@ -80,8 +80,8 @@ abbrev pub statements_done : List ℕ → Metrics → ℕ → Outcome → List S
 statements_done text metrics now set [] = Ok set
 statements_done text metrics now set (s ∷ ss) =
     unless_halted set
-      (λ known. settled text set s known >>= (λ next. statements_done text metrics now next ss))
-      (value_of text metrics now set (expression_of s))
+    (λ known. settled text set s known >>= (λ next. statements_done text metrics now next ss))
+    (value_of text metrics now set (expression_of s))
 
 -- the results of a formula
 abbrev pub evaluated : List ℕ → List StatementTree → Metrics → ℕ → Targets → Result Outcome EvalFault

@@ -19,3 +19,6 @@ pub use formula::evaluate;
 pub use options::{option_named, option_word};
 pub use outcome::{Other, Others, Outcome, Targets};
 pub use results::results_text;
+
+#[cfg(test)]
+mod tests;

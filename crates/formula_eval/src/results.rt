@@ -51,12 +51,7 @@ fn push_others(alloc: Global, text: &mut String, others: &[Other]) -> Result<(),
 
 /// The three settings.
 #[tactic(auto, unfolding(crate::specs::Results::settings_text))]
-fn settings_text(
-    alloc: Global,
-    dedicated: u32,
-    low: u32,
-    word: &str,
-) -> Result<String, AllocError>
+fn settings_text(alloc: Global, dedicated: u32, low: u32, word: &str) -> Result<String, AllocError>
     ensures { IfOk result (λ text. string_bytes text ≡ settings_text dedicated low word.now) }
 {
     let dedicated_name = "$TargetDedicatedNodes=";

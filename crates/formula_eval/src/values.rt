@@ -138,7 +138,9 @@ fn node_value(
         Expr::Unary(operator, span, _) => unary_at(alloc, *operator, *span, first),
         Expr::Binary(operator, span, _, right) => match decided(*operator, first) {
             Some(known) => Ok(known),
-            None => right_value(alloc, text, metrics, now, set, *operator, *span, first, right),
+            None => right_value(
+                alloc, text, metrics, now, set, *operator, *span, first, right,
+            ),
         },
         Expr::Ternary(_, _, yes, other) => {
             if is_true(first) {

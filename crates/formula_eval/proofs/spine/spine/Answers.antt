@@ -1,4 +1,4 @@
-use Rattle.std.proofs.Common.{List, Ok, pos, sym, ap, ◌∙◌, ◌≤◌, All, subst, arith}
+use Rattle.std.proofs.Common.{List, Ok, sym, ap, ◌∙◌, ◌≤◌, All, subst, arith}
 use Rattle.std.proofs.lemmas.List.Elements.{All-push}
 use denote.Ref.{Bor}
 use Rattle.formula_trees.specs.declared.tree.Expr.{Expr, size-Expr}

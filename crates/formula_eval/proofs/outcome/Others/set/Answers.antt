@@ -1,9 +1,9 @@
-use Rattle.std.proofs.Common.{◌≡◌, ◌∙◌, sym, ap, subst, Some, None, Option, ℕ, List, slice_set, ◌++◌, ◌∷◌, []}
+use Rattle.std.proofs.Common.{◌∙◌, sym, ap}
 use Rattle.std.specs.List.{position}
 use Rattle.bt_rows.specs.Lists.{put_row}
 use Rattle.bt_rows.proofs.PutRows.{placed, absent}
 use Rattle.formula_eval.specs.declared.outcome.Other.{Other}
-use Rattle.formula_eval.specs.Outcomes.{is_named, with_value}
+use Rattle.formula_eval.specs.Outcomes.{is_named}
 use Rattle.formula_eval.proofs.outcome.Others.set.Goals as goal
 
 pub returns-in-Some : goal.returns-in-Some
