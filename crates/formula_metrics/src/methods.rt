@@ -1,12 +1,15 @@
 //! What a formula asks of a metric.
 ghost use Rattle.std.specs.Prelude.{◌≡◌};
 ghost use Rattle.bt_base.specs.Fails.{Gives};
-ghost use Rattle.formula_metrics.specs.Methods.{current_value, method_value};
+ghost use Rattle.formula_metrics.specs.Methods.{begin_value, current_value, method_value};
+ghost use Rattle.bt_samples.specs.Histories.{oldest};
 
 use crate::metrics::MetricPart;
+use crate::samples::{percent_value, sample_value};
 use bt_base::{Fail, Moment};
+use bt_samples::History;
 use formula_names::Method;
-use formula_values::{Value, ValueFault};
+use formula_values::{TimeInterval, Value, ValueFault, timestamp_value, whole};
 use std::alloc::Global;
 
 impl MetricPart {
@@ -31,6 +34,38 @@ impl MetricPart {
     ) -> Result<Value, Fail<ValueFault>>
         ensures { Gives result (method_value self.now method arguments.now now) }
     {
-        Err(Fail::Memory)
+        match method {
+            Method::GetSample => sample_value(alloc, &self.history, arguments, now),
+            Method::GetSamplePercent => Ok(percent_value(&self.history, arguments, now)),
+            Method::GetSamplePeriod => Ok(period()),
+            Method::Count => Ok(whole(self.history.count())),
+            Method::HistoryBeginTime => begin_value(&self.history).map_err(Fail::Why),
+        }
+    }
+}
+
+/// The units of 100 ns of a millisecond.
+const MILLISECOND: i128 = 10_000;
+
+/// The time from a sample to the next, in units of 100 ns.
+const PERIOD: i64 = 300_000_000;
+
+/// What `GetSamplePeriod` gives.
+fn period() -> Value
+    ensures { result ≡ Value.TimeInterval PERIOD }
+{
+    match TimeInterval::of_units(PERIOD) {
+        Some(period) => Value::TimeInterval(period),
+        None => unreachable!(),
+    }
+}
+
+/// What `HistoryBeginTime` gives: the label of the oldest sample; `EmptyVector` where there is none.
+fn begin_value(history: &History) -> Result<Value, ValueFault>
+    ensures { result ≡ begin_value (oldest history.now) }
+{
+    match history.begin() {
+        Some(label) => timestamp_value(MILLISECOND * i128::from(label)),
+        None => Err(ValueFault::EmptyVector),
     }
 }
