@@ -1,5 +1,5 @@
 -- The newest samples of a list.
-use Rattle.std.proofs.Common.{◌≡◌, ℕ, min, ℤ, List, length, reverse, sym, ◌∙◌, ap, subst}
+use Rattle.std.proofs.Common.{◌≡◌, ℕ, min, List, length, reverse, sym, ◌∙◌, ap}
 use Rattle.std.proofs.lemmas.List.{take_min, length-map, length-reverse}
 use Rattle.bt_samples.specs.declared.history.Sample.{Sample}
 use Rattle.bt_samples.specs.Histories.{last_values, values}

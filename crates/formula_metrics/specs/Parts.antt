@@ -1,6 +1,5 @@
 -- What is known of each metric of a pool.
-use Rattle.std.specs.Prelude.{ℕ, ℤ, [], Option, Some, None}
-use Rattle.bt_samples.specs.declared.history.Sample.{Sample}
+use Rattle.std.specs.Prelude.{ℕ, ℤ, [], Option, None}
 use Rattle.bt_samples.specs.Histories.{pushed}
 use Rattle.formula_names.specs.declared.names.Metric.{Metric}
 use Rattle.formula_names.specs.declared.names.Metric.TheVariants.{CpuPercent, ActiveTasks, RunningTasks, PendingTasks, SucceededTasks, FailedTasks, TaskSlotsPerNode, CurrentDedicatedNodes, CurrentLowPriorityNodes, PreemptedNodeCount}

@@ -4,8 +4,67 @@ use bt_base::{Fail, Moment, NoMemory, Num};
 use formula_names::{Method, Metric};
 use formula_values::{TimeInterval, Timestamp, Value, ValueFault, whole};
 use std::alloc::Global;
-use std::process::Abort;
 use std::test::Fail as TestFail;
+
+/// An argument: seconds that are counted back, seconds since 1970, or a double's millionths.
+#[derive(Clone, Copy)]
+enum Given {
+    Back(i64),
+    At(i64),
+    Double(i64),
+}
+
+/// An answer: the whole items of a vector, a double's millionths, a time's units, or a fault.
+#[derive(Clone, Copy)]
+enum Wanted {
+    Items(&'static [i64]),
+    Double(i64),
+    Units(i64),
+    Fault(&'static str),
+}
+
+fn value_of(given: Given) -> Value {
+    match given {
+        Given::Back(seconds) => TimeInterval::of_units(seconds.saturating_mul(10_000_000)).map_or(
+            whole(0),
+            Value::TimeInterval,
+        ),
+        Given::At(seconds) => Timestamp::of_units(seconds.saturating_mul(10_000_000)).map_or(
+            whole(0),
+            Value::Timestamp,
+        ),
+        Given::Double(millionths) => Num::of_millionths(millionths).map_or(whole(0), Value::Double),
+    }
+}
+
+fn are(items: &[Num], wanted: &[i64]) -> bool {
+    items.len() == wanted.len()
+        && items
+            .iter()
+            .zip(wanted)
+            .all(|(item, whole)| Num::of_whole(*whole) == Ok(*item))
+}
+
+fn is(answer: &Result<Value, Fail<ValueFault>>, wanted: Wanted) -> bool {
+    match (answer, wanted) {
+        (Ok(Value::DoubleVec(items)), Wanted::Items(wholes)) => are(items.as_slice(), wholes),
+        (Ok(Value::Double(number)), Wanted::Double(wanted)) => number.millionths() == wanted,
+        (Ok(Value::Timestamp(time)), Wanted::Units(units)) => time.units() == units,
+        (Ok(Value::TimeInterval(time)), Wanted::Units(units)) => time.units() == units,
+        (Err(Fail::Why(fault)), Wanted::Fault(name)) => fault.name() == name,
+        _ => false,
+    }
+}
+
+fn gives(
+    alloc: Global,
+    part: &MetricPart,
+    now: Moment,
+    (method, given, wanted): (Method, &[Given], Wanted),
+) -> Result<bool, NoMemory> {
+    let arguments: Vec<Value> = given.iter().map(|one| value_of(*one)).collect(alloc)?;
+    Ok(is(&part.call(alloc, method, arguments.as_slice(), now), wanted))
+}
 
 // Metrics with samples 1, 2 and 3 of one metric at 0, 30 and 60 seconds.
 fn sampled(alloc: Global) -> Result<Option<Metrics>, NoMemory> {
@@ -21,131 +80,143 @@ fn sampled(alloc: Global) -> Result<Option<Metrics>, NoMemory> {
     Ok(Some(metrics))
 }
 
-// So many seconds, counted back.
-fn back(seconds: i64) -> Value {
-    match TimeInterval::of_units(seconds.saturating_mul(10_000_000)) {
-        Some(interval) => Value::TimeInterval(interval),
-        None => whole(0),
-    }
-}
-
-fn double(millionths: i64) -> Value {
-    match Num::of_millionths(millionths) {
-        Some(number) => Value::Double(number),
-        None => whole(0),
-    }
-}
-
-// The whole items of a vector, or the millionths of a double, or the units of a time.
-fn expect(rt: &impl Abort, answer: Result<Value, Fail<ValueFault>>, wanted: &[i64]) {
-    match answer {
-        Ok(Value::DoubleVec(items)) => {
-            assert_eq!(rt; items.as_slice().len(), wanted.len());
-            for (item, number) in items.as_slice().iter().zip(wanted) {
-                assert_eq!(rt; Num::of_whole(*number), Ok(*item));
-            }
-        }
-        Ok(Value::Double(number)) => assert_eq!(rt; Some(&number.millionths()), wanted.first()),
-        Ok(Value::Timestamp(time)) => assert_eq!(rt; Some(&time.units()), wanted.first()),
-        Ok(Value::TimeInterval(time)) => assert_eq!(rt; Some(&time.units()), wanted.first()),
-        _ => panic!(rt; "no value"),
-    }
-}
-
-fn expect_fault(rt: &impl Abort, answer: Result<Value, Fail<ValueFault>>, wanted: ValueFault) {
-    match answer {
-        Err(Fail::Why(fault)) => assert_eq!(rt; fault, wanted),
-        _ => panic!(rt; "no fault"),
-    }
-}
-
 #[test]
-fn ranges_have_samples_and_percentages(rt: HostRuntime) -> Result<(), TestFail> {
+fn methods_give_samples_and_percentages(rt: HostRuntime) -> Result<(), TestFail> {
     let metrics = sampled(rt.alloc())?.ok_or("a push was refused")?;
     let now = Moment::of_ms(90_000).ok_or("no moment")?;
-    let part = metrics.part(Metric::ActiveTasks);
-    // Both ends in seconds before now, the values and the percentage in millionths.
-    let table: [(i64, i64, &[i64], i64); 5] = [
-        (60, 90, &[2, 1], 100_000_000),
-        (60, 0, &[3, 2], 66_666_666),
-        (0, 1_000, &[3, 2, 1], 75_000_000),
-        (100, 200, &[], 0),
-        (31, 59, &[], 0),
+    let table: [(Method, &[Given], Wanted); 25] = [
+        (
+            Method::GetSample,
+            &[Given::Double(2_900_000)],
+            Wanted::Items(&[3, 2]),
+        ),
+        (Method::GetSample, &[Given::Double(0)], Wanted::Items(&[])),
+        (
+            Method::GetSample,
+            &[Given::Double(1_000_000_000_000_000_000)],
+            Wanted::Items(&[3, 2, 1]),
+        ),
+        (
+            Method::GetSample,
+            &[Given::Double(-1)],
+            Wanted::Fault("IndexOutOfRange"),
+        ),
+        (
+            Method::GetSample,
+            &[Given::Back(60)],
+            Wanted::Items(&[3, 2]),
+        ),
+        (Method::GetSample, &[Given::At(60)], Wanted::Items(&[3])),
+        (
+            Method::GetSample,
+            &[Given::Back(1_000)],
+            Wanted::Items(&[3, 2, 1]),
+        ),
+        (
+            Method::GetSample,
+            &[Given::Back(60), Given::Back(90)],
+            Wanted::Items(&[2, 1]),
+        ),
+        (
+            Method::GetSample,
+            &[Given::At(0), Given::Back(60)],
+            Wanted::Items(&[2, 1]),
+        ),
+        (
+            Method::GetSample,
+            &[Given::Back(100), Given::Back(200)],
+            Wanted::Items(&[]),
+        ),
+        (
+            Method::GetSample,
+            &[Given::Back(31), Given::Back(59)],
+            Wanted::Items(&[]),
+        ),
+        (
+            Method::GetSample,
+            &[Given::Back(60), Given::Double(66_666_666)],
+            Wanted::Items(&[3, 2]),
+        ),
+        (
+            Method::GetSample,
+            &[Given::Back(60), Given::Double(66_666_667)],
+            Wanted::Fault("NotEnoughSamples"),
+        ),
+        (
+            Method::GetSample,
+            &[Given::At(60), Given::At(30), Given::Double(100_000_000)],
+            Wanted::Items(&[3, 2]),
+        ),
+        (
+            Method::GetSample,
+            &[Given::At(60), Given::At(90), Given::Double(50_000_001)],
+            Wanted::Fault("NotEnoughSamples"),
+        ),
+        (
+            Method::GetSample,
+            &[Given::Back(100), Given::Back(200), Given::Double(0)],
+            Wanted::Items(&[]),
+        ),
+        (
+            Method::GetSamplePercent,
+            &[Given::Back(60)],
+            Wanted::Double(66_666_666),
+        ),
+        (
+            Method::GetSamplePercent,
+            &[Given::Back(1_000)],
+            Wanted::Double(75_000_000),
+        ),
+        (
+            Method::GetSamplePercent,
+            &[Given::At(0), Given::At(60)],
+            Wanted::Double(100_000_000),
+        ),
+        (
+            Method::GetSamplePercent,
+            &[Given::Back(31), Given::Back(59)],
+            Wanted::Double(0),
+        ),
+        (
+            Method::GetSamplePercent,
+            &[Given::Back(100), Given::Back(200)],
+            Wanted::Double(0),
+        ),
+        (
+            Method::GetSamplePercent,
+            &[Given::At(60), Given::Back(1_000)],
+            Wanted::Double(100_000_000),
+        ),
+        (Method::GetSamplePeriod, &[], Wanted::Units(300_000_000)),
+        (Method::Count, &[], Wanted::Double(3_000_000)),
+        (Method::HistoryBeginTime, &[], Wanted::Units(0)),
     ];
-    for (a, b, values, percentage) in table {
-        let ends = [back(a), back(b)];
-        let answer = part.call(rt.alloc(), Method::GetSample, &ends, now);
-        expect(&rt, answer, values);
-        let answer = part.call(rt.alloc(), Method::GetSamplePercent, &ends, now);
-        expect(&rt, answer, &[percentage]);
-        let enough = [back(a), back(b), double(percentage)];
-        let answer = part.call(rt.alloc(), Method::GetSample, &enough, now);
-        expect(&rt, answer, values);
+    let part = metrics.part(Metric::ActiveTasks);
+    for (place, case) in table.into_iter().enumerate() {
+        assert!(rt; gives(rt.alloc(), part, now, case)?, "at {place}");
     }
     Ok(())
 }
 
 #[test]
-fn samples_are_taken_by_number_time_and_percentage(rt: HostRuntime) -> Result<(), TestFail> {
-    let metrics = sampled(rt.alloc())?.ok_or("a push was refused")?;
+fn a_metric_has_a_value_only_once_it_is_set(rt: HostRuntime) -> Result<(), TestFail> {
+    let mut metrics = Metrics::new(rt.alloc())?;
     let now = Moment::of_ms(90_000).ok_or("no moment")?;
-    let part = metrics.part(Metric::ActiveTasks);
-    let numbers: [(i64, &[i64]); 3] = [
-        (2_900_000, &[3, 2]),
-        (0, &[]),
-        (1_000_000_000_000_000_000, &[3, 2, 1]),
-    ];
-    for (count, values) in numbers {
-        let answer = part.call(rt.alloc(), Method::GetSample, &[double(count)], now);
-        expect(&rt, answer, values);
-    }
-    let answer = part.call(rt.alloc(), Method::GetSample, &[double(-1)], now);
-    expect_fault(&rt, answer, ValueFault::IndexOutOfRange);
-    let answer = part.call(rt.alloc(), Method::GetSample, &[back(60)], now);
-    expect(&rt, answer, &[3, 2]);
-    let answer = part.call(rt.alloc(), Method::GetSample, &[back(60), whole(66)], now);
-    expect(&rt, answer, &[3, 2]);
-    let answer = part.call(rt.alloc(), Method::GetSample, &[back(60), whole(67)], now);
-    let have = Num::of_millionths(66_666_666).ok_or("no number")?;
-    let want = Num::of_millionths(67_000_000).ok_or("no number")?;
-    expect_fault(&rt, answer, ValueFault::NotEnoughSamples(have, want));
-    Ok(())
-}
-
-#[test]
-fn metrics_have_values_counts_and_begins(rt: HostRuntime) -> Result<(), TestFail> {
-    let mut metrics = sampled(rt.alloc())?.ok_or("a push was refused")?;
-    let now = Moment::of_ms(90_000).ok_or("no moment")?;
+    let part = metrics.part(Metric::CpuPercent);
+    let begin: (Method, &[Given], Wanted) = (
+        Method::HistoryBeginTime,
+        &[],
+        Wanted::Fault("EmptyVector"),
+    );
+    assert!(rt; gives(rt.alloc(), part, now, begin)?);
+    assert!(rt;
+        is(
+            &part.value().map_err(Fail::Why),
+            Wanted::Fault("EmptyVector")
+        )
+    );
     metrics.set_current(Metric::CpuPercent, Num::of_millionths(42_500_000));
-    expect(
-        &rt,
-        metrics.part(Metric::CpuPercent).value().map_err(Fail::Why),
-        &[42_500_000],
-    );
-    let part = metrics.part(Metric::ActiveTasks);
-    expect_fault(
-        &rt,
-        part.value().map_err(Fail::Why),
-        ValueFault::EmptyVector,
-    );
-    let table = [
-        (Method::GetSamplePeriod, 300_000_000),
-        (Method::Count, 3_000_000),
-        (Method::HistoryBeginTime, 0),
-    ];
-    for (method, wanted) in table {
-        expect(&rt, part.call(rt.alloc(), method, &[], now), &[wanted]);
-    }
-    let empty = MetricPart::new(rt.alloc())?;
-    let answer = empty.call(rt.alloc(), Method::HistoryBeginTime, &[], now);
-    expect_fault(&rt, answer, ValueFault::EmptyVector);
-    let time = Timestamp::of_units(600_000_000).ok_or("no time")?;
-    let answer = part.call(
-        rt.alloc(),
-        Method::GetSample,
-        &[Value::Timestamp(time)],
-        now,
-    );
-    expect(&rt, answer, &[3]);
+    let part = metrics.part(Metric::CpuPercent);
+    assert!(rt; is(&part.value().map_err(Fail::Why), Wanted::Double(42_500_000)));
     Ok(())
 }
