@@ -7,7 +7,6 @@ ghost use Rattle.batch_model.specs.Jobs.{new_job};
 ghost use Rattle.batch_model.specs.Rows.{job_of, pool_of, add_job_row};
 ghost use Rattle.machine_plans.specs.Plans.{IsPlanOf};
 
-use machine_plans::{accept_one, refuse};
 use crate::pool::{copy_start, find_pool};
 use bt_base::{Duplicate, Id, NoMemory};
 use bt_rows::event::JobSpec;
@@ -16,6 +15,7 @@ use bt_rows::plan::Plan;
 use bt_rows::pool::PoolRow;
 use bt_rows::refusal::{Refusal, Table};
 use bt_rows::tables::{Change, Tables};
+use machine_plans::{accept_one, refuse};
 use std::alloc::Global;
 
 /// How many jobs there may be.

@@ -3,10 +3,12 @@
 //! `batch_model`.
 #![tactic(auto)]
 
+mod collection;
 mod due;
 mod event;
 mod job;
 mod machine;
+mod nodes;
 mod pool;
 mod resize;
 mod run;

@@ -80,7 +80,7 @@ impl Machine {
         ensures tick { event.now ≡ Tick → IfOk result (λ plan. plan.changes ≡ moved_to moment self.now.state) }
         ensures made { IfOk result (IsMade self.now.seats self.now.state) }
     {
-        event::plan_event(alloc, &self.tables, moment.ms(), event)
+        event::plan_event(alloc, &self.tables, self.seats, moment.ms(), event)
     }
 
     /// The plan of the due step, whose reply tells the step; none exactly where no rule applies.

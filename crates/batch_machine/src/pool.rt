@@ -6,13 +6,13 @@ ghost use Rattle.batch_model.specs.Pools.{first_alloc, new_pool};
 ghost use Rattle.batch_model.specs.Rows.{pool_of, add_pool_row};
 ghost use Rattle.machine_plans.specs.Plans.{IsPlanOf};
 
-use machine_plans::{accept_one, refuse};
 use bt_base::{Duplicate, Id, NoMemory};
 use bt_rows::event::PoolSpec;
 use bt_rows::plan::Plan;
 use bt_rows::pool::{Alloc, Dealloc, PoolRow, StartTask};
 use bt_rows::refusal::{Refusal, Table};
 use bt_rows::tables::{Change, Tables};
+use machine_plans::{accept_one, refuse};
 use std::alloc::Global;
 
 /// How many pools there may be.

@@ -5,12 +5,12 @@ ghost use Rattle.batch_model.specs.Dues.{has_reached, steady, pool_steady, has_t
 ghost use Rattle.batch_model.specs.WellFormed.{KeysAreDistinct};
 ghost use Rattle.machine_plans.specs.Plans.{IsPlanOf, IsRule, answer_of_step};
 
-use machine_plans::step_one;
 use bt_base::{Duplicate, NoMemory};
 use bt_rows::due::{Due, ResizeEnd};
 use bt_rows::plan::Plan;
 use bt_rows::pool::{Alloc, PoolRow, ResizeError};
 use bt_rows::tables::{Change, Tables};
+use machine_plans::step_one;
 use std::alloc::Global;
 use table_scans::{has_leaving, is_resizing, staying_count};
 

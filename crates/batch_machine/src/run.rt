@@ -1,121 +1,36 @@
-//! Events of runs.
-ghost use Rattle.std.specs.Prelude.{◌≡◌, IfOk, Some};
-ghost use Rattle.std.specs.List.{find};
-ghost use Rattle.std.specs.Option.{option_copied};
+//! Endings of runs that are no start runs.
+ghost use Rattle.std.specs.Prelude.{◌≡◌, IfOk, Some, false};
 ghost use Rattle.bt_rows.specs.declared.refusal.Refusal.TheVariants.{RunNotFound};
-ghost use Rattle.batch_model.specs.Events.{accept, at_moment, end_run, ended_run, for_row, is_task_of_run, run_ended, run_taken, started_task, take_run, taken_run};
-ghost use Rattle.batch_model.specs.Finding.{names};
+ghost use Rattle.batch_model.specs.Events.{accept, at_moment, end_run, ended_run, for_row, run_ended};
 ghost use Rattle.batch_model.specs.Rows.{run_of};
+ghost use Rattle.batch_model.specs.Runs.{is_start};
 ghost use Rattle.batch_model.specs.WellFormed.{KeysAreDistinct};
 ghost use Rattle.machine_plans.specs.Plans.{IsPlanOf};
+ghost use Rattle.node_machine.specs.Owners.{is_start_number};
 
-use machine_plans::{accept_one, accept_two, refuse};
-use bt_base::{Duplicate, Id, NoMemory};
+use bt_base::{Duplicate, NoMemory};
 use bt_rows::plan::Plan;
 use bt_rows::refusal::Refusal;
-use bt_rows::run::{Ending, RunRow, RunState};
+use bt_rows::run::{Ending, RunKind, RunRow, RunState};
 use bt_rows::tables::{Change, Tables};
-use bt_rows::task::TaskRow;
+use machine_plans::{accept_one, refuse};
 use std::alloc::Global;
+use table_scans::find_run;
 
-/// The run with this number.
-fn find_run<'a>(tables: &'a Tables, number: u64) -> Option<&'a RunRow>
-    ensures { option_copied result ≡ run_of tables.now.state number }
+/// Whether the run is of a start task.
+fn is_start(kind: RunKind) -> bool
+    ensures { result ≡ is_start kind }
 {
-    tables.runs().iter().find(|run| run.number == number)
+    kind == RunKind::Start
 }
 
-/// Whether the option holds this id, but for case.
-pub fn names(name: &Option<Id>, id: &Id) -> bool
-    ensures { result ≡ names name.now id.now }
-{
-    match name {
-        Some(name) => name.same(id),
-        None => false,
-    }
-}
-
-/// Whether the run is the task's.
-fn is_task_of_run(run: &RunRow, task: &TaskRow) -> bool
-    ensures { result ≡ is_task_of_run run.now task.now }
-{
-    names(&run.job, &task.job) && names(&run.task, &task.id)
-}
-
-/// The task that the run names.
-fn find_task_of<'a>(tables: &'a Tables, run: &RunRow) -> Option<&'a TaskRow>
-    ensures { option_copied result ≡ find (is_task_of_run run.now) tables.now.state.tasks }
-{
-    tables.tasks().iter().find(|task| is_task_of_run(run, task))
-}
-
-/// The run, taken at this moment.
-fn taken_run(now: u64, run: &RunRow) -> Result<RunRow, NoMemory>
-    ensures { IfOk result (λ taken. taken ≡ taken_run now run.now) }
-{
-    let mut taken = run.copy()?;
-    taken.state = RunState::Taken;
-    taken.taken = Some(now);
-    Ok(taken)
-}
-
-/// The task, started at this moment if it has not started yet.
-fn started_task(now: u64, task: &TaskRow) -> Result<TaskRow, NoMemory>
-    ensures { IfOk result (λ started. started ≡ started_task now task.now) }
-{
-    let mut started = task.copy()?;
-    started.started = Some(task.started.unwrap_or(now));
-    Ok(started)
-}
-
-/// The plan that takes a run, and starts its task.
-fn put_taken(alloc: Global, tables: &Tables, moment: u64, run: &RunRow) -> Result<Plan, NoMemory>
-    requires keys { KeysAreDistinct tables.now.state }
-    requires there { run_of tables.now.state run.now.number ≡ Some run.now }
-    ensures { IfOk result (IsPlanOf (accept 200 (run_taken (at_moment moment tables.now.state) run.now)) tables.now.state) }
-{
-    let now = tables.moment().max(moment);
-    let taken = taken_run(now, run)?;
-    match find_task_of(tables, run) {
-        Some(task) => {
-            let started = started_task(now, task)?;
-            accept_two(
-                alloc,
-                tables,
-                moment,
-                200,
-                Change::PutRun(taken),
-                Change::PutTask(started),
-            )
-        }
-        None => accept_one(alloc, tables, moment, 200, Change::PutRun(taken)),
-    }
-}
-
-/// The plan of `take` of the run that was found.
-fn take_found(alloc: Global, tables: &Tables, moment: u64, run: &RunRow) -> Result<Plan, NoMemory>
-    requires keys { KeysAreDistinct tables.now.state }
-    requires there { run_of tables.now.state run.now.number ≡ Some run.now }
-    ensures { IfOk result (IsPlanOf (take_run (at_moment moment tables.now.state) run.now) tables.now.state) }
-{
-    match run.state {
-        RunState::Queued => put_taken(alloc, tables, moment, run),
-        RunState::Ended(_) => refuse(alloc, tables, moment, Refusal::RunAlreadyEnded),
-        RunState::Withdrawn => refuse(alloc, tables, moment, Refusal::RunWithdrawn),
-        RunState::Taken => refuse(alloc, tables, moment, Refusal::RunAlreadyTaken),
-        RunState::Waiting => refuse(alloc, tables, moment, Refusal::RunWaiting),
-    }
-}
-
-/// The plan of `take`. A run that is not there is refused as `RunNotFound`; only a queued one is taken, and another is
-/// refused as its state says: `RunAlreadyEnded`, `RunWithdrawn`, `RunAlreadyTaken` or `RunWaiting`.
-pub fn take_run(alloc: Global, tables: &Tables, moment: u64, number: u64) -> Result<Plan, NoMemory>
-    requires { KeysAreDistinct tables.now.state }
-    ensures { IfOk result (IsPlanOf (for_row (at_moment moment tables.now.state) RunNotFound (take_run (at_moment moment tables.now.state)) (run_of (at_moment moment tables.now.state) number)) tables.now.state) }
+/// Whether a start run has the number.
+pub fn is_start_number(tables: &Tables, number: u64) -> bool
+    ensures { result ≡ is_start_number tables.now.state number }
 {
     match find_run(tables, number) {
-        Some(run) => take_found(alloc, tables, moment, run),
-        None => refuse(alloc, tables, moment, Refusal::RunNotFound),
+        None => false,
+        Some(run) => is_start(run.kind),
     }
 }
 
@@ -139,6 +54,7 @@ fn put_ended(
 ) -> Result<Plan, NoMemory>
     requires keys { KeysAreDistinct tables.now.state }
     requires there { run_of tables.now.state run.now.number ≡ Some run.now }
+    requires other { is_start run.now.kind ≡ false }
     ensures { IfOk result (IsPlanOf (accept 200 (run_ended (at_moment moment tables.now.state) ending run.now)) tables.now.state) }
 {
     let now = tables.moment().max(moment);
@@ -156,6 +72,7 @@ fn end_found(
 ) -> Result<Plan, NoMemory>
     requires keys { KeysAreDistinct tables.now.state }
     requires there { run_of tables.now.state run.now.number ≡ Some run.now }
+    requires other { is_start run.now.kind ≡ false }
     ensures { IfOk result (IsPlanOf (end_run (at_moment moment tables.now.state) ending run.now) tables.now.state) }
 {
     match run.state {
@@ -166,8 +83,8 @@ fn end_found(
     }
 }
 
-/// The plan of `end`. A run that is not there is refused as `RunNotFound`; only a taken one is ended, and another is
-/// refused as its state says: `RunAlreadyEnded`, `RunWithdrawn` or `RunNotTaken`.
+/// The plan of `end` of a run that is no start run. One that is not there is refused as `RunNotFound`; only a taken one is
+/// ended, and another is refused as its state says: `RunAlreadyEnded`, `RunWithdrawn` or `RunNotTaken`.
 pub fn end_run(
     alloc: Global,
     tables: &Tables,
@@ -175,7 +92,8 @@ pub fn end_run(
     number: u64,
     ending: Ending,
 ) -> Result<Plan, NoMemory>
-    requires { KeysAreDistinct tables.now.state }
+    requires keys { KeysAreDistinct tables.now.state }
+    requires other { is_start_number tables.now.state number ≡ false }
     ensures { IfOk result (IsPlanOf (for_row (at_moment moment tables.now.state) RunNotFound (end_run (at_moment moment tables.now.state) ending) (run_of (at_moment moment tables.now.state) number)) tables.now.state) }
 {
     match find_run(tables, number) {

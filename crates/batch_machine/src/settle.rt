@@ -11,7 +11,6 @@ ghost use Rattle.batch_model.specs.Dues.{settle_first};
 ghost use Rattle.batch_model.specs.WellFormed.{KeysAreDistinct};
 ghost use Rattle.machine_plans.specs.Plans.{IsPlanOf, IsRule, answer_of_step};
 
-use machine_plans::step_one;
 use bt_base::{Duplicate, NoMemory};
 use bt_rows::due::{Due, Outcome};
 use bt_rows::job::JobRow;
@@ -20,6 +19,7 @@ use bt_rows::plan::Plan;
 use bt_rows::run::Ending;
 use bt_rows::tables::{Change, Tables};
 use bt_rows::task::{Closed, How, TaskRow, TaskStage, Want};
+use machine_plans::step_one;
 use std::alloc::Global;
 use table_scans::{is_busy, is_placed, main_ending};
 

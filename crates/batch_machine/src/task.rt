@@ -1,16 +1,17 @@
 //! Events of tasks.
-ghost use Rattle.std.specs.Prelude.{◌≡◌, not, nat_le, IfOk, is_some, false};
-ghost use Rattle.std.specs.Option.{option_copied};
+ghost use Rattle.std.specs.Prelude.{◌≡◌, not, nat_le, length, IfOk, is_some, false};
+ghost use Rattle.std.specs.List.{list_any};
 ghost use Rattle.bt_rows.specs.declared.refusal.Refusal.TheVariants.{JobNotFound};
-ghost use Rattle.batch_model.specs.Events.{accept, add_task, at_moment, for_row, has_long_needs};
+ghost use Rattle.batch_model.specs.Events.{accept, add_task, at_moment, for_row, has_long_needs, task_refusals};
+ghost use Rattle.batch_model.specs.Finding.{first_of};
 ghost use Rattle.batch_model.specs.Jobs.{is_past};
-ghost use Rattle.batch_model.specs.Rows.{job_of, task_of, add_task_row};
+ghost use Rattle.batch_model.specs.Rows.{is_task, job_of, task_of, add_task_row};
 ghost use Rattle.batch_model.specs.Tasks.{new_task};
 ghost use Rattle.batch_model.specs.WellFormed.{needs_length};
 ghost use Rattle.machine_plans.specs.Plans.{IsPlanOf};
+ghost use Rattle.batch_machine.specs.Collections.{with_tasks};
 
 use crate::job::find_job;
-use machine_plans::{accept_one, refuse};
 use bt_base::{Duplicate, Id, NoMemory};
 use bt_rows::event::TaskSpec;
 use bt_rows::job::{JobRow, JobState};
@@ -18,6 +19,7 @@ use bt_rows::plan::Plan;
 use bt_rows::refusal::{Refusal, Table};
 use bt_rows::tables::{Change, Tables};
 use bt_rows::task::{Multi, TaskRow, TaskStage};
+use machine_plans::{accept_one, refuse};
 use std::alloc::Global;
 
 /// How many tasks there may be.
@@ -26,18 +28,55 @@ const TASK_LIMIT: u64 = 1_000_000;
 /// How many characters the ids of one list of dependencies have together, at most.
 const NEEDS_LIMIT: usize = 64_000;
 
-/// The job's task with this id, but for case.
-fn find_task<'a>(tables: &'a Tables, job: &Id, id: &Id) -> Option<&'a TaskRow>
-    ensures { option_copied result ≡ task_of tables.now.state job.now id.now }
+/// Whether one of the tasks is the job's with this id, but for case.
+fn has_task(tasks: &[TaskRow], job: &Id, id: &Id) -> bool
+    ensures { result ≡ list_any (is_task job.now id.now) tasks.now }
 {
-    tables
-        .tasks()
+    tasks
         .iter()
-        .find(|task| task.job.same(job) && task.id.same(id))
+        .any(|task| task.job.same(job) && task.id.same(id))
+}
+
+/// Whether the job has a task with this id, but for case, in the tables or among those that are added to them.
+#[tactic(auto, using(crate::proofs::AnsweredTasks::found_first, crate::proofs::AnsweredTasks::found_second))]
+fn is_known(tables: &Tables, added: &[TaskRow], job: &Id, id: &Id) -> bool
+    ensures { result ≡ is_some (task_of (with_tasks added.now tables.now.state) job.now id.now) }
+{
+    has_task(tables.tasks(), job, id) || has_task(added, job, id)
+}
+
+/// Whether the tables and those tasks that are added to them are as many as there may be.
+fn is_full(tables: &Tables, added: &[TaskRow]) -> bool
+    ensures { result ≡ nat_le 1000000 (length (with_tasks added.now tables.now.state).tasks) }
+{
+    let room = TASK_LIMIT.saturating_sub(tables.tasks().len() as u64);
+    added.len() as u64 >= room
+}
+
+/// Why the job does not take the task beside those that are added before it, if it does not: `TaskExists`,
+/// `DependencyListTooLong` or `TableFull`, in this order.
+pub fn task_refusal(
+    tables: &Tables,
+    added: &[TaskRow],
+    job: &JobRow,
+    spec: &TaskSpec,
+) -> Option<Refusal>
+    ensures { result ≡ first_of (task_refusals (with_tasks added.now tables.now.state) job.now spec.now) }
+{
+    if is_known(tables, added, &job.id, &spec.id) {
+        return Some(Refusal::TaskExists);
+    }
+    if has_long_needs(spec) {
+        return Some(Refusal::DependencyListTooLong);
+    }
+    if is_full(tables, added) {
+        return Some(Refusal::TableFull(Table::Tasks, TASK_LIMIT));
+    }
+    None
 }
 
 /// Whether the job is terminating, completed or deleting.
-fn is_past(state: JobState) -> bool
+pub fn is_past(state: JobState) -> bool
     ensures { result ≡ is_past state }
 {
     matches!(
@@ -89,7 +128,7 @@ fn copy_multi(multi: &Option<Multi>) -> Result<Option<Multi>, NoMemory>
 }
 
 /// A task that is added to the job with this id.
-fn new_task(job: &Id, spec: &TaskSpec) -> Result<TaskRow, NoMemory>
+pub fn new_task(job: &Id, spec: &TaskSpec) -> Result<TaskRow, NoMemory>
     ensures { IfOk result (λ task. task ≡ new_task job.now spec.now) }
 {
     let job = job.copy()?;
@@ -151,21 +190,10 @@ fn add_task_to(
     if is_past(job.state) {
         return refuse(alloc, tables, moment, Refusal::JobStateRefuses(job.state));
     }
-    if find_task(tables, &job.id, &spec.id).is_some() {
-        return refuse(alloc, tables, moment, Refusal::TaskExists);
+    match task_refusal(tables, &[], job, spec) {
+        Some(refusal) => refuse(alloc, tables, moment, refusal),
+        None => put_new_task(alloc, tables, moment, new_task(&job.id, spec)?),
     }
-    if has_long_needs(spec) {
-        return refuse(alloc, tables, moment, Refusal::DependencyListTooLong);
-    }
-    if tables.tasks().len() as u64 >= TASK_LIMIT {
-        return refuse(
-            alloc,
-            tables,
-            moment,
-            Refusal::TableFull(Table::Tasks, TASK_LIMIT),
-        );
-    }
-    put_new_task(alloc, tables, moment, new_task(&job.id, spec)?)
 }
 
 /// The plan of `add-task`. A job that is not there is refused as `JobNotFound`, one that is terminating, completed or

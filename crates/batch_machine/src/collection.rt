@@ -1,0 +1,151 @@
+//! Collections of tasks.
+ghost use Rattle.std.specs.Prelude.{◌≡◌, ℕ, [], ◌∷◌, ◌++◌, map, IfOk, OnOk};
+ghost use Rattle.bt_rows.specs.declared.refusal.Refusal.TheVariants.{JobNotFound};
+ghost use Rattle.bt_rows.specs.declared.tables.Change.TheVariants.{PutTask};
+ghost use Rattle.batch_model.specs.Events.{accept_all, add_each, add_tasks, at_moment, element_of, for_row};
+ghost use Rattle.batch_model.specs.Rows.{job_of};
+ghost use Rattle.machine_plans.specs.Plans.{IsPlanOf};
+ghost use Rattle.batch_machine.specs.Collections.{IsAnswered, added_by, refusal_beside};
+
+use crate::job::find_job;
+use crate::task::{is_past, new_task, task_refusal};
+use bt_base::{Duplicate, Id, List, NoMemory};
+use bt_rows::event::TaskSpec;
+use bt_rows::job::JobRow;
+use bt_rows::plan::Plan;
+use bt_rows::refusal::Refusal;
+use bt_rows::reply::{Element, Reply};
+use bt_rows::tables::{Change, Tables};
+use bt_rows::task::TaskRow;
+use machine_plans::{refuse, reply_listed};
+use std::alloc::Global;
+
+/// How many tasks are added at once, at most.
+const COLLECTION_LIMIT: usize = 100;
+
+/// The answers to the elements so far, and the tasks that are added by them.
+#[derive(Drop)]
+struct Collected {
+    elements: Vec<Element>,
+    tasks: Vec<TaskRow>,
+}
+
+/// The answer to an element that is refused so, if it is.
+fn element_of(spec: &TaskSpec, refusal: Option<Refusal>) -> Result<Element, NoMemory>
+    ensures { IfOk result (λ element. element ≡ element_of spec.now refusal) }
+{
+    let id = spec.id.copy()?;
+    match refusal {
+        None => Ok(Element::Added(id)),
+        Some(refusal) => Ok(Element::NotAdded(id, refusal)),
+    }
+}
+
+/// Adds the task of an element, where the element is not refused.
+fn add_unless(
+    tasks: &mut Vec<TaskRow>,
+    job: &JobRow,
+    spec: &TaskSpec,
+    refusal: Option<Refusal>,
+) -> Result<(), NoMemory>
+    ensures { OnOk result (tasks.new.items ≡ tasks.old.items ++ added_by job.now spec.now refusal) }
+{
+    if refusal.is_none() {
+        tasks.push(new_task(&job.id, spec)?)?;
+    }
+    Ok(())
+}
+
+/// Answers one element, as if it came alone behind those before it.
+fn add_element(
+    collected: &mut Collected,
+    tables: &Tables,
+    job: &JobRow,
+    spec: &TaskSpec,
+) -> Result<(), NoMemory>
+    ensures elements { OnOk result (collected.new.elements.items ≡ collected.old.elements.items ++ element_of spec.now (refusal_beside collected.old.tasks.items tables.now.state job.now spec.now) ∷ []) }
+    ensures tasks { OnOk result (collected.new.tasks.items ≡ collected.old.tasks.items ++ added_by job.now spec.now (refusal_beside collected.old.tasks.items tables.now.state job.now spec.now)) }
+{
+    let refusal = task_refusal(tables, collected.tasks.as_slice(), job, spec);
+    collected.elements.push(element_of(spec, refusal)?)?;
+    add_unless(&mut collected.tasks, job, spec, refusal)
+}
+
+/// Answers the elements in their order.
+fn collect(
+    alloc: Global,
+    tables: &Tables,
+    job: &JobRow,
+    specs: &[TaskSpec],
+) -> Result<Collected, NoMemory>
+    ensures { IfOk result (λ collected. (moment : ℕ) → IsAnswered (at_moment moment tables.now.state) job.now specs.now collected.elements.items collected.tasks.items) }
+{
+    let mut collected = Collected {
+        elements: Vec::new(alloc),
+        tasks: Vec::new(alloc),
+    };
+    for spec in specs {
+        add_element(&mut collected, tables, job, spec)?;
+    }
+    Ok(collected)
+}
+
+/// The puts of new tasks.
+fn puts(alloc: Global, tasks: Vec<TaskRow>) -> Result<Vec<Change>, NoMemory>
+    ensures { IfOk result (λ changes. changes.items ≡ map PutTask tasks.items) }
+{
+    Ok(tasks.into_iter().map(Change::PutTask).collect(alloc)?)
+}
+
+/// The plan that answers each element, and adds the tasks of those that are not refused.
+fn put_collected(
+    alloc: Global,
+    tables: &Tables,
+    moment: u64,
+    job: &JobRow,
+    specs: &[TaskSpec],
+) -> Result<Plan, NoMemory>
+    ensures { IfOk result (IsPlanOf (accept_all (add_each (at_moment moment tables.now.state) job.now specs.now)) tables.now.state) }
+{
+    let Collected { elements, tasks } = collect(alloc, tables, job, specs)?;
+    let changes = puts(alloc, tasks)?;
+    let reply = Reply::Elements(List::of_vec(elements));
+    reply_listed(alloc, tables, moment, reply, changes)
+}
+
+/// The plan of `add-tasks` to the job that was found.
+fn add_tasks_to(
+    alloc: Global,
+    tables: &Tables,
+    moment: u64,
+    specs: &[TaskSpec],
+    job: &JobRow,
+) -> Result<Plan, NoMemory>
+    ensures { IfOk result (IsPlanOf (add_tasks (at_moment moment tables.now.state) specs.now job.now) tables.now.state) }
+{
+    if is_past(job.state) {
+        return refuse(alloc, tables, moment, Refusal::JobStateRefuses(job.state));
+    }
+    if specs.len() > COLLECTION_LIMIT {
+        return refuse(alloc, tables, moment, Refusal::CollectionTooLong);
+    }
+    put_collected(alloc, tables, moment, job, specs)
+}
+
+/// The plan of `add-tasks`. A job that is not there is refused as `JobNotFound`, one that is terminating, completed or
+/// deleting as `JobStateRefuses`, and more than 100 tasks as `CollectionTooLong`, in this order. Else each task is answered
+/// in order as `add-task` answers it, and one that is refused keeps no other from being added.
+pub fn add_tasks(
+    alloc: Global,
+    tables: &Tables,
+    moment: u64,
+    job: &Id,
+    specs: &[TaskSpec],
+) -> Result<Plan, NoMemory>
+    ensures { IfOk result (IsPlanOf (for_row (at_moment moment tables.now.state) JobNotFound (add_tasks (at_moment moment tables.now.state) specs.now) (job_of (at_moment moment tables.now.state) job.now)) tables.now.state) }
+{
+    match find_job(tables, job) {
+        Some(job) => add_tasks_to(alloc, tables, moment, specs, job),
+        None => refuse(alloc, tables, moment, Refusal::JobNotFound),
+    }
+}
