@@ -1,5 +1,5 @@
 -- Lists of calls of a ledger: which are legal, and how many slots they leave held.
-use Rattle.std.specs.Prelude.{◌≡◌, ℕ, ◌+◌, ◌-◌, Bool, true, not, ◌&&◌, nat_eq, nat_le, List, [], ◌∷◌, if◌then◌else◌}
+use Rattle.std.specs.Prelude.{◌≡◌, ℕ, ◌+◌, ◌-◌, ◌≤◌, Bool, true, not, ◌&&◌, nat_eq, nat_le, List, [], ◌∷◌, if◌then◌else◌}
 use Rattle.slot_ledger.specs.Ledgers.{Entry, has_node, has_free_slots, has_held_slots, is_unheld, with_node, without_node, holding, giving}
 
 -- a call that changes a ledger
@@ -47,3 +47,9 @@ given_by (AddNode added pool slots ∷ earlier) node = if nat_eq added node then
 given_by (RemoveNode removed ∷ earlier) node = if nat_eq removed node then 0 else given_by earlier node
 given_by (Hold on n ∷ earlier) node = given_by earlier node
 given_by (Give on n ∷ earlier) node = if nat_eq on node then given_by earlier node + n else given_by earlier node
+
+-- the entry holds what was taken and not given back since its node was added, and no more than its slots
+pub record HoldsItsSum (calls : List Call) (entry : Entry) : Type 0 where
+  pub held : entry.held ≡ held_by calls entry.node - given_by calls entry.node
+  pub given : given_by calls entry.node ≤ held_by calls entry.node
+  pub slots : entry.held ≤ entry.slots

@@ -6,15 +6,15 @@ use Rattle.bt_base.specs.Ids.{same}
 use Rattle.bt_rows.specs.declared.pool.Fill.{Fill}
 use Rattle.bt_rows.specs.declared.pool.Fill.TheVariants.{Spread, Pack}
 
--- a node of a pool, with so many slots, of which so many are held
-pub record Entry : Type 0 where
-  pub node : ℕ
-  pub pool : List ℕ
-  pub slots : ℕ
-  pub held : ℕ
+-- an entry is a node of a pool, with so many slots, of which so many are held
+pub use Rattle.slot_ledger.specs.declared.ledger.Entry.{Entry}
 
 abbrev pub is_of : ℕ → Entry → Bool
 is_of node entry = nat_eq entry.node node
+
+-- the other entry is of the same node
+abbrev pub same_node : Entry → Entry → Bool
+same_node entry other = is_of entry.node other
 
 -- the node has an entry
 abbrev pub has_node : List Entry → ℕ → Bool

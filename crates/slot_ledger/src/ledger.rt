@@ -1,6 +1,9 @@
 //! The ledger.
-ghost use Rattle.std.specs.Prelude.{◌≡◌, true, false, OnOk, OnErr};
-ghost use Rattle.slot_ledger.specs.Ledgers.{has_node, has_free_slots, has_held_slots, is_unheld, with_node, without_node, holding, giving, chosen};
+ghost use Rattle.std.specs.Prelude.{◌≡◌, ◌+◌, ◌-◌, ◌≤◌, [], ◌∷◌, ◌++◌, ℕ, List, true, false, OnOk, OnErr, filter};
+ghost use Rattle.std.specs.List.{All, position};
+ghost use Rattle.std.specs.Option.{option_copied};
+ghost use Rattle.slot_ledger.specs.Ledgers.{Entry as EntryRow, is_of, has_node, has_free_slots, has_held_slots, is_unheld, with_node, without_node, holding, giving, fits, is_lower, precedes, best, chosen};
+ghost use Rattle.slot_ledger.specs.Calls.{Call, AreLegal, HoldsItsSum, after_calls};
 
 use bt_base::{Duplicate, Id, NoMemory};
 use bt_rows::pool::Fill;
@@ -20,4 +23,177 @@ struct Entry {
 #[derive(Drop)]
 pub struct Ledger {
     entries: Vec<Entry>,
+}
+
+impl Model for Ledger {
+    ghost use Rattle.std.specs.Prelude.{List};
+    ghost use Rattle.bt_rows.specs.Lists.{AreDistinct};
+    ghost use Rattle.slot_ledger.specs.Ledgers.{Entry as EntryRow, same_node};
+
+    ghost Value = { List EntryRow };
+
+    ghost view = { λ ledger. ledger.entries.items };
+
+    ghost invariant = { λ ledger. AreDistinct same_node ledger.entries.items };
+}
+
+impl Ledger {
+    /// A ledger without nodes. It takes no memory.
+    pub fn new(alloc: Global) -> Ledger
+        ensures { result ≡ [] }
+    {
+        Ledger {
+            entries: Vec::new(alloc),
+        }
+    }
+
+    /// Adds a node of the pool, with so many slots, none of which is held. The only error is want of memory, which changes
+    /// nothing.
+    pub fn add_node(&mut self, node: u64, pool: &Id, slots: u8) -> Result<(), NoMemory>
+        requires { has_node self.old node ≡ false }
+        ensures ok { OnOk result (self.new ≡ with_node self.old node pool.now slots) }
+        ensures err { OnErr result (self.new ≡ self.old) }
+    {
+        let pool = pool.copy()?;
+        self.entries.push(Entry {
+            node,
+            pool,
+            slots,
+            held: 0,
+        })?;
+        Ok(())
+    }
+
+    /// Removes a node of which no slot is held. It takes no memory.
+    pub fn remove_node(&mut self, node: u64)
+        requires { is_unheld self.old node ≡ true }
+        ensures { self.new ≡ without_node self.old node }
+    {
+        if let Some(place) = place_of(&self.entries, node) {
+            self.entries.remove(place);
+        }
+    }
+
+    /// Holds so many free slots of the node. It takes no memory.
+    pub fn hold(&mut self, node: u64, n: u8)
+        requires { has_free_slots self.old node n ≡ true }
+        ensures { self.new ≡ holding self.old node n }
+    {
+        if let Some(place) = place_of(&self.entries, node) {
+            hold_in(&mut self.entries[place], n);
+        }
+    }
+
+    /// Gives back so many held slots of the node. It takes no memory.
+    pub fn give(&mut self, node: u64, n: u8)
+        requires { has_held_slots self.old node n ≡ true }
+        ensures { self.new ≡ giving self.old node n }
+    {
+        if let Some(place) = place_of(&self.entries, node) {
+            give_in(&mut self.entries[place], n);
+        }
+    }
+
+    /// The node of the pool on which so many slots are to be held: `spread` takes the one with the fewest held slots, `pack`
+    /// the one with the most, and the lowest number decides a tie. None exactly where no node of the pool has so many slots
+    /// free. It takes no memory.
+    pub fn choose(&self, pool: &Id, fill: Fill, need: u8) -> Option<u64>
+        ensures { result ≡ chosen self.now pool.now fill need }
+    {
+        match best(&self.entries, pool, fill, need) {
+            None => None,
+            Some(entry) => Some(entry.node),
+        }
+    }
+}
+
+/// A law of legal lists of calls: each node holds what `hold` took on it and `give` did not give back since it was added, which
+/// is no more than its slots, and no more is given back than was taken.
+#[tactic(auto, using(crate::proofs::Sums::each_holds_its_sum))]
+pub fn held_is_sum()
+    ensures { (calls : List Call) → AreLegal calls → All (HoldsItsSum calls) (after_calls calls) }
+{}
+
+/// The place of the node's entry.
+fn place_of(entries: &[Entry], node: u64) -> Option<usize>
+    ensures { result ≡ position (is_of node) entries.now }
+{
+    entries.iter().position(|entry| entry.node == node)
+}
+
+/// Holds so many free slots of the entry's node.
+fn hold_in(entry: &mut Entry, n: u8)
+    requires { entry.old.held + n ≤ entry.old.slots }
+    ensures { entry.new ≡ record entry.old { held = entry.old.held + n } }
+{
+    let _slots = entry.slots;
+    entry.held += n;
+}
+
+/// Gives back so many held slots of the entry's node.
+fn give_in(entry: &mut Entry, n: u8)
+    requires { n ≤ entry.old.held }
+    ensures { entry.new ≡ record entry.old { held = entry.old.held - n } }
+{
+    entry.held -= n;
+}
+
+/// Whether the node is of the pool and has so many slots free.
+fn fits(pool: &Id, need: u8, entry: &Entry) -> bool
+    ensures { result ≡ fits pool.now need entry.now }
+{
+    entry.pool.same(pool) && u16::from(entry.held) + u16::from(need) <= u16::from(entry.slots)
+}
+
+/// Whether as many slots are held on both nodes, and the first has the lower number.
+fn is_lower(entry: &Entry, other: &Entry) -> bool
+    ensures { result ≡ is_lower entry.now other.now }
+{
+    entry.held == other.held && entry.node < other.node
+}
+
+/// Whether the fill type prefers the first node.
+fn precedes(fill: Fill, entry: &Entry, other: &Entry) -> bool
+    ensures { result ≡ precedes fill entry.now other.now }
+{
+    match fill {
+        Fill::Spread => entry.held < other.held || is_lower(entry, other),
+        Fill::Pack => entry.held > other.held || is_lower(entry, other),
+    }
+}
+
+/// The entry, unless it does not fit or the best of those behind it goes before it.
+fn better<'a>(
+    behind: Option<&'a Entry>,
+    entry: &'a Entry,
+    pool: &Id,
+    fill: Fill,
+    need: u8,
+) -> Option<&'a Entry>
+    ensures { (rest : List EntryRow) → option_copied behind.entry ≡ best (precedes fill) (filter (fits pool.now need) rest) → option_copied result ≡ best (precedes fill) (filter (fits pool.now need) (entry.now ∷ rest)) }
+{
+    if !fits(pool, need, entry) {
+        return behind;
+    }
+    match behind {
+        None => Some(entry),
+        Some(other) => {
+            if precedes(fill, other, entry) {
+                Some(other)
+            } else {
+                Some(entry)
+            }
+        }
+    }
+}
+
+/// The entry that goes before the others of those that fit.
+fn best<'a>(entries: &'a [Entry], pool: &Id, fill: Fill, need: u8) -> Option<&'a Entry>
+    ensures { option_copied result ≡ best (precedes fill) (filter (fits pool.now need) entries.now) }
+{
+    let mut best = None;
+    for entry in entries.iter().rev() {
+        best = better(best, entry, pool, fill, need);
+    }
+    best
 }

@@ -4,4 +4,4 @@
 
 mod ledger;
 
-pub use ledger::Ledger;
+pub use ledger::{Ledger, held_is_sum};
