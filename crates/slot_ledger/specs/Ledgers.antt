@@ -5,7 +5,6 @@ use Rattle.std.specs.List.{list_any}
 use Rattle.bt_base.specs.Ids.{same}
 use Rattle.bt_rows.specs.declared.pool.Fill.{Fill}
 use Rattle.bt_rows.specs.declared.pool.Fill.TheVariants.{Spread, Pack}
-
 -- an entry is a node of a pool, with so many slots, of which so many are held
 pub use Rattle.slot_ledger.specs.declared.ledger.Entry.{Entry}
 

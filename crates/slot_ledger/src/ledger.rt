@@ -10,13 +10,13 @@ use bt_rows::pool::Fill;
 use std::alloc::Global;
 use std::marker::Model;
 
-/// A node: its pool, how many slots it has, and how many of these are held.
+/// What a ledger keeps of a node: its number, its pool, how many slots it has, and how many of these are held.
 #[derive(Drop)]
-struct Entry {
-    node: u64,
-    pool: Id,
-    slots: u8,
-    held: u8,
+pub struct Entry {
+    pub node: u64,
+    pub pool: Id,
+    pub slots: u8,
+    pub held: u8,
 }
 
 /// The held slots of nodes. It is kept as a list of nodes, which each call goes through.

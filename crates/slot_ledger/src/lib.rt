@@ -4,4 +4,7 @@
 
 mod ledger;
 
-pub use ledger::{Ledger, held_is_sum};
+pub use ledger::{Entry, Ledger, held_is_sum};
+
+#[cfg(test)]
+mod tests;

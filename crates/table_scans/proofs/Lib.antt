@@ -1,3 +1,3 @@
 pub mod HeldSlots
-pub mod HeldNodes
-pub mod FreeNodes
+pub mod NodeEntries
+pub mod RunEntries

@@ -1,6 +1,6 @@
 use Rattle.std.proofs.Common.{◌≡◌, map, drop}
 use Rattle.table_scans.specs.Holding.{is_of_any}
-use Rattle.table_scans.proofs.slots.is_of_any.Given as goal
+use Rattle.table_scans.proofs.entries.is_of_any.Given as goal
 
 -- the run is of one of those that are left, if it is of any
 abbrev pub invariant-loop-task : goal.invariant-loop-task

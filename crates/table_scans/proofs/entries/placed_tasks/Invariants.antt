@@ -1,6 +1,6 @@
 use Rattle.std.proofs.Common.{◌≡◌, ◌++◌, map, drop}
 use Rattle.table_scans.specs.Holding.{only_placed}
-use Rattle.table_scans.proofs.slots.placed_tasks.Given as goal
+use Rattle.table_scans.proofs.entries.placed_tasks.Given as goal
 
 -- the placed tasks so far, and those among what is left, are all
 abbrev pub invariant-loop-task : goal.invariant-loop-task
