@@ -1,3 +1,4 @@
+pub mod Choices
+pub mod LeastNumbers
 pub mod NotPlaced
 pub mod Placements
-pub mod ReadyJobs

@@ -39,14 +39,14 @@ no_run next run runs e h =
     (each_weaker (λ old. nat_lt old.number next) (λ old. not (same_run old run)) (λ old below. true_not (ap (nat_eq old.number) e ∙ below_other old.number next below)) runs h)
 
 -- the changes of a placing lead to the tables of its step
-pub placed_changes : (s : State) (node : NodeRow) (task : TaskRow) (test : TaskRow → Bool) → AreDistinct same_task s.tasks → Each (λ run. nat_lt run.number s.next_run) s.runs → find test s.tasks ≡ Some task → apply_changes (PutTask (placed task) ∷ PutRun (queued s node task) ∷ Counters s.next_node (s.next_run + 1) ∷ []) s ≡ (place s node task).state
+pub placed_changes : (s : State) (node : NodeRow) (task : TaskRow) (test : TaskRow → Bool) → AreDistinct same_task s.tasks → Each (λ run. nat_lt run.number s.next_run) s.runs → find test s.tasks ≡ Some task → apply_changes (PutTask (placed task) ∷ PutRun (queued s node task) ∷ Counters s.next_node (s.next_run + 1) ∷ []) s ≡ (place s task node).state
 placed_changes s node task test distinct numbers found =
     tables_after s _ _ _ _
     (put_row-found same_task same_task_equiv (λ old. same_task old task) (λ old. placed task) task (λ x. refl) (λ x. refl) s.tasks distinct (found_first same_task same_task_equiv test task s.tasks distinct found))
     (put_row-new (λ old. same_run old (queued s node task)) (queued s node task) s.runs (no_run s.next_run (queued s node task) s.runs refl numbers))
 
 -- the same for a task and a run that were made for it
-pub placed_by : (s : State) (node : NodeRow) (task row : TaskRow) (run : RunRow) (next_node next_run : ℕ) → next_node ≡ s.next_node → next_run ≡ s.next_run → AreDistinct same_task s.tasks → Each (λ run. nat_lt run.number s.next_run) s.runs → find (λ old. same_task old task) s.tasks ≡ Some task → row ≡ placed task → run ≡ queued s node task → apply_changes (PutTask row ∷ PutRun run ∷ Counters next_node (next_run + 1) ∷ []) s ≡ (place s node task).state
+pub placed_by : (s : State) (node : NodeRow) (task row : TaskRow) (run : RunRow) (next_node next_run : ℕ) → next_node ≡ s.next_node → next_run ≡ s.next_run → AreDistinct same_task s.tasks → Each (λ run. nat_lt run.number s.next_run) s.runs → find (λ old. same_task old task) s.tasks ≡ Some task → row ≡ placed task → run ≡ queued s node task → apply_changes (PutTask row ∷ PutRun run ∷ Counters next_node (next_run + 1) ∷ []) s ≡ (place s task node).state
 placed_by s node task row run next_node next_run is_node is_run distinct numbers found e f =
     ap (λ n. apply_changes (PutTask row ∷ PutRun run ∷ Counters n (next_run + 1) ∷ []) s) is_node
     ∙ ap (λ n. apply_changes (PutTask row ∷ PutRun run ∷ Counters s.next_node (n + 1) ∷ []) s) is_run
@@ -59,12 +59,6 @@ pub attempt_bound : (next : ℕ) (task : TaskRow) (test : TaskRow → Bool) (tas
 attempt_bound next task test tasks attempts found left =
     let below : task.attempt < next = (Decides-ltb task.attempt next).0 (each_found (λ task. nat_lt task.attempt next) test task tasks found attempts) in
     omega arith
-
-module _ {A B : Type 0} where
-  -- with nothing to give, nothing is given
-  pub then_none : (f : A → Option B) → ((a : A) → f a ≡ None) → (o : Option A) → option_and_then f o ≡ None
-  then_none f none None = refl
-  then_none f none (Some a) = none a
 
 -- a plan with the line and the changes of a step is its plan
 pub step_planned : (r : Result Plan NoMemory) (line : Due) (changes : List Change) (s : State) (step : DueStep) → IfOk r (λ plan. plan.reply ≡ Step line) → IfOk r (λ plan. plan.changes ≡ changes) → line ≡ step.due → apply_changes changes s ≡ step.state → IfOk r (IsPlanOf (answer_of_step step) s)

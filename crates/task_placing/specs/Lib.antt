@@ -1,1 +1,3 @@
-pub mod ReadyJobs
+pub mod Conditions
+pub mod Fitting
+pub mod LeastSlots

@@ -2,7 +2,8 @@
 //! prefers.
 #![tactic(auto)]
 
+mod first;
 mod place;
 mod ready;
 
-pub use place::place_first;
+pub use first::place_first;

@@ -1,95 +1,116 @@
-//! Which jobs have a task to place, by one pass over the tasks.
-ghost use Rattle.std.specs.Prelude.{◌≡◌, ℕ, List, true, false, ◌&&◌, ◌||◌, IfOk, OnOk, IfSome};
+//! The least slots that a ready task of each job asks for, by one pass over the tasks.
+ghost use Rattle.std.specs.Prelude.{◌≡◌, ℕ, List, true, false, ◌&&◌, nat_le, Some, IfOk, OnOk, IfSome};
 ghost use Rattle.std.specs.Option.{option_map_or};
-ghost use Rattle.std.specs.BTreeSet.{contains_text};
+ghost use Rattle.std.specs.BTreeMap.{get_by_text};
 ghost use Rattle.bt_base.specs.Ids.{same, lowered};
-ghost use Rattle.task_placing.specs.ReadyJobs.{is_ready, is_ready_in, NamesReadyJobs};
+ghost use Rattle.batch_model.specs.Placing.{is_ready};
+ghost use Rattle.task_placing.specs.LeastSlots.{is_ready_in, lower, number_if, HasLeastSlots};
 
 use bt_base::{Id, NoMemory};
 use bt_rows::task::{TaskRow, TaskStage};
 use std::alloc::Global;
-use std::collections::BTreeSet;
+use std::collections::BTreeMap;
 
-/// Whether the task is active, of one slot, and depends on nothing.
-fn is_ready(task: &TaskRow) -> bool
+/// Whether the task is active and depends on nothing.
+pub fn is_ready(task: &TaskRow) -> bool
     ensures { result ≡ is_ready task.now }
 {
     matches!(task.stage, TaskStage::Active)
-        && task.slots == 1
         && task.needs.as_slice().is_empty()
         && task.spans.as_slice().is_empty()
         && task.multi.is_none()
 }
 
-/// Names the job, in small letters.
-fn add_job(alloc: Global, names: &mut BTreeSet<String>, job: &Id) -> Result<(), NoMemory>
-    ensures { OnOk result ((id : List ℕ) → contains_text names.new (lowered id) ≡ (contains_text names.old (lowered id) || same job.now id)) }
+/// The lower of these slots and those that are there under the name.
+fn lower(least: &BTreeMap<String, u8>, name: &str, slots: u8) -> u8
+    ensures { Some result ≡ lower (get_by_text least.now name.now) (Some slots) }
+{
+    match least.get(name) {
+        None => slots,
+        Some(other) => slots.min(*other),
+    }
+}
+
+/// Puts the slots under the job's id in small letters, unless lower ones are there.
+fn put_job(
+    alloc: Global,
+    least: &mut BTreeMap<String, u8>,
+    job: &Id,
+    slots: u8,
+) -> Result<(), NoMemory>
+    ensures { OnOk result ((id : List ℕ) → get_by_text least.new (lowered id) ≡ lower (get_by_text least.old (lowered id)) (number_if (same job.now id) slots)) }
 {
     let name = job.as_str().to_ascii_lowercase(alloc)?;
-    names.insert(name)?;
+    let lowest = lower(least, name.as_str(), slots);
+    least.insert(name, lowest)?;
     Ok(())
 }
 
-/// Whether this is the job that was named last.
-fn is_last(last: Option<&Id>, job: &Id) -> bool
-    ensures { result ≡ option_map_or (λ id. same id.now job.now) last.entry false }
+/// Whether the job was put last, with no more slots.
+fn is_known(last: Option<(&Id, u8)>, job: &Id, slots: u8) -> bool
+    ensures { result ≡ option_map_or (λ known. nat_le known.1 slots && same known.0.now job.now) last.entry false }
 {
     match last {
         None => false,
-        Some(id) => id.same(job),
+        Some((id, known)) => known <= slots && id.same(job),
     }
 }
 
-/// Names the job, in small letters, unless it was named last: tasks of one job often stand together.
-fn add_new_job(
+/// Puts the job's slots, unless it was put last with no more of them: tasks of one job often stand together.
+fn put_new_job(
     alloc: Global,
-    names: &mut BTreeSet<String>,
-    last: Option<&Id>,
+    least: &mut BTreeMap<String, u8>,
+    last: Option<(&Id, u8)>,
     job: &Id,
+    slots: u8,
 ) -> Result<(), NoMemory>
-    requires { IfSome last (λ id. contains_text names.old (lowered id.now) ≡ true) }
-    ensures { OnOk result ((id : List ℕ) → contains_text names.new (lowered id) ≡ (contains_text names.old (lowered id) || same job.now id)) }
+    requires { IfSome last (λ known. lower (get_by_text least.old (lowered known.0.now)) (Some known.1) ≡ get_by_text least.old (lowered known.0.now)) }
+    ensures { OnOk result ((id : List ℕ) → get_by_text least.new (lowered id) ≡ lower (get_by_text least.old (lowered id)) (number_if (same job.now id) slots)) }
 {
-    if is_last(last, job) {
+    if is_known(last, job, slots) {
         return Ok(());
     }
-    add_job(alloc, names, job)
+    put_job(alloc, least, job, slots)
 }
 
-/// Names the task's job, if the task is ready, and hands out the job that was named last.
-fn add_if_ready<'a>(
+/// Puts the slots of the task's job, if the task is ready, and hands out the job that was put last with its slots.
+fn put_if_ready<'a>(
     alloc: Global,
-    names: &mut BTreeSet<String>,
-    last: Option<&'a Id>,
+    least: &mut BTreeMap<String, u8>,
+    last: Option<(&'a Id, u8)>,
     task: &'a TaskRow,
-) -> Result<Option<&'a Id>, NoMemory>
-    requires { IfSome last (λ id. contains_text names.old (lowered id.now) ≡ true) }
-    ensures names { OnOk result ((id : List ℕ) → contains_text names.new (lowered id) ≡ (contains_text names.old (lowered id) || is_ready_in id task.now)) }
-    ensures last { IfOk result (λ last. IfSome last (λ id. contains_text names.new (lowered id.now) ≡ true)) }
+) -> Result<Option<(&'a Id, u8)>, NoMemory>
+    requires { IfSome last (λ known. lower (get_by_text least.old (lowered known.0.now)) (Some known.1) ≡ get_by_text least.old (lowered known.0.now)) }
+    ensures least { OnOk result ((id : List ℕ) → get_by_text least.new (lowered id) ≡ lower (get_by_text least.old (lowered id)) (number_if (is_ready_in id task.now) task.now.slots)) }
+    ensures last { IfOk result (λ last. IfSome last (λ known. lower (get_by_text least.new (lowered known.0.now)) (Some known.1) ≡ get_by_text least.new (lowered known.0.now))) }
 {
     if !is_ready(task) {
         return Ok(last);
     }
-    add_new_job(alloc, names, last, &task.job)?;
-    Ok(Some(&task.job))
+    put_new_job(alloc, least, last, &task.job, task.slots)?;
+    Ok(Some((&task.job, task.slots)))
 }
 
-/// The jobs that have a ready task, by their ids in small letters.
-pub fn ready_jobs(alloc: Global, tasks: &[TaskRow]) -> Result<BTreeSet<String>, NoMemory>
-    ensures { IfOk result (NamesReadyJobs tasks.now) }
+/// The least slots that a ready task of each job asks for, by the jobs' ids in small letters. A job without one is not there.
+pub fn least_slots(alloc: Global, tasks: &[TaskRow]) -> Result<BTreeMap<String, u8>, NoMemory>
+    ensures { IfOk result (HasLeastSlots tasks.now) }
 {
-    let mut names = BTreeSet::new(alloc);
+    let mut least = BTreeMap::new(alloc);
     let mut last = None;
     for task in tasks {
-        last = add_if_ready(alloc, &mut names, last, task)?;
+        last = put_if_ready(alloc, &mut least, last, task)?;
     }
-    Ok(names)
+    Ok(least)
 }
 
-/// Whether the job is named.
-pub fn names_job(alloc: Global, names: &BTreeSet<String>, job: &Id) -> Result<bool, NoMemory>
-    ensures { IfOk result (λ found. found ≡ contains_text names.now (lowered job.now)) }
+/// The least slots that a ready task of the job asks for, if the job has one.
+pub fn slots_of_job(
+    alloc: Global,
+    least: &BTreeMap<String, u8>,
+    job: &Id,
+) -> Result<Option<u8>, NoMemory>
+    ensures { IfOk result (λ found. found ≡ get_by_text least.now (lowered job.now)) }
 {
     let name = job.as_str().to_ascii_lowercase(alloc)?;
-    Ok(names.contains(name.as_str()))
+    Ok(least.get(name.as_str()).copied())
 }

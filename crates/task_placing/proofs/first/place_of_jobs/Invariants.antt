@@ -1,7 +1,7 @@
 use Rattle.std.proofs.Common.{◌≡◌, drop}
 use Rattle.batch_model.specs.Finding.{find_map}
 use Rattle.batch_model.specs.Placing.{place_of_job}
-use Rattle.task_placing.proofs.place.place_of_jobs.Given as goal
+use Rattle.task_placing.proofs.first.place_of_jobs.Given as goal
 
 -- what is left gives what all jobs give
 abbrev pub invariant-loop-job : goal.invariant-loop-job

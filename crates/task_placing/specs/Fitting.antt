@@ -1,0 +1,20 @@
+-- Tasks that fit, by the tables and by the ledger.
+use Rattle.std.specs.Prelude.{◌≡◌, ℕ, Bool, ◌&&◌, List, Some, is_some}
+use Rattle.std.specs.List.{find}
+use Rattle.bt_rows.specs.Keys.{same_pool}
+use Rattle.slot_ledger.specs.declared.ledger.Entry.{Entry}
+use Rattle.slot_ledger.specs.Ledgers.{chosen}
+use Rattle.batch_model.specs.Placing.{is_placeable, choice}
+use Rattle.batch_model.specs.Variants.{State, PoolRow, JobRow, TaskRow}
+
+-- the pool is the row with its id
+abbrev pub IsPoolRow : State → PoolRow → Type 0
+IsPoolRow s pool = find (λ row. same_pool row pool) s.pools ≡ Some pool
+
+-- a ready task of the job for which a node is chosen
+abbrev pub fits_in : State → JobRow → PoolRow → TaskRow → Bool
+fits_in s job pool task = is_placeable job task && is_some (choice s pool task.slots)
+
+-- the same by a ledger
+abbrev pub fits_by : List Entry → JobRow → PoolRow → TaskRow → Bool
+fits_by entries job pool task = is_placeable job task && is_some (chosen entries pool.id pool.fill task.slots)
