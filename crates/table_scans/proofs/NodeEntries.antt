@@ -53,9 +53,9 @@ one_added s all ledger new node left h e = record {
   apart =
       each_of_two (λ other. not (has_node ledger other.number)) (λ other. not (same_node node other)) (λ other. not (has_node new other.number))
       (λ other p q. true_not
-          (ap (λ entries. has_node entries other.number) e
-          ∙ any_joined (is_of other.number) ledger (ledger_by s [] (node ∷ []))
-          ∙ or_false (not_true (has_node ledger other.number) p) (other_node s node other (is_usable node.stage) (not_true (same_node node other) q))))
+      (ap (λ entries. has_node entries other.number) e
+      ∙ any_joined (is_of other.number) ledger (ledger_by s [] (node ∷ []))
+      ∙ or_false (not_true (has_node ledger other.number) p) (other_node s node other (is_usable node.stage) (not_true (same_node node other) q))))
       left (each_tail (λ other. not (has_node ledger other.number)) node left h.apart) (any_none (same_node node) left h.distinct.0);
   distinct = h.distinct.1;
 }

@@ -94,9 +94,11 @@ no_part slots b own h = either (nat_lt 0 slots) refl h
     zeros : (c : Bool) → slots ≡ 0 → cond {A = ℕ} c slots 0 ≡ 0
     zeros true e = e
     zeros false e = refl
+
     unowned : (c d : Bool) → d ≡ false → cond {A = ℕ} (c && d) slots 0 ≡ 0
     unowned true d e = ap (λ x. cond {A = ℕ} x slots 0) e
     unowned false d e = refl
+
     either : (l : Bool) → nat_lt 0 slots ≡ l → (l && own) ≡ false → cond {A = ℕ} (b && own) slots 0 ≡ 0
     either true l k = unowned b own k
     either false l k = zeros (b && own) (no_slots slots l)
@@ -160,9 +162,9 @@ run_more s runs run = either (is_holding (only_placed s.tasks) run) (is_on_usabl
 slots_there : (s : State) (node : NodeRow) → has_slots_for s node ≡ true → (found : (pool : PoolRow) × (find (is_pool node.pool) s.pools ≡ Some pool)) → held_slots s node.number ≤ slots_of s node
 slots_there s node h found =
     let fits : nat_le (held_slots s node.number) found.0.slots ≡ true =
-        asked (is_pool node.pool found.0) (nat_le (held_slots s node.number) found.0.slots)
-        (each_found (λ pool. not (is_pool node.pool pool) || nat_le (held_slots s node.number) pool.slots) (is_pool node.pool) found.0 s.pools found.1 h)
-        (find_test (is_pool node.pool) found.0 s.pools found.1) in
+    asked (is_pool node.pool found.0) (nat_le (held_slots s node.number) found.0.slots)
+    (each_found (λ pool. not (is_pool node.pool pool) || nat_le (held_slots s node.number) pool.slots) (is_pool node.pool) found.0 s.pools found.1 h)
+    (find_test (is_pool node.pool) found.0 s.pools found.1) in
     subst (λ n. held_slots s node.number ≤ n) (sym (ap (λ o. option_map_or (λ (pool : PoolRow). pool.slots) o 0) found.1)) (leb-true (held_slots s node.number) found.0.slots fits)
 
 -- what the runs so far hold and what this one takes is within the slots
@@ -178,6 +180,7 @@ room_there s runs later run node e own fits pool here =
     together : (front : List RunRow) → (front ++ run ∷ []) ++ later ≡ front ++ run ∷ later
     together [] = refl
     together (x ∷ xs) = ap (λ rest. x ∷ rest) (together xs)
+
     within : (a b c d f : ℕ) → b ≡ a → b ≤ c → c ≡ d → d ≤ f → a ≤ f
     within a b c d f h i j k = omega arith
 
@@ -188,8 +191,8 @@ has_room s runs later run e slots pools counted =
     ∙ any_weaker_where (λ node. has_slots_for s node && has_pool_row s node.pool) (λ node. is_usable node.stage && nat_eq node.number run.node)
     (λ node. is_usable node.stage && (nat_eq node.number run.node && nat_le (held_by s runs node.number + run.slots) (slots_of s node)))
     (λ node a p. and_true (and_first (is_usable node.stage) (nat_eq node.number run.node) p)
-        (and_true (and_second (is_usable node.stage) (nat_eq node.number run.node) p)
-        (room_there s runs later run node e own (and_first (has_slots_for s node) (has_pool_row s node.pool) a) (and_second (has_slots_for s node) (has_pool_row s node.pool) a) (and_second (is_usable node.stage) (nat_eq node.number run.node) p))))
+    (and_true (and_second (is_usable node.stage) (nat_eq node.number run.node) p)
+    (room_there s runs later run node e own (and_first (has_slots_for s node) (has_pool_row s node.pool) a) (and_second (has_slots_for s node) (has_pool_row s node.pool) a) (and_second (is_usable node.stage) (nat_eq node.number run.node) p))))
     s.nodes (each_and (has_slots_for s) (λ node. has_pool_row s node.pool) s.nodes slots pools)
     (and_second (is_holding (only_placed s.tasks) run) (is_on_usable s.nodes run.node) counted)
   where

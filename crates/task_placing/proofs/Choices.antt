@@ -103,8 +103,8 @@ number_of s (Some node) = refl
 pub same_choice : (s : State) (pool : PoolRow) (need : ℕ) → IsPoolRow s pool → ledger.chosen (ledger_of s) pool.id pool.fill need ≡ option_map (λ (node : NodeRow). node.number) (choice s pool need)
 same_choice s pool need is_row =
     ap (λ entries. option_map (λ (entry : Entry). entry.node) (ledger.best (ledger.precedes pool.fill) entries))
-        (filter_mapped (ledger.fits pool.id need) (entry_of s) (only_usable s.nodes)
-        ∙ ap (map (entry_of s)) (filter_twice (λ node. ledger.fits pool.id need (entry_of s node)) (λ node. is_usable node.stage) (fits s pool need) (λ node. same_fitting s pool need node is_row) s.nodes))
+    (filter_mapped (ledger.fits pool.id need) (entry_of s) (only_usable s.nodes)
+    ∙ ap (map (entry_of s)) (filter_twice (λ node. ledger.fits pool.id need (entry_of s node)) (λ node. is_usable node.stage) (fits s pool need) (λ node. same_fitting s pool need node is_row) s.nodes))
     ∙ ap (option_map (λ (entry : Entry). entry.node)) (best_entry (ledger.precedes pool.fill) (precedes s pool.fill) (entry_of s) (same_order s pool.fill) (filter (fits s pool need) s.nodes))
     ∙ number_of s (choice s pool need)
 

@@ -125,6 +125,6 @@ each_asks job [] = refl
 each_asks job (task ∷ tasks) =
     each_cons (asks_for job (least_slots job (task ∷ tasks))) task tasks (asks_own job task (least_slots job tasks) (is_ready_in job task))
     (each_weaker (asks_for job (least_slots job tasks)) (asks_for job (least_slots job (task ∷ tasks)))
-        (λ other. or_weaker (not (is_ready_in job other)) (is_at_most (least_slots job tasks) other.slots) (is_at_most (least_slots job (task ∷ tasks)) other.slots)
-            (less_front (number_if (is_ready_in job task) task.slots) (least_slots job tasks) other.slots))
-        tasks (each_asks job tasks))
+    (λ other. or_weaker (not (is_ready_in job other)) (is_at_most (least_slots job tasks) other.slots) (is_at_most (least_slots job (task ∷ tasks)) other.slots)
+    (less_front (number_if (is_ready_in job task) task.slots) (least_slots job tasks) other.slots))
+    tasks (each_asks job tasks))

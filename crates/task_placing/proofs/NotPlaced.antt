@@ -182,7 +182,7 @@ at_least_one now task h =
     leb-true 1 task.slots
     (and_first (nat_le 1 task.slots) (nat_le task.slots 8)
     (slots_in_range (is_slot_count task.slots) (passes_if_some is_retry_limit task.retries) (passes_if_some is_duration task.wall) (passes_if_some is_duration task.retention)
-        (passes_if_some is_multi_in_range task.multi) (nat_le (needs_length task.needs) needs_limit) (nat_le (length task.spans) 64) (list_all is_span_in_range task.spans)
+    (passes_if_some is_multi_in_range task.multi) (nat_le (needs_length task.needs) needs_limit) (nat_le (length task.spans) 64) (list_all is_span_in_range task.spans)
     (and_first (is_task_in_range task) (is_task_past now task) (and_first (is_task_in_range task && is_task_past now task) (has_fitting_failures task) h))))
 
 -- a job's row is that of its pool

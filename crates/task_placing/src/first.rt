@@ -59,10 +59,7 @@ fn first_fitting<'a>(
 ) -> Option<&'a TaskRow>
     ensures { option_copied result ≡ find (fits_by ledger.now job.now pool.now) tables.now.state.tasks }
 {
-    tables
-        .tasks()
-        .iter()
-        .find(|task| is_placeable(job, task) && has_room(ledger, pool, task.slots))
+    tables.tasks().iter().find(|task| is_placeable(job, task) && has_room(ledger, pool, task.slots))
 }
 
 /// The node with this number.
