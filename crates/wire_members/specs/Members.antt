@@ -118,6 +118,13 @@ required_object part name = required object_in part name
 abbrev pub list_member : Option Data → Member → Result Items Refusal
 list_member part name = optional as_array no_items part name
 
+abbrev pub required_list : Option Data → Member → Result Items Refusal
+required_list part name = required as_array part name
+
+-- an item that is an object; another one is refused under the list's name
+abbrev pub object_item : Data → Member → Result Data Refusal
+object_item d name = or_bad name (object_in d)
+
 -- ---- members that are not taken yet
 
 abbrev pub refuse_if_there : Member → Option Data → Result (Unit {0}) Refusal

@@ -10,7 +10,8 @@ mod words;
 
 pub use body::read_object;
 pub use member::{
-    bad, command_member, count_member, flag_member, id_member, list_member, object_member,
-    required_count, required_object, required_signed, signed_member, text_member, unbuilt_member,
+    bad, command_member, count_member, flag_member, id_member, list_member, object_item,
+    object_member, required_count, required_list, required_object, required_signed, signed_member,
+    text_member, unbuilt_member,
 };
 pub use word::{WordKind, required_word, word_if, word_member};

@@ -7,7 +7,7 @@ ghost use Rattle.bt_base.specs.Fails.{Gives, GivesAs};
 ghost use Rattle.bt_base.specs.declared.fail.Fail.TheVariants.{Why};
 ghost use Rattle.bt_rows.specs.declared.refusal.Refusal.TheVariants.{InvalidPropertyValue};
 ghost use Rattle.wire_members.specs.Members.{member_of, or_bad, count_in, signed_in, id_in, command_in};
-ghost use Rattle.wire_members.specs.Members.{count_member, required_count, signed_member, required_signed, flag_member, text_member, id_member, command_member, object_member, required_object, list_member, unbuilt_member};
+ghost use Rattle.wire_members.specs.Members.{count_member, required_count, signed_member, required_signed, flag_member, text_member, id_member, command_member, object_member, required_object, list_member, required_list, object_item, unbuilt_member};
 
 use bt_base::{CommandLine, Fail, Id, Text};
 use bt_rows::member::Member;
@@ -250,4 +250,27 @@ pub fn list_member<'v>(part: Option<&'v Value>, name: Member) -> Result<&'v [Val
             None => Err(bad(name)),
         },
     }
+}
+
+/// The items of a list, which has to be there.
+pub fn required_list<'v>(
+    part: Option<&'v Value>,
+    name: Member,
+) -> Result<&'v [Value], Fail<Refusal>>
+    ensures { GivesAs (λ vs. items_view vs.now) result (required_list (option_map (λ v. view v.now) part.entry) name) }
+{
+    match member(part, name) {
+        None => Err(bad(name)),
+        Some(value) => match value.as_array() {
+            Some(list) => Ok(list.as_slice()),
+            None => Err(bad(name)),
+        },
+    }
+}
+
+/// The item of a list, which has to be an object; else the refusal names the list.
+pub fn object_item<'v>(value: &'v Value, name: Member) -> Result<&'v Value, Fail<Refusal>>
+    ensures { GivesAs (λ v. view v.now) result (object_item (view value.now) name) }
+{
+    if value.is_object() { Ok(value) } else { Err(bad(name)) }
 }
