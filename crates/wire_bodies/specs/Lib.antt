@@ -1,3 +1,6 @@
+pub mod Collections
+pub mod Items
 pub mod Jobs
 pub mod Pools
+pub mod Starts
 pub mod Tasks

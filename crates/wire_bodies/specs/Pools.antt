@@ -7,23 +7,27 @@ use Rattle.bt_rows.specs.declared.event.PoolSpec.{PoolSpec}
 use Rattle.bt_rows.specs.declared.pool.Fill.TheVariants.{Spread}
 use Rattle.bt_rows.specs.declared.refusal.Refusal.{Refusal}
 use Rattle.wire_members.specs.Body.{object_of}
-use Rattle.wire_members.specs.Members.{count_member, id_member, unbuilt_member}
+use Rattle.wire_members.specs.Members.{count_member, id_member, object_member, unbuilt_member, word_member}
+use Rattle.wire_members.specs.Words.{fill_word}
+use Rattle.wire_bodies.specs.Starts.{start_if}
 
--- one slot, nodes filled evenly, and 15 minutes for a resize
+-- 15 minutes for a resize
 unfoldable pub pool_in : Data → Result PoolSpec Refusal
 pool_in d = do
   id ← id_member (Some d) names.Id
   dedicated ← count_member (Some d) names.TargetDedicatedNodes 0 1000 0
   _ ← unbuilt_member (Some d) names.TargetLowPriorityNodes
-  _ ← unbuilt_member (Some d) names.TaskSlotsPerNode
-  _ ← unbuilt_member (Some d) names.TaskSchedulingPolicy
+  slots ← count_member (Some d) names.TaskSlotsPerNode 1 8 1
+  policy ← object_member (Some d) names.TaskSchedulingPolicy
+  fill ← word_member fill_word policy names.NodeFillType Spread
   _ ← unbuilt_member (Some d) names.EnableInterNodeCommunication
   _ ← unbuilt_member (Some d) names.ResizeTimeout
-  _ ← unbuilt_member (Some d) names.StartTask
+  part ← object_member (Some d) names.StartTask
+  start ← start_if part
   _ ← unbuilt_member (Some d) names.EnableAutoScale
   _ ← unbuilt_member (Some d) names.AutoScaleFormula
   _ ← unbuilt_member (Some d) names.AutoScaleEvaluationInterval
-  Ok (record { id = id; dedicated = dedicated; low = 0; slots = 1; fill = Spread; inter = false; timeout = 900000; start = None; scale = None })
+  Ok (record { id = id; dedicated = dedicated; low = 0; slots = slots; fill = fill; inter = false; timeout = 900000; start = start; scale = None })
 
 unfoldable pub pool_of : List ℕ → Result PoolSpec Refusal
 pool_of bytes = do

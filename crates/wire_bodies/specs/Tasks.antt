@@ -6,19 +6,19 @@ use Rattle.bt_rows.specs.declared.member.Member.TheVariants as names
 use Rattle.bt_rows.specs.declared.event.TaskSpec.{TaskSpec}
 use Rattle.bt_rows.specs.declared.refusal.Refusal.{Refusal}
 use Rattle.wire_members.specs.Body.{object_of}
-use Rattle.wire_members.specs.Members.{id_member, command_member, unbuilt_member}
+use Rattle.wire_members.specs.Members.{id_member, command_member, count_member, unbuilt_member}
 
--- one slot, and seven days of retention
+-- seven days of retention
 unfoldable pub task_in : Data → Result TaskSpec Refusal
 task_in d = do
   id ← id_member (Some d) names.Id
   line ← command_member (Some d) names.CommandLine
-  _ ← unbuilt_member (Some d) names.RequiredSlots
+  slots ← count_member (Some d) names.RequiredSlots 1 8 1
   _ ← unbuilt_member (Some d) names.Constraints
   _ ← unbuilt_member (Some d) names.ExitConditions
   _ ← unbuilt_member (Some d) names.DependsOn
   _ ← unbuilt_member (Some d) names.MultiInstanceSettings
-  Ok (record { id = id; line = line; slots = 1; retries = None; wall = None; retention = Some 604800000; codes = []; ranges = []; launch = None; other = None; needs = []; spans = []; multi = None })
+  Ok (record { id = id; line = line; slots = slots; retries = None; wall = None; retention = Some 604800000; codes = []; ranges = []; launch = None; other = None; needs = []; spans = []; multi = None })
 
 unfoldable pub task_of : List ℕ → Result TaskSpec Refusal
 task_of bytes = do

@@ -5,6 +5,7 @@ ghost use Rattle.bt_base.specs.Fails.{Gives};
 ghost use Rattle.bt_rows.specs.Ranges.{is_pool_spec_in_range};
 ghost use Rattle.wire_bodies.specs.Pools.{pool_in, pool_of};
 
+use crate::start::start_if;
 use bt_base::Fail;
 use bt_rows::event::PoolSpec;
 use bt_rows::member::Member;
@@ -12,7 +13,9 @@ use bt_rows::pool::Fill;
 use bt_rows::refusal::Refusal;
 use serde_json::Value;
 use std::alloc::Global;
-use wire_members::{count_member, id_member, read_object, unbuilt_member};
+use wire_members::{
+    count_member, id_member, object_member, read_object, unbuilt_member, word_member,
+};
 
 #[tactic(auto, unfolding(crate::specs::Pools::pool_in))]
 fn pool(alloc: Global, body: &Value) -> Result<PoolSpec, Fail<Refusal>>
@@ -22,11 +25,13 @@ fn pool(alloc: Global, body: &Value) -> Result<PoolSpec, Fail<Refusal>>
     let id = id_member(alloc, Some(body), Member::Id)?;
     let dedicated = count_member(Some(body), Member::TargetDedicatedNodes, 0, 1000, 0)?;
     unbuilt_member(Some(body), Member::TargetLowPriorityNodes)?;
-    unbuilt_member(Some(body), Member::TaskSlotsPerNode)?;
-    unbuilt_member(Some(body), Member::TaskSchedulingPolicy)?;
+    let slots = count_member(Some(body), Member::TaskSlotsPerNode, 1, 8, 1)?;
+    let policy = object_member(Some(body), Member::TaskSchedulingPolicy)?;
+    let fill = word_member(policy, Member::NodeFillType, Fill::Spread)?;
     unbuilt_member(Some(body), Member::EnableInterNodeCommunication)?;
     unbuilt_member(Some(body), Member::ResizeTimeout)?;
-    unbuilt_member(Some(body), Member::StartTask)?;
+    let part = object_member(Some(body), Member::StartTask)?;
+    let start = start_if(alloc, part)?;
     unbuilt_member(Some(body), Member::EnableAutoScale)?;
     unbuilt_member(Some(body), Member::AutoScaleFormula)?;
     unbuilt_member(Some(body), Member::AutoScaleEvaluationInterval)?;
@@ -34,19 +39,26 @@ fn pool(alloc: Global, body: &Value) -> Result<PoolSpec, Fail<Refusal>>
         id,
         dedicated: dedicated as u32,
         low: 0,
-        slots: 1,
-        fill: Fill::Spread,
+        slots: slots as u8,
+        fill,
         inter: false,
         timeout: 900_000,
-        start: None,
+        start,
         scale: None,
     })
 }
 
-/// The body of `add-pool`: `id`, and `targetDedicatedNodes` from 0 to 1,000 (0 where it is absent).
+/// The body of `add-pool`: `id`, and the members below, with what holds where they are absent.
 ///
-/// Bytes that are no JSON object are `UnreadableBody`. A member that is of a wrong kind or out of range, an absent `id`
-/// and a member that the service does not take yet are `InvalidPropertyValue` with its name.
+/// - `targetDedicatedNodes` from 0 to 1,000 (0);
+/// - `taskSlotsPerNode` from 1 to 8 (1);
+/// - `taskSchedulingPolicy` with `nodeFillType`, which is `spread` or `pack` in any case (`spread`);
+/// - `startTask` with `commandLine`, `maxTaskRetryCount` from -1, for no limit, to 1,000,000 (0), and `waitForSuccess` (true);
+///   without it the pool has no start task.
+///
+/// Bytes that are no JSON object are `UnreadableBody`. A member that is of a wrong kind or out of range, an absent `id`, a
+/// start task's absent `commandLine` and a member that the service does not take yet are `InvalidPropertyValue` with its
+/// name.
 #[tactic(auto, unfolding(crate::specs::Pools::pool_of))]
 pub fn read_pool(alloc: Global, bytes: &[u8]) -> Result<PoolSpec, Fail<Refusal>>
     ensures value { Gives result (pool_of bytes.now) }

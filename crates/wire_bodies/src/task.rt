@@ -11,16 +11,17 @@ use bt_rows::member::Member;
 use bt_rows::refusal::Refusal;
 use serde_json::Value;
 use std::alloc::Global;
-use wire_members::{command_member, id_member, read_object, unbuilt_member};
+use wire_members::{command_member, count_member, id_member, read_object, unbuilt_member};
 
+/// The task that the members of an object are, as `read_task` has them.
 #[tactic(auto, unfolding(crate::specs::Tasks::task_in))]
-fn task(alloc: Global, body: &Value) -> Result<TaskSpec, Fail<Refusal>>
+pub fn task(alloc: Global, body: &Value) -> Result<TaskSpec, Fail<Refusal>>
     ensures value { Gives result (task_in (view body.now)) }
     ensures kept { IfOk result (λ spec. is_task_spec_in_range spec ≡ true) }
 {
     let id = id_member(alloc, Some(body), Member::Id)?;
     let line = command_member(alloc, Some(body), Member::CommandLine)?;
-    unbuilt_member(Some(body), Member::RequiredSlots)?;
+    let slots = count_member(Some(body), Member::RequiredSlots, 1, 8, 1)?;
     unbuilt_member(Some(body), Member::Constraints)?;
     unbuilt_member(Some(body), Member::ExitConditions)?;
     unbuilt_member(Some(body), Member::DependsOn)?;
@@ -28,7 +29,7 @@ fn task(alloc: Global, body: &Value) -> Result<TaskSpec, Fail<Refusal>>
     Ok(TaskSpec {
         id,
         line,
-        slots: 1,
+        slots: slots as u8,
         retries: None,
         wall: None,
         retention: Some(604_800_000),
@@ -42,10 +43,10 @@ fn task(alloc: Global, body: &Value) -> Result<TaskSpec, Fail<Refusal>>
     })
 }
 
-/// The body of `add-task`: `id` and `commandLine`.
+/// The body of `add-task`: `id`, `commandLine`, and `requiredSlots` from 1 to 8 (1 where it is absent).
 ///
-/// Bytes that are no JSON object are `UnreadableBody`. A member that is of a wrong kind or absent and a member that the
-/// service does not take yet are `InvalidPropertyValue` with its name.
+/// Bytes that are no JSON object are `UnreadableBody`. A member that is of a wrong kind or out of range, an absent `id` or
+/// `commandLine` and a member that the service does not take yet are `InvalidPropertyValue` with its name.
 #[tactic(auto, unfolding(crate::specs::Tasks::task_of))]
 pub fn read_task(alloc: Global, bytes: &[u8]) -> Result<TaskSpec, Fail<Refusal>>
     ensures value { Gives result (task_of bytes.now) }

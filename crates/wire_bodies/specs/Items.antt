@@ -1,0 +1,10 @@
+-- The items of a list member.
+use Rattle.std.specs.Prelude.{List, [], ◌∷◌, Result, Ok}
+use Rattle.serde_json.specs.Data.{Data, Items, item, no_items}
+use Rattle.bt_base.specs.Fails.{◌>>=◌}
+use Rattle.bt_rows.specs.declared.refusal.Refusal.{Refusal}
+
+-- each item in order, as it is read, up to the first fault
+abbrev pub items_in : {T : Type 0} → (Data → Result T Refusal) → Items → Result (List T) Refusal
+items_in read no_items = Ok []
+items_in read (item d ds) = read d >>= λ first. items_in read ds >>= λ rest. Ok (first ∷ rest)

@@ -1,0 +1,43 @@
+//! The items of a list member.
+ghost use Rattle.std.specs.Prelude.{◌≡◌, true, Bool, Result, IfOk};
+ghost use Rattle.std.specs.List.{list_all};
+ghost use Rattle.serde_json.specs.Data.{Data};
+ghost use Rattle.serde_json.specs.View.{view, items_view};
+ghost use Rattle.bt_base.specs.Fails.{Gives};
+ghost use Rattle.bt_rows.specs.declared.member.Member.{Member};
+ghost use Rattle.bt_rows.specs.declared.refusal.Refusal.{Refusal};
+ghost use Rattle.wire_bodies.specs.Items.{items_in};
+
+use bt_base::{Fail, List};
+use bt_rows::member::Member;
+use bt_rows::refusal::Refusal;
+use serde_json::Value;
+use std::alloc::Global;
+
+/// What the items of a list member are read as.
+pub trait ListItem: Drop {
+    ghost item_in: { Member → Data → Result Self Refusal };
+
+    ghost is_in_range: { Self → Bool };
+
+    /// The item that the value is. One of a wrong kind is `InvalidPropertyValue` with the list's name.
+    fn read(alloc: Global, list: Member, value: &Value) -> Result<Self, Fail<Refusal>>
+        ensures value { Gives result (item_in list (view value.now)) }
+        ensures kept { IfOk result (λ item. is_in_range item ≡ true) };
+}
+
+/// The items that the values of the list of that name are, in order. The first fault is the one that is told.
+pub fn read_items<T: ListItem>(
+    alloc: Global,
+    list: Member,
+    values: &[Value],
+) -> Result<List<T>, Fail<Refusal>>
+    ensures value { Gives result (items_in (T.item_in list) (items_view values.now)) }
+    ensures kept { IfOk result (λ items. list_all T.is_in_range items ≡ true) }
+{
+    let mut items = Vec::new(alloc);
+    for value in values {
+        items.push(T::read(alloc, list, value)?)?;
+    }
+    Ok(List::of_vec(items))
+}
