@@ -14,6 +14,7 @@ use Rattle.wire_members.specs.Members.{or_bad}
 use Rattle.wire_bodies.specs.Pools.{pool_of}
 use Rattle.wire_bodies.specs.Jobs.{job_of}
 use Rattle.wire_bodies.specs.Tasks.{task_of}
+use Rattle.wire_bodies.specs.Collections.{collection_of}
 use Rattle.wire_lines.specs.declared.line.LineRequest.{LineRequest}
 use Rattle.wire_lines.specs.declared.line.LineRequest.TheVariants.{Skip, Call}
 use Rattle.wire_lines.specs.declared.line_word.LineWord.{LineWord}
@@ -33,6 +34,13 @@ id_argument bytes = do
   text ← or_unreadable (utf8_text bytes)
   or_bad names.Id (result_ok (read_id text))
 
+-- the id of a job, and the body behind it
+unfoldable pub job_and_body : List ℕ → Result (List ℕ × List ℕ) Refusal
+job_and_body text = do
+  parts ← or_unreadable (two_parts text)
+  job ← id_argument parts.0
+  Ok (job, parts.1)
+
 -- what a word asks with the text behind it
 unfoldable pub event_with : LineWord → List ℕ → Result EventKind Refusal
 event_with words.AddPool text = do
@@ -42,10 +50,13 @@ event_with words.AddJob text = do
   job ← job_of text
   Ok (events.AddJob job.0 job.1)
 event_with words.AddTask text = do
-  parts ← or_unreadable (two_parts text)
-  job ← id_argument parts.0
+  parts ← job_and_body text
   task ← task_of parts.1
-  Ok (events.AddTask job task)
+  Ok (events.AddTask parts.0 task)
+event_with words.AddTasks text = do
+  parts ← job_and_body text
+  tasks ← collection_of parts.1
+  Ok (events.AddTasks parts.0 tasks)
 event_with words.Take text = do
   run ← or_unreadable (number_in text)
   Ok (events.Take run)

@@ -10,11 +10,12 @@ unfoldable pub word_text : LineWord → List ℕ
 word_text words.AddPool = codes "add-pool"
 word_text words.AddJob = codes "add-job"
 word_text words.AddTask = codes "add-task"
+word_text words.AddTasks = codes "add-tasks"
 word_text words.Take = codes "take"
 word_text words.End = codes "end"
 
 abbrev pub all_words : List LineWord
-all_words = words.AddPool ∷ words.AddJob ∷ words.AddTask ∷ words.Take ∷ words.End ∷ []
+all_words = words.AddPool ∷ words.AddJob ∷ words.AddTask ∷ words.AddTasks ∷ words.Take ∷ words.End ∷ []
 
 -- the word that is spelled so
 unfoldable pub word_in : List ℕ → Option LineWord

@@ -1,8 +1,8 @@
 //! Lines, and what they ask.
 ghost use Rattle.std.specs.Prelude.{◌≡◌, true, IfOk};
-ghost use Rattle.bt_base.specs.Fails.{Gives};
+ghost use Rattle.bt_base.specs.Fails.{Gives, GivesAs};
 ghost use Rattle.bt_rows.specs.Ranges.{is_event_in_range};
-ghost use Rattle.wire_lines.specs.Lines.{or_unreadable, id_argument, event_with, event_with_arguments, event_in, call_in, line_of, is_skipped};
+ghost use Rattle.wire_lines.specs.Lines.{or_unreadable, id_argument, job_and_body, event_with, event_with_arguments, event_in, call_in, line_of, is_skipped};
 
 use crate::line_word::LineWord;
 use crate::number::{read_ending, read_moment, read_number};
@@ -12,7 +12,7 @@ use bt_rows::event::{Event, EventKind};
 use bt_rows::member::Member;
 use bt_rows::refusal::Refusal;
 use std::alloc::Global;
-use wire_bodies::{read_job, read_pool, read_task};
+use wire_bodies::{read_collection, read_job, read_pool, read_task};
 use wire_members::bad;
 
 /// What a line asks.
@@ -39,6 +39,16 @@ fn id_argument(alloc: Global, bytes: &[u8]) -> Result<Id, Fail<Refusal>>
     }
 }
 
+/// The id of a job, and the body behind it.
+#[tactic(auto, unfolding(crate::specs::Lines::job_and_body))]
+fn job_and_body(alloc: Global, text: &[u8]) -> Result<(Id, &[u8]), Fail<Refusal>>
+    ensures { GivesAs (λ parts. (parts.0, parts.1.now)) result (job_and_body text.now) }
+{
+    let (job, body) = split_two(text).ok_or(UNREADABLE)?;
+    let job = id_argument(alloc, job)?;
+    Ok((job, body))
+}
+
 #[tactic(auto, unfolding(crate::specs::Lines::event_with))]
 fn event_with(alloc: Global, word: LineWord, text: &[u8]) -> Result<EventKind, Fail<Refusal>>
     ensures value { Gives result (event_with word text.now) }
@@ -51,9 +61,12 @@ fn event_with(alloc: Global, word: LineWord, text: &[u8]) -> Result<EventKind, F
             Ok(EventKind::AddJob(id, job))
         }
         LineWord::AddTask => {
-            let (job, body) = split_two(text).ok_or(UNREADABLE)?;
-            let job = id_argument(alloc, job)?;
-            Ok(EventKind::AddTask(job, read_task(alloc, body)?))
+            let (job, task) = job_and_body(alloc, text)?;
+            Ok(EventKind::AddTask(job, read_task(alloc, task)?))
+        }
+        LineWord::AddTasks => {
+            let (job, tasks) = job_and_body(alloc, text)?;
+            Ok(EventKind::AddTasks(job, read_collection(alloc, tasks)?))
         }
         LineWord::Take => Ok(EventKind::Take(read_number(text).ok_or(UNREADABLE)?)),
         LineWord::End => {
@@ -110,7 +123,8 @@ fn is_skipped(line: &[u8]) -> bool
 /// An empty line and one that begins with `#` are skipped. Another line is a moment (digits, at most the last millisecond
 /// of the year 9999), a space and one of
 ///
-/// - `add-pool BODY`, `add-job BODY`, `add-task JOB BODY`, where a body is a JSON object up to the end of the line;
+/// - `add-pool BODY`, `add-job BODY`, `add-task JOB BODY`, `add-tasks JOB BODY`, where a body is a JSON object up to the end of
+///   the line;
 /// - `take RUN` and `end RUN ENDING`, where an ending is a code of 32 bits, `none` or `notstarted`;
 /// - `tick`.
 ///

@@ -8,6 +8,7 @@ pub enum LineWord {
     AddPool,
     AddJob,
     AddTask,
+    AddTasks,
     Take,
     End,
 }
@@ -22,6 +23,7 @@ impl LineWord {
             LineWord::AddPool => "add-pool",
             LineWord::AddJob => "add-job",
             LineWord::AddTask => "add-task",
+            LineWord::AddTasks => "add-tasks",
             LineWord::Take => "take",
             LineWord::End => "end",
         }
@@ -36,6 +38,7 @@ impl LineWord {
             LineWord::AddPool,
             LineWord::AddJob,
             LineWord::AddTask,
+            LineWord::AddTasks,
             LineWord::Take,
             LineWord::End,
         ];

@@ -1,7 +1,8 @@
 use super::*;
 use bt_base::Fail;
-use bt_rows::event::EventKind;
+use bt_rows::event::{EventKind, PoolSpec, TaskSpec};
 use bt_rows::member::Member;
+use bt_rows::pool::{Fill, StartTask};
 use bt_rows::refusal::Refusal;
 use bt_rows::run::Ending;
 
@@ -13,10 +14,18 @@ enum Wanted<'a> {
     Bad(Member),
     /// An id, and a number of nodes.
     Pool(&'a str, u32),
+    /// A pool's slots on each node, and how its nodes are filled.
+    Filled(u8, Fill),
+    /// A pool's start task: its command line, its limit of retries, and whether it is waited for.
+    Started(&'a str, i32, bool),
     /// An id, and the pool's.
     Job(&'a str, &'a str),
     /// The job's id, the task's and a command line.
     Task(&'a str, &'a str, &'a str),
+    /// A task's slots.
+    Slots(u8),
+    /// The job's id, and the id and slots of each task.
+    Tasks(&'a str, &'a [(&'a str, u8)]),
     Take(u64),
     End(u64, Ending),
     Tick,
@@ -30,10 +39,34 @@ fn is_refused(refusal: Refusal, wanted: Wanted) -> bool {
     }
 }
 
+fn is_start(start: &StartTask, line: &str, retries: i32, wait: bool) -> bool {
+    start.line.as_str() == line && start.retries == retries && start.wait == wait
+}
+
+fn are_tasks(specs: &[TaskSpec], wanted: &[(&str, u8)]) -> bool {
+    let are_same = specs.iter().zip(wanted).all(|(spec, task)| spec.id.as_str() == task.0
+        && spec.slots == task.1);
+    are_same && specs.len() == wanted.len()
+}
+
+fn is_pool(spec: &PoolSpec, wanted: Wanted) -> bool {
+    match wanted {
+        Wanted::Pool(id, nodes) => spec.id.as_str() == id
+            && spec.dedicated == nodes
+            && spec.start.is_none(),
+        Wanted::Filled(slots, fill) => spec.slots == slots && spec.fill == fill,
+        Wanted::Started(line, retries, wait) => match &spec.start {
+            Some(start) => is_start(start, line, retries, wait),
+            None => false,
+        },
+        _ => false,
+    }
+}
+
 fn is_event(kind: &EventKind, wanted: Wanted) -> bool {
     match wanted {
-        Wanted::Pool(id, nodes) => match kind {
-            EventKind::AddPool(spec) => spec.id.as_str() == id && spec.dedicated == nodes,
+        Wanted::Pool(_, _) | Wanted::Filled(_, _) | Wanted::Started(_, _, _) => match kind {
+            EventKind::AddPool(spec) => is_pool(spec, wanted),
             _ => false,
         },
         Wanted::Job(id, pool) => match kind {
@@ -44,6 +77,16 @@ fn is_event(kind: &EventKind, wanted: Wanted) -> bool {
             EventKind::AddTask(to, spec) => to.as_str() == job
                 && spec.id.as_str() == id
                 && spec.line.as_str() == line,
+            _ => false,
+        },
+        Wanted::Slots(slots) => match kind {
+            EventKind::AddTask(_, spec) => spec.slots == slots,
+            _ => false,
+        },
+        Wanted::Tasks(job, tasks) => match kind {
+            EventKind::AddTasks(to, specs) => {
+                to.as_str() == job && are_tasks(specs.as_slice(), tasks)
+            }
             _ => false,
         },
         Wanted::Take(run) => match kind {
@@ -116,6 +159,124 @@ fn taken_lines(rt: HostRuntime) {
 }
 
 #[test]
+fn start_tasks_slots_and_collections(rt: HostRuntime) {
+    let rows = [
+        (
+            r#"7 add-pool {"id":"p","targetDedicatedNodes":2,"taskSlotsPerNode":2}"#,
+            Wanted::Filled(2, Fill::Spread),
+        ),
+        (
+            r#"7 add-pool {"id":"p","taskSlotsPerNode":8,"taskSchedulingPolicy":{"nodeFillType":"Pack"}}"#,
+            Wanted::Filled(8, Fill::Pack),
+        ),
+        (
+            r#"7 add-pool {"id":"p","taskSchedulingPolicy":{"nodeFillType":"SPREAD"}}"#,
+            Wanted::Filled(1, Fill::Spread),
+        ),
+        (
+            r#"7 add-pool {"id":"p","taskSchedulingPolicy":{}}"#,
+            Wanted::Filled(1, Fill::Spread),
+        ),
+        (
+            r#"7 add-pool {"id":"p","targetDedicatedNodes":1,"startTask":{"commandLine":"init","maxTaskRetryCount":1}}"#,
+            Wanted::Started("init", 1, true),
+        ),
+        (
+            r#"7 add-pool {"id":"p","startTask":{"waitForSuccess":false,"commandLine":"init"}}"#,
+            Wanted::Started("init", 0, false),
+        ),
+        (
+            r#"7 add-pool {"id":"p","startTask":{"commandLine":"i","maxTaskRetryCount":-1,"rerunOnNodeRebootAfterSuccess":7}}"#,
+            Wanted::Started("i", -1, true),
+        ),
+        (
+            r#"7 add-task j {"id":"t","commandLine":"w","requiredSlots":8}"#,
+            Wanted::Slots(8),
+        ),
+        (
+            r#"7 add-task j {"id":"t","commandLine":"w"}"#,
+            Wanted::Slots(1),
+        ),
+        (
+            r#"7 add-tasks j {"value":[{"id":"a","commandLine":"w"},{"id":"b","commandLine":"w"},{"id":"c","commandLine":"w","requiredSlots":2},{"id":"d","commandLine":"w"}]}"#,
+            Wanted::Tasks("j", &[("a", 1), ("b", 1), ("c", 2), ("d", 1)]),
+        ),
+        (r#"7 add-tasks j {"value":[]}"#, Wanted::Tasks("j", &[])),
+    ];
+    for (line, wanted) in rows {
+        assert!(rt; asks(&rt, line.as_bytes(), wanted), "{line}");
+    }
+}
+
+#[test]
+fn refused_start_tasks_slots_and_collections(rt: HostRuntime) {
+    let rows = [
+        (
+            r#"7 add-pool {"id":"p","taskSlotsPerNode":0}"#,
+            Member::TaskSlotsPerNode,
+        ),
+        (
+            r#"7 add-pool {"id":"p","taskSlotsPerNode":9}"#,
+            Member::TaskSlotsPerNode,
+        ),
+        (
+            r#"7 add-pool {"id":"p","taskSchedulingPolicy":"pack"}"#,
+            Member::TaskSchedulingPolicy,
+        ),
+        (
+            r#"7 add-pool {"id":"p","taskSchedulingPolicy":{"nodeFillType":"any"}}"#,
+            Member::NodeFillType,
+        ),
+        (
+            r#"7 add-pool {"id":"p","startTask":1,"enableAutoScale":true}"#,
+            Member::StartTask,
+        ),
+        (
+            r#"7 add-pool {"id":"p","startTask":{}}"#,
+            Member::CommandLine,
+        ),
+        (
+            r#"7 add-pool {"id":"p","startTask":{"commandLine":"i","maxTaskRetryCount":-2}}"#,
+            Member::MaxTaskRetryCount,
+        ),
+        (
+            r#"7 add-pool {"id":"p","startTask":{"commandLine":"i","maxTaskRetryCount":1000001}}"#,
+            Member::MaxTaskRetryCount,
+        ),
+        (
+            r#"7 add-pool {"id":"p","startTask":{"commandLine":"i","waitForSuccess":1}}"#,
+            Member::WaitForSuccess,
+        ),
+        (
+            r#"7 add-task j {"id":"t","commandLine":"w","requiredSlots":9}"#,
+            Member::RequiredSlots,
+        ),
+        ("7 add-tasks j! {", Member::Id),
+        ("7 add-tasks j {}", Member::Value),
+        (r#"7 add-tasks j {"value":null}"#, Member::Value),
+        (
+            r#"7 add-tasks j {"value":{"id":"t","commandLine":"w"}}"#,
+            Member::Value,
+        ),
+        (
+            r#"7 add-tasks j {"value":[null,{"id":"t"}]}"#,
+            Member::Value,
+        ),
+        (
+            r#"7 add-tasks j {"value":[{"id":"t"},null]}"#,
+            Member::CommandLine,
+        ),
+        (
+            r#"7 add-tasks j {"value":[{"id":"a","commandLine":"w"},{"id":"","commandLine":"w"}]}"#,
+            Member::Id,
+        ),
+    ];
+    for (line, member) in rows {
+        assert!(rt; asks(&rt, line.as_bytes(), Wanted::Bad(member)), "{line}");
+    }
+}
+
+#[test]
 fn unreadable_lines(rt: HostRuntime) {
     let lines = [
         "   ",
@@ -149,6 +310,8 @@ fn unreadable_lines(rt: HostRuntime) {
         r#"7 add-pool {"id":"p","x":"\ud800"}"#,
         "7 add-task j!",
         "7 add-task j ",
+        "7 add-tasks j",
+        "7 add-tasks j []",
     ];
     for line in lines {
         assert!(rt; asks(&rt, line.as_bytes(), Wanted::Unreadable), "{line}");
@@ -172,8 +335,8 @@ fn refused_members(rt: HostRuntime) {
             Member::TargetDedicatedNodes,
         ),
         (
-            r#"7 add-pool {"id":"p","startTask":1,"taskSlotsPerNode":1}"#,
-            Member::TaskSlotsPerNode,
+            r#"7 add-pool {"id":"p","startTask":1,"resizeTimeout":"PT10M"}"#,
+            Member::ResizeTimeout,
         ),
         (
             r#"7 add-pool {"id":"p","enableAutoScale":false}"#,
