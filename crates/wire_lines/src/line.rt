@@ -123,8 +123,8 @@ fn is_skipped(line: &[u8]) -> bool
 /// An empty line and one that begins with `#` are skipped. Another line is a moment (digits, at most the last millisecond
 /// of the year 9999), a space and one of
 ///
-/// - `add-pool BODY`, `add-job BODY`, `add-task JOB BODY`, `add-tasks JOB BODY`, where a body is a JSON object up to the end of
-///   the line;
+/// - `add-pool BODY`, `add-job BODY`, `add-task JOB BODY` and `add-tasks JOB BODY`, where a body is a JSON object up to the
+///   end of the line;
 /// - `take RUN` and `end RUN ENDING`, where an ending is a code of 32 bits, `none` or `notstarted`;
 /// - `tick`.
 ///

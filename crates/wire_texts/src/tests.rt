@@ -2,10 +2,10 @@
 //! the definitions are computed.
 
 use super::*;
-use bt_base::{Id, NoMemory};
+use bt_base::{Id, List, NoMemory};
 use bt_rows::due::Due;
 use bt_rows::refusal::{Refusal, Table};
-use bt_rows::reply::Reply;
+use bt_rows::reply::{Element, Reply};
 use bt_rows::tables::Tables;
 use std::alloc::Global;
 use std::test::Fail as TestFail;
@@ -26,6 +26,19 @@ fn shows(alloc: Global, reply: &Reply, wanted: &str) -> Result<bool, NoMemory> {
 fn a_refusal_shows_its_values(rt: HostRuntime) -> Result<(), TestFail> {
     let reply = Reply::Refused(Refusal::TableFull(Table::Pools, 64));
     assert!(rt; shows(rt.alloc(), &reply, "409 TableFull pools 64")?);
+    Ok(())
+}
+
+#[test]
+fn a_collection_shows_the_status_of_each_task(rt: HostRuntime) -> Result<(), TestFail> {
+    let alloc = rt.alloc();
+    let elements = vec![in alloc;
+        Element::Added(Id::read(alloc, "a")?),
+        Element::NotAdded(Id::read(alloc, "b")?, Refusal::TaskExists),
+        Element::Added(Id::read(alloc, "c")?),
+    ]?;
+    let reply = Reply::Elements(List::of_vec(elements));
+    assert!(rt; shows(alloc, &reply, "200 201 409 201")?);
     Ok(())
 }
 
