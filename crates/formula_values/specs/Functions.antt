@@ -84,8 +84,11 @@ squares [] = 0
 squares (x ∷ xs) = unsigned_abs x * unsigned_abs x + squares xs
 
 -- the root of the sum of the squares, cut after six decimals
+abbrev pub norm_of : List ℤ → Result Value ValueFault
+norm_of v = double_of (bounded (pos (square_root (squares v))))
+
 abbrev pub norm_value : List Value → Result Value ValueFault
-norm_value (DoubleVec v ∷ []) = double_of (bounded (pos (square_root (squares v))))
+norm_value (DoubleVec v ∷ []) = norm_of v
 norm_value _ = no_value
 
 -- an item among others that rise

@@ -2,7 +2,7 @@
 ghost use Rattle.std.specs.Prelude.{◌≡◌};
 ghost use Rattle.formula_values.specs.Faults.{fault_name};
 
-use bt_base::Num;
+use bt_base::{Num, NumFault};
 
 /// Why there is no value.
 #[derive(Clone, Copy, Debug, PartialEq, Eq)]
@@ -48,6 +48,20 @@ impl ValueFault {
             ValueFault::NotAnOption => "NotAnOption",
             ValueFault::BadTimeText => "BadTimeText",
             ValueFault::TimeOutOfRange => "TimeOutOfRange",
+        }
+    }
+}
+
+impl From<NumFault> for ValueFault {
+    ghost use Rattle.formula_values.specs.Values.{of_number};
+
+    ghost from_gives = { λ fault result. result ≡ of_number fault };
+
+    fn from(fault: NumFault) -> ValueFault {
+        match fault {
+            NumFault::DivideByZero => ValueFault::DivideByZero,
+            NumFault::TooLarge => ValueFault::TooLarge,
+            NumFault::NotANumber => ValueFault::TooLarge,
         }
     }
 }
