@@ -1,10 +1,10 @@
 -- What functions give.
-use Rattle.std.specs.Prelude.{ℕ, zero, suc, ◌+◌, ◌-◌, ◌*◌, ◌/◌, ◌≤◌, nat_le, max, Bool, ◌||◌, ℤ, pos, negsuc, ◌+ℤ◌, ◌-ℤ◌, ◌*ℤ◌, int_lt, int_le, unsigned_abs, List, [], ◌∷◌, ◌++◌, length, slice_get, slice_index_or, Option, Some, None, Result, Ok, Err, if◌then◌else◌}
+use Rattle.std.specs.Prelude.{ℕ, zero, suc, ◌+◌, ◌-◌, ◌*◌, ◌/◌, nat_le, max, ◌||◌, ℤ, pos, negsuc, ◌+ℤ◌, ◌-ℤ◌, int_lt, int_le, unsigned_abs, List, [], ◌∷◌, ◌++◌, length, slice_get, slice_index_or, Option, Some, None, Result, Ok, Err, if◌then◌else◌}
 use Rattle.bt_base.specs.declared.fail.Fail.{Fail}
-use Rattle.bt_base.specs.declared.fail.Fail.TheVariants.{Memory, Why}
+use Rattle.bt_base.specs.declared.fail.Fail.TheVariants.{Why}
 use Rattle.bt_base.specs.Numbers.{bounded, cut, whole_number, difference_of}
 use Rattle.bt_times.specs.declared.fault.TimeFault.{TimeFault}
-use Rattle.bt_times.specs.declared.fault.TimeFault.TheVariants.{BadText, OutOfRange}
+use Rattle.bt_times.specs.declared.fault.TimeFault.TheVariants.{OutOfRange}
 use Rattle.bt_times.specs.Instants.{read_instant}
 use Rattle.formula_names.specs.declared.names.Function.{Function}
 use Rattle.formula_names.specs.declared.names.Function.TheVariants as functions

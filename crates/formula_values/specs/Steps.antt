@@ -1,5 +1,5 @@
 -- The four steps of doubles.
-use Rattle.std.specs.Prelude.{ℤ, pos, Result}
+use Rattle.std.specs.Prelude.{ℤ, Result}
 use Rattle.bt_base.specs.Numbers.{sum_of, difference_of, product_of, quotient_of}
 use Rattle.bt_base.specs.declared.number.NumFault.{NumFault}
 use Rattle.formula_values.specs.declared.arithmetic.Arithmetic.{Arithmetic}

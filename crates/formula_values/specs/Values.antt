@@ -1,12 +1,12 @@
 -- Values: doubles in millionths, times in units of 100 ns.
-use Rattle.std.specs.Prelude.{ℕ, ◌*◌, ◌==◌, Bool, true, false, not, ℤ, pos, Result, Ok, Err, if◌then◌else◌}
+use Rattle.std.specs.Prelude.{ℕ, ◌*◌, Bool, true, false, not, ℤ, pos, Result, Ok, Err, if◌then◌else◌}
 use Rattle.std.specs.Ordering.{int_eq}
 use Rattle.bt_base.specs.declared.number.NumFault.{NumFault}
 use Rattle.bt_base.specs.declared.number.NumFault.TheVariants as numbers
 use Rattle.formula_values.specs.declared.fault.ValueFault.{ValueFault}
 use Rattle.formula_values.specs.declared.fault.ValueFault.TheVariants.{DivideByZero, TooLarge, TimeOutOfRange}
 use Rattle.formula_values.specs.declared.value.Value.{Value}
-use Rattle.formula_values.specs.declared.value.Value.TheVariants.{Double, DoubleVec, Text, Timestamp, TimeInterval}
+use Rattle.formula_values.specs.declared.value.Value.TheVariants.{Double, Timestamp, TimeInterval}
 use Rattle.formula_values.specs.Times.{is_timestamp, is_interval}
 
 -- the double that is this whole number

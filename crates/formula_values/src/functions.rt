@@ -7,9 +7,7 @@ ghost use Rattle.bt_times.specs.Instants.{read_instant};
 
 use crate::arithmetic::double_of;
 use crate::fault::ValueFault;
-use crate::items::{
-    average, flattened, greatest_item, least_item, range_of_items, sum_of_items,
-};
+use crate::items::{average, flattened, greatest_item, least_item, range_of_items, sum_of_items};
 use crate::norm::norm_of;
 use crate::percentile::percentile_of;
 use crate::rounding::{ceil_of, floor_of, round_of};
@@ -59,9 +57,7 @@ fn length(arguments: &[Value]) -> Result<Value, ValueFault>
     ensures { result ≡ length_value arguments.now }
 {
     match arguments {
-        [Value::DoubleVec(items)] => {
-            double_of(Num::of_whole(items.as_slice().len() as i64))
-        }
+        [Value::DoubleVec(items)] => { double_of(Num::of_whole(items.as_slice().len() as i64)) }
         _ => no_value(),
     }
 }

@@ -1,5 +1,5 @@
 //! The norm of a vector.
-ghost use Rattle.std.specs.Prelude.{◌≡◌, min};
+ghost use Rattle.std.specs.Prelude.{◌≡◌, ◌≤◌, ◌*◌, ◌^◌, min, unsigned_abs};
 ghost use Rattle.formula_values.specs.Functions.{norm_of, squares};
 
 use crate::arithmetic::{bounded, double_of};
@@ -29,7 +29,10 @@ fn squares(items: &[Num]) -> u128
     sum
 }
 
-fn square(number: Num) -> u128 {
+fn square(number: Num) -> u128
+    ensures value { result ≡ unsigned_abs number * unsigned_abs number }
+    ensures bound { result ≤ 2 ^ 126 }
+{
     let magnitude = u128::from(number.millionths().unsigned_abs());
     magnitude * magnitude
 }

@@ -1,5 +1,5 @@
 //! What operators give.
-ghost use Rattle.std.specs.Prelude.{◌≡◌, ◌≢◌, ◌*ℤ◌, pos};
+ghost use Rattle.std.specs.Prelude.{◌≡◌, ◌≢◌, ◌+ℤ◌, ◌-ℤ◌, ◌*ℤ◌, pos};
 ghost use Rattle.bt_base.specs.Fails.{Gives};
 ghost use Rattle.bt_base.specs.Numbers.{cut};
 ghost use Rattle.formula_values.specs.Values.{is_true as is_nonzero, truth as truth_value};
@@ -110,13 +110,13 @@ fn sum(alloc: Global, left: &Value, right: &Value) -> Result<Value, Fail<ValueFa
 {
     match (left, right) {
         (Value::TimeInterval(a), Value::TimeInterval(b)) => {
-            interval_value(i128::from(a.units()) + i128::from(b.units())).map_err(Fail::Why)
+            interval_value(added(a.units(), b.units())).map_err(Fail::Why)
         }
         (Value::Timestamp(a), Value::TimeInterval(b)) => {
-            timestamp_value(i128::from(a.units()) + i128::from(b.units())).map_err(Fail::Why)
+            timestamp_value(added(a.units(), b.units())).map_err(Fail::Why)
         }
         (Value::TimeInterval(a), Value::Timestamp(b)) => {
-            timestamp_value(i128::from(a.units()) + i128::from(b.units())).map_err(Fail::Why)
+            timestamp_value(added(a.units(), b.units())).map_err(Fail::Why)
         }
         _ => numeric(alloc, Arithmetic::Add, left, right),
     }
@@ -127,13 +127,13 @@ fn difference(alloc: Global, left: &Value, right: &Value) -> Result<Value, Fail<
 {
     match (left, right) {
         (Value::TimeInterval(a), Value::TimeInterval(b)) => {
-            interval_value(i128::from(a.units()) - i128::from(b.units())).map_err(Fail::Why)
+            interval_value(less(a.units(), b.units())).map_err(Fail::Why)
         }
         (Value::Timestamp(a), Value::TimeInterval(b)) => {
-            timestamp_value(i128::from(a.units()) - i128::from(b.units())).map_err(Fail::Why)
+            timestamp_value(less(a.units(), b.units())).map_err(Fail::Why)
         }
         (Value::Timestamp(a), Value::Timestamp(b)) => {
-            interval_value(i128::from(a.units()) - i128::from(b.units())).map_err(Fail::Why)
+            interval_value(less(a.units(), b.units())).map_err(Fail::Why)
         }
         _ => numeric(alloc, Arithmetic::Subtract, left, right),
     }
@@ -170,6 +170,18 @@ fn interval_over(time: TimeInterval, number: Num) -> Result<Value, ValueFault>
         return Err(ValueFault::DivideByZero);
     }
     interval_value(fraction(time.units(), MILLION, number.millionths()))
+}
+
+fn added(a: i64, b: i64) -> i128
+    ensures { result ≡ a +ℤ b }
+{
+    i128::from(a) + i128::from(b)
+}
+
+fn less(a: i64, b: i64) -> i128
+    ensures { result ≡ a -ℤ b }
+{
+    i128::from(a) - i128::from(b)
 }
 
 /// The millionths of one.

@@ -56,7 +56,11 @@ fn functions_of_vectors(rt: HostRuntime) -> Result<(), TestFail> {
         (Function::Min, small.as_slice(), "1"),
         (Function::Range, small.as_slice(), "4"),
         (Function::Len, small.as_slice(), "3"),
-        (Function::Norm, [1_000_000, -1_000_000].as_slice(), "1.414213"),
+        (
+            Function::Norm,
+            [1_000_000, -1_000_000].as_slice(),
+            "1.414213",
+        ),
         (Function::Norm, most.as_slice(), "TooLarge"),
     ];
     for (function, items, wanted) in table {
@@ -75,10 +79,20 @@ fn functions_of_a_vector_and_a_double(rt: HostRuntime) -> Result<(), TestFail> {
         (Function::Percentile, items.as_slice(), 50_000_000, "2"),
         (Function::Percentile, items.as_slice(), 0, "1"),
         (Function::Percentile, items.as_slice(), 100_000_000, "4"),
-        (Function::Percentile, items.as_slice(), 100_000_001, "IndexOutOfRange"),
+        (
+            Function::Percentile,
+            items.as_slice(),
+            100_000_001,
+            "IndexOutOfRange",
+        ),
         (Function::Percentile, [].as_slice(), -1, "EmptyVector"),
         (Function::Val, items.as_slice(), 1_900_000, "1"),
-        (Function::Val, items.as_slice(), 4_000_000, "IndexOutOfRange"),
+        (
+            Function::Val,
+            items.as_slice(),
+            4_000_000,
+            "IndexOutOfRange",
+        ),
         (Function::Val, items.as_slice(), -1, "IndexOutOfRange"),
     ];
     for (function, items, number, wanted) in table {
@@ -113,7 +127,10 @@ fn times_are_read_and_shown(rt: HostRuntime) -> Result<(), TestFail> {
     assert_eq!(rt; now.as_str(), "2027-01-15T08:00:00.0000000Z");
     let table = [
         ("1970-01-02", "1970-01-02T00:00:00.0000000Z"),
-        ("2024-02-29T01:02:03.4567891Z", "2024-02-29T01:02:03.4567891Z"),
+        (
+            "2024-02-29T01:02:03.4567891Z",
+            "2024-02-29T01:02:03.4567891Z",
+        ),
         ("1969-12-31", "TimeOutOfRange"),
         ("now", "BadTimeText"),
     ];
@@ -128,9 +145,24 @@ fn times_are_read_and_shown(rt: HostRuntime) -> Result<(), TestFail> {
 #[test]
 fn operators_of_vectors(rt: HostRuntime) -> Result<(), TestFail> {
     let table = [
-        (BinaryOperator::Divide, [1_000_000].as_slice(), [0, 0].as_slice(), "LengthsDiffer"),
-        (BinaryOperator::Divide, [1_000_000].as_slice(), [0].as_slice(), "DivideByZero"),
-        (BinaryOperator::Multiply, [2_500_000, 1].as_slice(), [-2_000_000, 500_000].as_slice(), "[-5,0]"),
+        (
+            BinaryOperator::Divide,
+            [1_000_000].as_slice(),
+            [0, 0].as_slice(),
+            "LengthsDiffer",
+        ),
+        (
+            BinaryOperator::Divide,
+            [1_000_000].as_slice(),
+            [0].as_slice(),
+            "DivideByZero",
+        ),
+        (
+            BinaryOperator::Multiply,
+            [2_500_000, 1].as_slice(),
+            [-2_000_000, 500_000].as_slice(),
+            "[-5,0]",
+        ),
         (BinaryOperator::Add, [].as_slice(), [].as_slice(), "[]"),
     ];
     for (operator, v, w, wanted) in table {

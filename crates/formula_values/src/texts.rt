@@ -80,7 +80,8 @@ fn push_time(text: &mut String, shown: Civil, units: u32) -> Result<(), NoMemory
     push_part(text, 2, shown.hour, ':')?;
     push_part(text, 2, shown.minute, ':')?;
     push_part(text, 2, shown.second, '.')?;
-    push_part(text, 7, units, 'Z')
+    push_part(text, 7, units, 'Z')?;
+    Ok(())
 }
 
 /// Appends so many digits of a number, from its last one on, and an ASCII mark behind them.
