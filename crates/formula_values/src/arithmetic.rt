@@ -72,8 +72,8 @@ pub(crate) fn numeric(
 {
     match (left, right) {
         (Value::Double(a), Value::Double(b)) => double_of(step.of(*a, *b)).map_err(Fail::Why),
-        (Value::Double(a), Value::DoubleVec(w)) => with_each(alloc, step, *a, w.as_slice()),
-        (Value::DoubleVec(v), Value::Double(b)) => each_with(alloc, step, v.as_slice(), *b),
+        (Value::Double(a), Value::DoubleVec(w)) => double_with_items(alloc, step, *a, w.as_slice()),
+        (Value::DoubleVec(v), Value::Double(b)) => items_with_double(alloc, step, v.as_slice(), *b),
         (Value::DoubleVec(v), Value::DoubleVec(w)) => {
             both_vectors(alloc, step, v.as_slice(), w.as_slice())
         }
@@ -82,7 +82,7 @@ pub(crate) fn numeric(
 }
 
 /// A double with each item.
-pub(crate) fn with_each(
+pub(crate) fn double_with_items(
     alloc: Global,
     step: Arithmetic,
     left: Num,
@@ -101,7 +101,7 @@ pub(crate) fn with_each(
 }
 
 /// Each item with a double.
-fn each_with(
+fn items_with_double(
     alloc: Global,
     step: Arithmetic,
     items: &[Num],

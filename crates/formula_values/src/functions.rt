@@ -57,7 +57,10 @@ fn length(arguments: &[Value]) -> Result<Value, ValueFault>
     ensures { result ≡ length_value arguments.now }
 {
     match arguments {
-        [Value::DoubleVec(items)] => { double_of(Num::of_whole(items.as_slice().len() as i64)) }
+        [Value::DoubleVec(items)] => {
+            let count = items.as_slice().len();
+            double_of(Num::of_whole(count as i64))
+        }
         _ => no_value(),
     }
 }

@@ -91,21 +91,21 @@ pub(crate) fn range_of_items(items: &[Num]) -> Result<Value, ValueFault>
 fn greatest(first: Num, others: &[Num]) -> Num
     ensures { result ≡ greatest first others.now }
 {
-    let mut most = first;
+    let mut highest = first;
     for item in others {
-        most = greater_of(most, *item);
+        highest = greater_of(highest, *item);
     }
-    most
+    highest
 }
 
 fn least(first: Num, others: &[Num]) -> Num
     ensures { result ≡ least first others.now }
 {
-    let mut most = first;
+    let mut lowest = first;
     for item in others {
-        most = less_of(most, *item);
+        lowest = less_of(lowest, *item);
     }
-    most
+    lowest
 }
 
 fn greater_of(a: Num, b: Num) -> Num

@@ -5,7 +5,7 @@ ghost use Rattle.bt_base.specs.Numbers.{cut};
 ghost use Rattle.formula_values.specs.Values.{is_true as is_nonzero, truth as truth_value};
 ghost use Rattle.formula_values.specs.Operators.{unary_value, binary_value, order_of, sum_value, difference_value, product_value, quotient_value, interval_over, negated, inverted};
 
-use crate::arithmetic::{Arithmetic, double_of, numeric, with_each, zero};
+use crate::arithmetic::{Arithmetic, double_of, double_with_items, numeric, zero};
 use crate::fault::ValueFault;
 use crate::times::{TimeInterval, interval_value, timestamp_value};
 use crate::value::{Value, whole};
@@ -51,7 +51,12 @@ fn negated(alloc: Global, operand: &Value) -> Result<Value, Fail<ValueFault>>
 {
     match operand {
         Value::Double(number) => double_of(zero().sub(*number)).map_err(Fail::Why),
-        Value::DoubleVec(items) => with_each(alloc, Arithmetic::Subtract, zero(), items.as_slice()),
+        Value::DoubleVec(items) => double_with_items(
+            alloc,
+            Arithmetic::Subtract,
+            zero(),
+            items.as_slice(),
+        ),
         Value::TimeInterval(time) => interval_value(-i128::from(time.units())).map_err(Fail::Why),
         _ => Ok(operand.copy()?),
     }
@@ -110,13 +115,13 @@ fn sum(alloc: Global, left: &Value, right: &Value) -> Result<Value, Fail<ValueFa
 {
     match (left, right) {
         (Value::TimeInterval(a), Value::TimeInterval(b)) => {
-            interval_value(added(a.units(), b.units())).map_err(Fail::Why)
+            interval_value(sum_of_units(a.units(), b.units())).map_err(Fail::Why)
         }
         (Value::Timestamp(a), Value::TimeInterval(b)) => {
-            timestamp_value(added(a.units(), b.units())).map_err(Fail::Why)
+            timestamp_value(sum_of_units(a.units(), b.units())).map_err(Fail::Why)
         }
         (Value::TimeInterval(a), Value::Timestamp(b)) => {
-            timestamp_value(added(a.units(), b.units())).map_err(Fail::Why)
+            timestamp_value(sum_of_units(a.units(), b.units())).map_err(Fail::Why)
         }
         _ => numeric(alloc, Arithmetic::Add, left, right),
     }
@@ -127,13 +132,13 @@ fn difference(alloc: Global, left: &Value, right: &Value) -> Result<Value, Fail<
 {
     match (left, right) {
         (Value::TimeInterval(a), Value::TimeInterval(b)) => {
-            interval_value(less(a.units(), b.units())).map_err(Fail::Why)
+            interval_value(difference_of_units(a.units(), b.units())).map_err(Fail::Why)
         }
         (Value::Timestamp(a), Value::TimeInterval(b)) => {
-            timestamp_value(less(a.units(), b.units())).map_err(Fail::Why)
+            timestamp_value(difference_of_units(a.units(), b.units())).map_err(Fail::Why)
         }
         (Value::Timestamp(a), Value::Timestamp(b)) => {
-            interval_value(less(a.units(), b.units())).map_err(Fail::Why)
+            interval_value(difference_of_units(a.units(), b.units())).map_err(Fail::Why)
         }
         _ => numeric(alloc, Arithmetic::Subtract, left, right),
     }
@@ -172,13 +177,13 @@ fn interval_over(time: TimeInterval, number: Num) -> Result<Value, ValueFault>
     interval_value(fraction(time.units(), MILLION, number.millionths()))
 }
 
-fn added(a: i64, b: i64) -> i128
+fn sum_of_units(a: i64, b: i64) -> i128
     ensures { result ≡ a +ℤ b }
 {
     i128::from(a) + i128::from(b)
 }
 
-fn less(a: i64, b: i64) -> i128
+fn difference_of_units(a: i64, b: i64) -> i128
     ensures { result ≡ a -ℤ b }
 {
     i128::from(a) - i128::from(b)

@@ -3,4 +3,4 @@ use Rattle.formula_values.specs.Functions.{greatest}
 use Rattle.formula_values.proofs.items.greatest.Given as goal
 
 abbrev pub invariant-loop-item : goal.invariant-loop-item
-invariant-loop-item l = greatest l.most (drop l.item-index l.others) ≡ greatest l.fn.first l.others
+invariant-loop-item l = greatest l.highest (drop l.item-index l.others) ≡ greatest l.fn.first l.others

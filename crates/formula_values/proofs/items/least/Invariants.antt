@@ -3,4 +3,4 @@ use Rattle.formula_values.specs.Functions.{least}
 use Rattle.formula_values.proofs.items.least.Given as goal
 
 abbrev pub invariant-loop-item : goal.invariant-loop-item
-invariant-loop-item l = least l.most (drop l.item-index l.others) ≡ least l.fn.first l.others
+invariant-loop-item l = least l.lowest (drop l.item-index l.others) ≡ least l.fn.first l.others
