@@ -1,4 +1,5 @@
 pub mod DueRuns
 pub mod Entering
 pub mod LawsHold
+pub mod Opened
 pub mod Saved
