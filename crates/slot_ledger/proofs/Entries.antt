@@ -1,12 +1,12 @@
 -- The entry of a node, where no two entries are of one node.
-use Rattle.std.proofs.Common.{◌≡◌, ℕ, ◌+◌, ◌-◌, ◌≤◌, Bool, true, false, not, ◌&&◌, ◌||◌, List, [], ◌∷◌, ◌++◌, Option, Some, None, cond, map, filter, find, refl, sym, ◌∙◌, ap, subst, get_or, set, arith}
-use Rattle.std.specs.Prelude.{nat_eq, nat_le}
+use Rattle.std.proofs.Common.{◌≡◌, ℕ, Bool, true, false, not, ◌&&◌, ◌||◌, List, [], ◌∷◌, ◌++◌, Some, None, cond, filter, find, refl, sym, ◌∙◌, ap, subst, get_or, set}
+use Rattle.std.specs.Prelude.{nat_eq}
 use Rattle.std.specs.List.{list_any, position, remove}
 use Rattle.std.specs.Cmp.{nat_eq_equiv}
 use Rattle.std.proofs.lemmas.Bool.{eqb-true}
 use Rattle.bt_rows.specs.Lists.{AreDistinct, put_row, drop_row}
 use Rattle.bt_rows.proofs.PutRows.{placed, absent}
-use Rattle.slot_ledger.specs.Ledgers.{Entry, is_of, same_node, has_node, has_free_slots, has_held_slots, change_entry, without_node, with_node, holding, giving}
+use Rattle.slot_ledger.specs.Ledgers.{Entry, is_of, same_node, has_node, change_entry, without_node}
 
 -- tests
 

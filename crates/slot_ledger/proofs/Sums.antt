@@ -1,12 +1,12 @@
 -- The law of lists of calls: what an entry holds is what was taken and not given back.
-use Rattle.std.proofs.Common.{◌≡◌, ℕ, ◌+◌, ◌-◌, ◌≤◌, Bool, true, false, not, ◌&&◌, ◌||◌, List, [], ◌∷◌, ◌++◌, cond, map, filter, refl, sym, ◌∙◌, ap, subst, arith}
+use Rattle.std.proofs.Common.{◌≡◌, ℕ, ◌+◌, ◌-◌, ◌≤◌, Bool, true, false, not, ◌&&◌, ◌||◌, List, [], ◌∷◌, cond, refl, sym, ◌∙◌, ap, arith}
 use Rattle.std.specs.Prelude.{nat_eq, nat_le}
 use Rattle.std.specs.List.{list_any, All}
 use Rattle.std.specs.Cmp.{nat_eq_equiv}
 use Rattle.std.proofs.lemmas.Bool.{eqb-true, leb-true}
 use Rattle.std.proofs.lemmas.List.Elements.{All-nil, All-cons, All-head, All-tail, All-append, All-map, filter_passes, All-filter}
 use Rattle.bt_rows.specs.Lists.{AreDistinct}
-use Rattle.slot_ledger.specs.Ledgers.{Entry, is_of, same_node, has_node, with_node, without_node, change_entry}
+use Rattle.slot_ledger.specs.Ledgers.{Entry, is_of, same_node, has_node, without_node}
 use Rattle.slot_ledger.specs.Calls.{Call, AddNode, RemoveNode, Hold, Give, after_calls, AreLegal, held_by, given_by, HoldsItsSum}
 use Rattle.slot_ledger.proofs.Entries.{or_first, or_second, none_more, or_none, distinct_filter, distinct_added, distinct_changed}
 

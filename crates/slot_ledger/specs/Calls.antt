@@ -1,5 +1,5 @@
 -- Lists of calls of a ledger: which are legal, and how many slots they leave held.
-use Rattle.std.specs.Prelude.{◌≡◌, ℕ, ◌+◌, ◌-◌, ◌≤◌, Bool, true, not, ◌&&◌, nat_eq, nat_le, List, [], ◌∷◌, if◌then◌else◌}
+use Rattle.std.specs.Prelude.{◌≡◌, ℕ, ◌+◌, ◌-◌, ◌≤◌, Bool, true, not, nat_eq, List, [], ◌∷◌, if◌then◌else◌}
 use Rattle.slot_ledger.specs.Ledgers.{Entry, has_node, has_free_slots, has_held_slots, is_unheld, with_node, without_node, holding, giving}
 
 -- a call that changes a ledger

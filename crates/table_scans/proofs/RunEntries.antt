@@ -1,18 +1,18 @@
 -- The entries of nodes after the slots of runs are held.
-use Rattle.std.proofs.Common.{◌≡◌, ℕ, ◌+◌, ◌≤◌, Bool, true, false, not, ◌&&◌, ◌||◌, List, [], ◌∷◌, ◌++◌, Option, Some, None, cond, map, filter, refl, sym, ◌∙◌, ap, subst, sum_by, arith}
+use Rattle.std.proofs.Common.{◌≡◌, ℕ, ◌+◌, ◌≤◌, Bool, true, false, not, ◌&&◌, ◌||◌, List, [], ◌∷◌, ◌++◌, Some, cond, map, filter, refl, sym, ◌∙◌, ap, subst, sum_by, arith}
 use Rattle.std.specs.Prelude.{nat_lt, nat_eq, nat_le}
 use Rattle.std.specs.List.{list_any, list_all, find}
 use Rattle.std.specs.Option.{option_map_or}
 use Rattle.std.specs.Cmp.{nat_eq_equiv}
-use Rattle.std.proofs.lemmas.Bool.{eqb-true, leb-true, le-leb}
-use Rattle.std.proofs.lemmas.Bool.Decides.{Decides-ltb, nat_tests}
+use Rattle.std.proofs.lemmas.Bool.{leb-true, le-leb}
+use Rattle.std.proofs.lemmas.Bool.Decides.{nat_tests}
 use Rattle.std.proofs.lemmas.List.Sums.{sum_by-cons, sum_by-append}
 use Rattle.std.proofs.lemmas.List.Elements.{filter-append}
 use Rattle.slot_ledger.specs.declared.ledger.Entry.{Entry}
 use Rattle.slot_ledger.specs.Ledgers.{is_of, has_free_slots, holding}
 use Rattle.batch_model.specs.Finding.{Each}
 use Rattle.batch_model.specs.Nodes.{is_usable}
-use Rattle.batch_model.specs.Rows.{is_pool, pool_of}
+use Rattle.batch_model.specs.Rows.{is_pool}
 use Rattle.batch_model.specs.Runs.{is_present}
 use Rattle.batch_model.specs.Slots.{owns, holds_on, held_slots}
 use Rattle.batch_model.specs.Sound.{SlotsSuffice, has_slots_for}
@@ -20,7 +20,7 @@ use Rattle.batch_model.specs.Tasks.{is_placed}
 use Rattle.batch_model.specs.WellFormed.{has_pool_row}
 use Rattle.batch_model.specs.Variants.{State, PoolRow, NodeRow, TaskRow, RunRow}
 use Rattle.batch_model.proofs.RowLists.{each_and, each_found, each_any, find_any, find_test, any_none, any_weaker_where}
-use Rattle.batch_model.proofs.Tests.{and_true, and_first, and_second, not_true, asked, true_not}
+use Rattle.batch_model.proofs.Tests.{and_true, and_first, and_second, not_true, asked}
 use Rattle.table_scans.specs.Entries.{slots_of, only_usable, held_by, entry_by, ledger_by, is_on_usable, is_counted, with_run}
 use Rattle.table_scans.specs.Holding.{is_holding, is_of_any, only_placed}
 

@@ -1,26 +1,25 @@
 -- The node that a ledger chooses is the one that is chosen by the tables.
-use Rattle.std.proofs.Common.{◌≡◌, ℕ, ◌+◌, ◌≤◌, Bool, true, false, not, ◌&&◌, ◌||◌, cond, List, [], ◌∷◌, Option, Some, None, map, filter, find, refl, sym, ◌∙◌, ap, subst, arith}
-use Rattle.std.specs.Prelude.{nat_eq, nat_le, nat_lt, is_some}
+use Rattle.std.proofs.Common.{◌≡◌, ℕ, ◌+◌, Bool, true, false, not, ◌&&◌, cond, List, [], ◌∷◌, Option, Some, None, map, filter, find, refl, sym, ◌∙◌, ap, subst}
+use Rattle.std.specs.Prelude.{nat_eq, nat_le, is_some}
 use Rattle.std.specs.List.{list_any}
 use Rattle.std.specs.Option.{option_map, option_map_or, option_and_then}
 use Rattle.std.specs.Cmp.{nat_eq_equiv}
 use Rattle.bt_base.specs.Ids.{same}
 use Rattle.bt_base.proofs.SameIds.{same_equiv}
-use Rattle.bt_rows.specs.Keys.{same_pool, same_pool_equiv, same_node}
+use Rattle.bt_rows.specs.Keys.{same_pool, same_node}
 use Rattle.bt_rows.specs.Lists.{AreDistinct}
 use Rattle.bt_rows.specs.declared.pool.Fill.{Fill}
 use Rattle.bt_rows.specs.declared.pool.Fill.TheVariants.{Spread, Pack}
-use Rattle.bt_rows.proofs.DistinctRows.{found_first}
 use Rattle.slot_ledger.specs.declared.ledger.Entry.{Entry}
 use Rattle.slot_ledger.specs.Ledgers as ledger
-use Rattle.batch_model.specs.Finding.{Each, best}
+use Rattle.batch_model.specs.Finding.{best}
 use Rattle.batch_model.specs.Nodes.{is_usable, is_in_pool}
 use Rattle.batch_model.specs.Placing.{is_placeable, fits, precedes, choice}
 use Rattle.batch_model.specs.Rows.{is_pool, pool_of, is_node, node_of}
 use Rattle.batch_model.specs.Slots.{held_slots}
-use Rattle.batch_model.specs.Variants.{State, PoolRow, NodeRow, JobRow, TaskRow}
-use Rattle.batch_model.proofs.RowLists.{each_found, any_none, none_weaker, find_agree}
-use Rattle.batch_model.proofs.Tests.{and_true, and_first, and_second, not_true}
+use Rattle.batch_model.specs.Variants.{State, PoolRow, NodeRow, JobRow}
+use Rattle.batch_model.proofs.RowLists.{each_found, any_none, find_agree}
+use Rattle.batch_model.proofs.Tests.{not_true}
 use Rattle.table_scans.specs.Entries.{slots_of, entry_of, only_usable, ledger_of}
 use Rattle.task_placing.specs.Fitting.{IsPoolRow, fits_in, fits_by}
 

@@ -1,6 +1,6 @@
 -- What is not to be placed: tasks that do not fit, of jobs that have none to place, and any task where no node has a free slot.
 use Rattle.std.proofs.Common.{◌≡◌, ℕ, ◌+◌, ◌≤◌, Bool, true, false, not, ◌&&◌, ◌||◌, List, [], ◌∷◌, Option, Some, None, cond, length, find, filter, refl, sym, ◌∙◌, ap, arith}
-use Rattle.std.specs.Prelude.{nat_le, is_some, is_none}
+use Rattle.std.specs.Prelude.{nat_le, is_some}
 use Rattle.std.specs.Option.{option_map, option_and_then}
 use Rattle.std.specs.List.{list_any, list_all}
 use Rattle.std.proofs.lemmas.Bool.{leb-true, le-leb}
@@ -11,7 +11,7 @@ use Rattle.bt_rows.specs.Lists.{AreDistinct}
 use Rattle.bt_rows.proofs.DistinctRows.{found_first}
 use Rattle.slot_ledger.specs.declared.ledger.Entry.{Entry}
 use Rattle.slot_ledger.specs.Ledgers.{chosen}
-use Rattle.batch_model.specs.Finding.{Each, best, find_map, first_of, only_if, or_else}
+use Rattle.batch_model.specs.Finding.{Each, best, find_map, only_if, or_else}
 use Rattle.batch_model.specs.Nodes.{is_in_pool, is_usable}
 use Rattle.batch_model.specs.Placing.{is_ready, is_placeable, fits, precedes, choice, places_tasks, place, place_task, place_in, place_of_job}
 use Rattle.batch_model.specs.Rows.{is_pool, pool_of}
@@ -20,7 +20,7 @@ use Rattle.batch_model.specs.Tasks.{is_in_job}
 use Rattle.batch_model.specs.WellFormed.{needs_length, is_task_valid, is_task_in_range, is_task_past, has_fitting_failures}
 use Rattle.batch_model.specs.Variants.{State, PoolRow, NodeRow, JobRow, TaskRow}
 use Rattle.batch_model.proofs.RowLists.{find_test, each_head, each_tail, each_found, each_any, none_weaker, any_none}
-use Rattle.batch_model.proofs.Tests.{and_true, and_first, and_second, or_false_first, or_false_second, not_true, passes_or_not}
+use Rattle.batch_model.proofs.Tests.{and_true, and_first, and_second, or_false_first, or_false_second, not_true}
 use Rattle.table_scans.specs.Entries.{ledger_of}
 use Rattle.task_placing.specs.Fitting.{IsPoolRow, fits_in, fits_by}
 use Rattle.task_placing.specs.LeastSlots.{is_ready_in, least_slots}

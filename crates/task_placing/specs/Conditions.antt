@@ -1,6 +1,5 @@
 -- What placing asks of tables, and what it knows of them.
-use Rattle.std.specs.Prelude.{◌≡◌, ℕ, ◌≤◌, ◌^◌, List}
-use Rattle.batch_model.specs.Finding.{Each}
+use Rattle.std.specs.Prelude.{◌≤◌, ◌^◌}
 use Rattle.batch_model.specs.Sound.{NumbersAreNew}
 use Rattle.batch_model.specs.WellFormed.{KeysAreDistinct, TasksAreFitting, RowsAreValid}
 use Rattle.batch_model.specs.Variants.{State}

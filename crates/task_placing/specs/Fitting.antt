@@ -1,5 +1,5 @@
 -- Tasks that fit, by the tables and by the ledger.
-use Rattle.std.specs.Prelude.{◌≡◌, ℕ, Bool, ◌&&◌, List, Some, is_some}
+use Rattle.std.specs.Prelude.{◌≡◌, Bool, ◌&&◌, List, Some, is_some}
 use Rattle.std.specs.List.{find}
 use Rattle.bt_rows.specs.Keys.{same_pool}
 use Rattle.slot_ledger.specs.declared.ledger.Entry.{Entry}

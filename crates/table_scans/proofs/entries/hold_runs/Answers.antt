@@ -1,7 +1,7 @@
-use Rattle.std.proofs.Common.{◌≡◌, ◌+◌, ◌++◌, [], ◌∷◌, drop, take, sym, ◌∙◌, ap}
+use Rattle.std.proofs.Common.{◌+◌, drop, take, sym, ◌∙◌, ap}
 use Rattle.slot_ledger.specs.Ledgers.{has_free_slots}
 use Rattle.table_scans.specs.Entries.{with_run, ledger_by}
-use Rattle.table_scans.proofs.NodeEntries.{item_left, item_taken, parted}
+use Rattle.table_scans.proofs.NodeEntries.{item_taken, parted}
 use Rattle.table_scans.proofs.RunEntries.{has_room, run_more}
 use Rattle.table_scans.proofs.entries.hold_runs.Goals as goal
 

@@ -1,4 +1,4 @@
-use Rattle.std.proofs.Common.{◌≡◌, ◌+◌, ◌∷◌, drop, sym, subst}
+use Rattle.std.proofs.Common.{◌+◌, drop, sym, subst}
 use Rattle.table_scans.proofs.NodeEntries.{AreAdded, none_added, first_apart, one_added, item_left}
 use Rattle.table_scans.proofs.entries.unheld_nodes.Goals as goal
 

@@ -1,4 +1,4 @@
-use Rattle.std.proofs.Common.{◌≡◌, false, sym, ◌∙◌, ap, rules}
+use Rattle.std.proofs.Common.{◌≡◌, false, sym, ◌∙◌, rules}
 use Rattle.task_placing.proofs.NotPlaced.{none_for_least}
 use Rattle.task_placing.proofs.first.place_from.Goals as goal
 

@@ -1,4 +1,4 @@
-use Rattle.std.proofs.Common.{◌≡◌, sym, ◌∙◌, not}
+use Rattle.std.proofs.Common.{sym, ◌∙◌, not}
 use Rattle.batch_model.specs.Finding.{find_map}
 use Rattle.batch_model.specs.Placing.{place_task}
 use Rattle.task_placing.proofs.NotPlaced.{none_ready, only_none}

@@ -1,4 +1,4 @@
-use Rattle.std.proofs.Common.{◌≡◌, Some, ◌∙◌, ap}
+use Rattle.std.proofs.Common.{Some, ◌∙◌, ap}
 use Rattle.std.specs.String.{string_bytes}
 use Rattle.std.specs.BTreeMap.{get_by_text}
 use Rattle.task_placing.specs.LeastSlots.{lower}

@@ -1,6 +1,6 @@
-use Rattle.std.proofs.Common.{ℕ, ◌≡◌, ◌++◌, [], ◌∷◌, sym, subst}
+use Rattle.std.proofs.Common.{sym, subst}
 use Rattle.bt_rows.specs.Lists.{AreDistinct}
-use Rattle.slot_ledger.specs.Ledgers.{Entry, same_node}
+use Rattle.slot_ledger.specs.Ledgers.{same_node}
 use Rattle.slot_ledger.proofs.Entries.{distinct_added}
 use Rattle.slot_ledger.proofs.ledger.Ledger.add_node.Goals as goal
 

@@ -1,4 +1,4 @@
-use Rattle.std.proofs.Common.{ℕ, ◌+◌, ◌-◌, List, refl, sym, ◌∙◌}
+use Rattle.std.proofs.Common.{◌-◌, refl, sym, ◌∙◌}
 use Rattle.std.specs.Prelude.{nat_le}
 use Rattle.std.proofs.lemmas.Bool.{leb-true}
 use Rattle.slot_ledger.specs.Ledgers.{Entry}

@@ -1,4 +1,4 @@
-use Rattle.std.proofs.Common.{ℕ, ◌≡◌, sym, ◌∙◌, ap, subst}
+use Rattle.std.proofs.Common.{sym, ◌∙◌, ap, subst}
 use Rattle.std.specs.Prelude.{nat_eq}
 use Rattle.bt_rows.specs.Lists.{AreDistinct}
 use Rattle.slot_ledger.specs.Ledgers.{Entry, same_node, without_node}
