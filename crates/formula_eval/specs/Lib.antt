@@ -3,5 +3,6 @@ pub mod Names
 pub mod Options
 pub mod Outcomes
 pub mod Results
+pub mod Scenes
 pub mod Statements
 pub mod Walks

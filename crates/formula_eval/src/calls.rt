@@ -1,23 +1,19 @@
 //! What stands at a token, once its operands or arguments have values.
 ghost use Rattle.std.specs.Prelude.{◌≡◌};
 ghost use Rattle.bt_base.specs.Fails.{Gives};
-ghost use Rattle.formula_names.specs.Names.{function_named, member_named, method_named};
+ghost use Rattle.formula_names.specs.Names.{function_named, member_named};
 ghost use Rattle.formula_types.specs.Scopes.{part as part_of};
 ghost use Rattle.formula_trees.specs.View.{tree_of};
-ghost use Rattle.formula_values.specs.Values.{no_value};
 ghost use Rattle.formula_values.specs.Operators.{unary_value, binary_value};
 ghost use Rattle.formula_values.specs.Functions.{function_value};
-ghost use Rattle.formula_metrics.specs.Parts.{part_of as metric_part};
-ghost use Rattle.formula_metrics.specs.Methods.{method_value};
-ghost use Rattle.formula_eval.specs.Names.{name_value};
-ghost use Rattle.formula_eval.specs.Evaluation.{at, call_at, member_at, metric_of, method_at, decided};
+ghost use Rattle.formula_eval.specs.Evaluation.{at, call_at, member_at, metric_of, decided};
+ghost use Rattle.formula_eval.specs.Scenes.{name_in, method_of_values};
 
 use crate::fault::{EvalFault, Halt};
 use crate::names::name_value;
-use crate::outcome::Outcome;
+use crate::scene::Scene;
 use bt_base::{Fail, Moment};
 use formula_lex::{BinaryOperator, Span};
-use formula_metrics::Metrics;
 use formula_names::{Function, Metric, function_named, member_named, method_named, metric_named};
 use formula_trees::{Expr, UnaryOperator};
 use formula_types::part;
@@ -35,16 +31,10 @@ pub fn fault_at(span: Span, fault: ValueFault) -> Halt
 }
 
 /// The value of a name alone.
-pub fn name_at(
-    alloc: Global,
-    text: &[u8],
-    metrics: &Metrics,
-    set: &Outcome,
-    span: Span,
-) -> Result<Value, Fail<Halt>>
-    ensures { Gives result (at span (name_value metrics.now set.now (part_of text.now span))) }
+pub fn name_at(alloc: Global, scene: &Scene, span: Span) -> Result<Value, Fail<Halt>>
+    ensures { Gives result (name_in scene.entry.now span) }
 {
-    match name_value(alloc, metrics, set, part(text, span)) {
+    match name_value(alloc, scene.metrics, scene.set, part(scene.text, span)) {
         Ok(found) => Ok(found),
         Err(Fail::Memory) => Err(Fail::Memory),
         Err(Fail::Why(fault)) => Err(Fail::Why(fault_at(span, fault))),
@@ -164,22 +154,24 @@ pub fn metric_of(text: &[u8], operand: &Expr) -> Option<Metric>
 /// What the method of this name gives with these arguments.
 pub fn method_at(
     alloc: Global,
-    text: &[u8],
-    metrics: &Metrics,
-    now: Moment,
+    scene: &Scene,
     span: Span,
     metric: Option<Metric>,
     arguments: &[Value],
 ) -> Result<Value, Fail<Halt>>
-    ensures { Gives result (method_at metrics.now now span metric (method_named (part_of text.now span)) arguments.now) }
+    ensures { Gives result (method_of_values scene.entry.now span metric arguments.now) }
 {
     let Some(metric) = metric else {
         return Ok(whole(0));
     };
-    let Some(method) = method_named(part(text, span)) else {
+    let Some(method) = method_named(part(scene.text, span)) else {
         return Ok(whole(0));
     };
-    match metrics.part(metric).call(alloc, method, arguments, now) {
+    match scene
+        .metrics
+        .part(metric)
+        .call(alloc, method, arguments, scene.now)
+    {
         Ok(found) => Ok(found),
         Err(Fail::Memory) => Err(Fail::Memory),
         Err(Fail::Why(fault)) => Err(Fail::Why(fault_at(span, fault))),

@@ -8,6 +8,7 @@ ghost use Rattle.formula_eval.specs.Walks.{IsDone};
 
 use crate::fault::{EvalFault, Halt};
 use crate::outcome::{Others, Outcome, Targets};
+use crate::scene::Scene;
 use crate::settings::settle;
 use crate::values::value_of;
 use bt_base::{Fail, Moment};
@@ -49,7 +50,13 @@ fn step(
 ) -> Result<bool, Fail<EvalFault>>
     ensures { IsDone text.now metrics.now now set.old (statement_of statement.now) set.new result }
 {
-    match value_of(alloc, text, metrics, now, set, expression(statement)) {
+    let scene = Scene {
+        text,
+        metrics,
+        now,
+        set,
+    };
+    match value_of(alloc, &scene, expression(statement)) {
         Ok(value) => {
             settle(alloc, text, set, statement, value)?;
             Ok(true)

@@ -9,6 +9,7 @@ mod names;
 mod options;
 mod outcome;
 mod results;
+mod scene;
 mod settings;
 mod spine;
 mod strings;

@@ -7,7 +7,7 @@ use Rattle.formula_eval.proofs.values.+values.Given as goal
 
 abbrev pub invariant-value_of-up : goal.invariant-value_of-up
 invariant-value_of-up l =
-    (through l.text l.metrics l.now l.set l.nodes.items (Ok l.found) ≡ value_of l.text l.metrics l.now l.set (tree_of l.expr))
+    (through l.scene.text.now l.scene.metrics.now l.scene.now l.scene.set.now l.nodes.items (Ok l.found) ≡ value_of l.scene.text.now l.scene.metrics.now l.scene.now l.scene.set.now (tree_of l.expr))
     × All (λ node. size-Expr node.now ≤ size-Expr l.expr) l.nodes.items
 
 abbrev pub decreases-value_of-up : goal.decreases-value_of-up
@@ -15,7 +15,7 @@ decreases-value_of-up l = length l.nodes.items
 
 abbrev pub invariant-values_of-loop-item : goal.invariant-values_of-loop-item
 invariant-values_of-loop-item l =
-    values_behind l.text l.metrics l.now l.set l.values.items (drop l.item-index l.items) ≡ values_behind l.text l.metrics l.now l.set [] l.items
+    values_behind l.scene.text.now l.scene.metrics.now l.scene.now l.scene.set.now l.values.items (drop l.item-index l.items) ≡ values_behind l.scene.text.now l.scene.metrics.now l.scene.now l.scene.set.now [] l.items
 
 -- a node's right operands and arguments are smaller than it, and the nodes of an expression are at most as large
 abbrev pub decreases-value_of : goal.decreases-value_of
