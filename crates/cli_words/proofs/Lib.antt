@@ -1,1 +1,2 @@
-pub mod OptionsRead
+pub mod CommandRanges
+pub mod CommandsRead

@@ -10,8 +10,6 @@ use Rattle.cli_words.specs.declared.command_name.CommandName.{CommandName}
 use Rattle.cli_words.specs.declared.command_name.CommandName.TheVariants as names
 use Rattle.cli_words.specs.declared.option_name.OptionName.{OptionName}
 use Rattle.cli_words.specs.declared.option_name.OptionName.TheVariants.{Seats, Journal, Now, Dedicated}
-use Rattle.cli_words.specs.declared.command.ReplayOptions.{ReplayOptions}
-use Rattle.cli_words.specs.declared.command.FormulaOptions.{FormulaOptions}
 use Rattle.cli_words.specs.declared.command.Command.{Command}
 use Rattle.cli_words.specs.declared.command.Command.TheVariants.{Replay, Formula}
 

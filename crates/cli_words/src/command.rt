@@ -1,5 +1,7 @@
 //! Commands with their options.
 
+use bt_base::Moment;
+
 /// What the options of `replay` are set to.
 #[derive(Clone, Copy, Debug, PartialEq, Eq)]
 pub struct ReplayOptions {
@@ -12,8 +14,8 @@ pub struct ReplayOptions {
 /// What the options of `formula` are set to.
 #[derive(Clone, Copy, Debug, PartialEq, Eq)]
 pub struct FormulaOptions {
-    /// The present moment in milliseconds since 1970-01-01T00:00:00Z, up to the end of the year 9999.
-    pub now: u64,
+    /// The present moment.
+    pub now: Moment,
     /// The target of dedicated nodes before the formula is evaluated, from 0 to 1,000.
     pub dedicated: u32,
 }

@@ -4,8 +4,12 @@
 
 mod command;
 mod command_name;
+mod given;
 mod option_name;
-mod options;
+mod words;
 
 pub use command::{Command, FormulaOptions, ReplayOptions};
-pub use options::read_command;
+pub use words::read_command;
+
+#[cfg(test)]
+mod tests;

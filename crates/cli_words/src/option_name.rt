@@ -1,12 +1,14 @@
 //! The names of options.
 ghost use Rattle.std.specs.Prelude.{◌≡◌};
-ghost use Rattle.batch_cli.specs.Commands.{option_text, option_in};
+ghost use Rattle.cli_words.specs.Commands.{option_text, option_in};
 
-/// An option of `replay`.
+/// An option: the first two are of `replay`, the others of `formula`.
 #[derive(Clone, Copy, Debug, PartialEq, Eq)]
 pub enum OptionName {
     Seats,
     Journal,
+    Now,
+    Dedicated,
 }
 
 impl OptionName {
@@ -18,6 +20,8 @@ impl OptionName {
         match self {
             OptionName::Seats => "--seats",
             OptionName::Journal => "--journal",
+            OptionName::Now => "--now",
+            OptionName::Dedicated => "--dedicated",
         }
     }
 
@@ -26,9 +30,14 @@ impl OptionName {
     pub fn read(text: &[u8]) -> Option<OptionName>
         ensures { result ≡ option_in text.now }
     {
-        [OptionName::Seats, OptionName::Journal]
-            .iter()
-            .copied()
-            .find(|name| text == name.text().as_bytes())
+        [
+            OptionName::Seats,
+            OptionName::Journal,
+            OptionName::Now,
+            OptionName::Dedicated,
+        ]
+        .iter()
+        .copied()
+        .find(|name| text == name.text().as_bytes())
     }
 }

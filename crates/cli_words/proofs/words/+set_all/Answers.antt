@@ -1,9 +1,9 @@
 use Rattle.std.proofs.Common.{rules, ◌≡◌, ◌∙◌, sym, ap, None, Some, drop}
 use Rattle.std.proofs.lemmas.List.{take_rest}
-use Rattle.batch_cli.specs.Commands.{joined_in, option_in}
-use Rattle.batch_cli.specs.Reading.{set_one, set_all}
-use Rattle.batch_cli.proofs.OptionsRead.{next_joined, next_parted}
-use Rattle.batch_cli.proofs.options.+set_all.Goals as goal
+use Rattle.cli_words.specs.Commands.{joined_in, option_in}
+use Rattle.cli_words.specs.Reading.{set_one, set_all}
+use Rattle.cli_words.proofs.CommandsRead.{next_joined, next_parted}
+use Rattle.cli_words.proofs.words.+set_all.Goals as goal
 
 pub returns-in_ok-set_one-in-Some : goal.returns-in_ok-set_one-in-Some
 returns-in_ok-set_one-in-Some t c =

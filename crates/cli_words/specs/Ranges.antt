@@ -1,0 +1,23 @@
+-- The ranges that the options of a command keep.
+use Rattle.std.specs.Prelude.{◌≤◌}
+use Rattle.cli_words.specs.declared.command.ReplayOptions.{ReplayOptions}
+use Rattle.cli_words.specs.declared.command.FormulaOptions.{FormulaOptions}
+use Rattle.cli_words.specs.declared.command.Command.{Command}
+use Rattle.cli_words.specs.declared.command.Command.TheVariants.{Replay, Formula}
+use Rattle.bt_base.specs.Moments.{last_moment}
+
+-- 1 to 32 seats, and a journal of 1 to 4,000,000 calls
+pub record HasSeats (options : ReplayOptions) : Type 0 where
+  pub some : 1 ≤ options.seats
+  pub few : options.seats ≤ 32
+  pub calls : 1 ≤ options.limit
+  pub most : options.limit ≤ 4000000
+
+-- a moment up to the year 9999, and up to 1,000 nodes
+pub record HasTargets (options : FormulaOptions) : Type 0 where
+  pub now : options.now ≤ last_moment
+  pub dedicated : options.dedicated ≤ 1000
+
+abbrev pub IsInRange : Command → Type 0
+IsInRange (Replay options) = HasSeats options
+IsInRange (Formula options) = HasTargets options
