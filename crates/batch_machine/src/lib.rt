@@ -16,3 +16,6 @@ mod settle;
 mod task;
 
 pub use machine::Machine;
+
+#[cfg(test)]
+mod tests;
