@@ -1,2 +1,3 @@
 pub mod OnNodes
+pub mod SmallSound
 pub mod StartPuts

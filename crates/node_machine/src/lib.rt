@@ -7,5 +7,7 @@ mod ending;
 mod machine;
 mod starting;
 mod taking;
+#[cfg(test)]
+mod tests;
 
 pub use machine::{next_due, plan_event};
