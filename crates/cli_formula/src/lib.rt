@@ -4,6 +4,12 @@
 
 mod end;
 mod run;
+mod show;
+mod shown;
 
 pub use end::End;
 pub use run::run_formula;
+pub use show::one_showing;
+
+#[cfg(test)]
+mod tests;

@@ -1,12 +1,33 @@
 //! The command.
-ghost use Rattle.std.specs.Prelude.{◌≡◌, IfSome};
+ghost use Rattle.std.specs.Prelude.{◌≡◌, ◌≤◌, IfSome};
 ghost use Rattle.bt_base.specs.Causes.{Rose};
 ghost use Rattle.cli_formula.specs.Showing.{FormulaRan};
+ghost use Rattle.cli_formula.specs.Shown.{shown_of, Writes};
 
 use crate::end::End;
-use bt_base::{Sink, Source};
+use crate::show::show;
+use crate::shown::Shown;
+use bt_base::{NoMemory, ReadFault, Sink, Source, read_all, write_all};
 use cli_words::FormulaOptions;
 use std::alloc::Global;
+
+/// The bytes that a formula may have.
+const LIMIT: usize = 8_192;
+
+/// Writes what is shown.
+fn write_shown<W: Sink>(shown: &Shown, sink: &mut W) -> End
+    ensures wrote { Writes (W.taken sink.old) (W.taken sink.new) (shown_of shown.now) result }
+    ensures sink_fault { result ≡ End.SinkFault → Rose (W.faults sink.old) (W.faults sink.new) }
+{
+    let (text, end) = match shown {
+        Shown::Results(text) => (text, End::Done),
+        Shown::Fault(text) => (text, End::Fault),
+    };
+    match write_all(sink, text.as_str().as_bytes()) {
+        Ok(()) => end,
+        Err(_) => End::SinkFault,
+    }
+}
 
 /// Reads a formula of at most 8,192 bytes from the source to its end, evaluates it over metrics without samples and without
 /// current values, and writes the results text, or `error`, the name of the first fault and its place; then LF. A place counts the
@@ -21,6 +42,13 @@ pub fn run_formula<R: Source, W: Sink>(
     ensures source_fault { result ≡ End.SourceFault → Rose (R.faults source.old) (R.faults source.new) }
     ensures sink_fault { result ≡ End.SinkFault → Rose (W.faults sink.old) (W.faults sink.new) }
 {
-    let _ = (alloc, options, source, sink);
-    End::Memory
+    match read_all(alloc, source, LIMIT) {
+        Err(ReadFault::Memory) => End::Memory,
+        Err(ReadFault::Failed) => End::SourceFault,
+        Err(ReadFault::TooLong) => End::TooLong,
+        Ok(bytes) => match show(alloc, options, &bytes) {
+            Err(NoMemory) => End::Memory,
+            Ok(shown) => write_shown(&shown, sink),
+        },
+    }
 }
