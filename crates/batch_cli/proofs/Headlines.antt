@@ -14,9 +14,9 @@ use Rattle.batch_cli.specs.Advance.{RoseBy}
 use Rattle.batch_cli.specs.Ending.{ending_of}
 use Rattle.batch_cli.specs.Going.{Whole, Part, NothingDone, EndsWith, DeskRan}
 use Rattle.batch_cli.specs.Headline.{IsDone, IsBegun, IsUntouched, RanWith}
-use Rattle.batch_cli.specs.declared.options.Options.{Options}
+use Rattle.cli_words.specs.declared.command.ReplayOptions.{ReplayOptions as Options}
 use Rattle.batch_cli.specs.declared.status.Status.{Status}
-use Rattle.batch_cli.specs.declared.status.Status.TheVariants.{Done, Memory, Usage, SourceFault, SinkFault, KeeperFault, UnreadableLines, ScriptTooLong, JournalFull}
+use Rattle.batch_cli.specs.declared.status.Status.TheVariants.{Done, Memory, Usage, SourceFault, SinkFault, KeeperFault, UnreadableLines, ScriptTooLong, FormulaError, JournalFull}
 
 -- a desk in order, on its way from one that was opened on these tables
 record Runs {K : Type 0} (told : K → Option State) (faults : K → ℕ) (options : Options) (loaded : State) (before : ℕ) (start now : Desk K) : Type 0 where
@@ -95,6 +95,7 @@ ran_from script before taken Memory r d = inr (begun_from script before taken r 
 ran_from script before taken KeeperFault r d = inr (done_from script before taken r d)
 ran_from script before taken JournalFull r d = done_from script before taken r d
 ran_from script before taken UnreadableLines r d = done_from script before taken r d
+ran_from script before taken FormulaError r d = d
 ran_from script before taken Done r d = done_from script before taken r d
 
 -- where source and keeper tell what they have

