@@ -83,15 +83,28 @@ fn keeps_the_others(reply: &Reply) -> bool {
     )
 }
 
+/// The moment and how many tasks there are after the plan.
+fn after(tables: Tables, plan: Plan) -> Result<(u64, usize), TestFail> {
+    let mut tables = tables;
+    let Plan { reply, changes } = plan;
+    drop(reply);
+    tables.reserve(changes.as_slice())?;
+    tables.apply(changes);
+    Ok((tables.moment(), tables.tasks().len()))
+}
+
+/// Whether the second of three is refused alone; and the moment and how many tasks there are then.
+fn second_refused(alloc: Global) -> Result<(bool, u64, usize), TestFail> {
+    let tables = lone_job(alloc)?;
+    let plan = added(alloc, &tables, &["a", "A", "b"])?;
+    let kept = keeps_the_others(&plan.reply);
+    let (moment, count) = after(tables, plan)?;
+    Ok((kept, moment, count))
+}
+
 #[test]
 fn a_refused_element_keeps_no_other_from_being_added(rt: HostRuntime) -> Result<(), TestFail> {
-    let alloc = rt.alloc();
-    let mut tables = lone_job(alloc)?;
-    let plan = added(alloc, &tables, &["a", "A", "b"])?;
-    assert!(rt; keeps_the_others(&plan.reply));
-    tables.reserve(plan.changes.as_slice())?;
-    tables.apply(plan.changes);
-    assert_eq!(rt; (tables.moment(), tables.tasks().len()), (7, 2));
+    assert_eq!(rt; second_refused(rt.alloc())?, (true, 7, 2));
     Ok(())
 }
 
