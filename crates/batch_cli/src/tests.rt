@@ -348,3 +348,72 @@ fn the_65th_pool_is_refused(rt: HostRuntime) -> Result<(), Fail> {
     assert!(rt; output.windows(wanted.len()).any(|part| part == wanted));
     Ok(())
 }
+
+/// A pool of two nodes of two slots, with a policy or none, a job, and four tasks, of which the third needs two slots.
+const FOUR_TASKS: &str = "0 add-job {\"id\":\"j\",\"poolInfo\":{\"poolId\":\"p\"}}\n\
+    0 add-tasks j {\"value\":[{\"id\":\"a\",\"commandLine\":\"w\"},{\"id\":\"b\",\"commandLine\":\"w\"},\
+    {\"id\":\"c\",\"commandLine\":\"w\",\"requiredSlots\":2},{\"id\":\"d\",\"commandLine\":\"w\"}]}\n";
+
+/// A job, a task, and a start task that fails once.
+const STARTED: &str = "0 add-job {\"id\":\"j\",\"poolInfo\":{\"poolId\":\"p\"}}\n\
+    0 add-task j {\"id\":\"t\",\"commandLine\":\"w\"}\n1 take 1\n2 end 1 1\n";
+
+/// Whether a script of two parts has this output.
+fn shows(alloc: Global, first: &str, rest: &str, output: &str) -> Result<bool, AllocError> {
+    let mut script = String::from_str(alloc, first)?;
+    script.push_str(rest)?;
+    gives(
+        alloc,
+        sure(&["replay"], script.as_str()),
+        &[],
+        Status::Done,
+        output,
+    )
+}
+
+#[test]
+fn pools_spread_or_pack_their_tasks(rt: HostRuntime) -> Result<(), Fail> {
+    let spread = "0 add-pool {\"id\":\"p\",\"targetDedicatedNodes\":2,\"taskSlotsPerNode\":2}\n";
+    let spread_output =
+        "1 201\n1 U15 p 1 1\n1 U15 p 2 2\n1 U11 p steady\n2 201\n3 200 201 201 201 201\n\
+        3 U16 j a 1 1\n3 U16 j b 2 2\n3 U16 j d 1 3\ntables 0\npool p active steady 2 0 2 spread\n\
+        node 1 p 1 running\nnode 2 p 2 running\njob j p active 0 -\ntask j a running - - 0\n\
+        task j b running - - 0\ntask j c active - - 0\ntask j d running - - 0\n\
+        run 1 task 1 j a queued -\nrun 2 task 2 j b queued -\nrun 3 task 1 j d queued -\n";
+    assert!(rt; shows(rt.alloc(), spread, FOUR_TASKS, spread_output)?);
+    let pack = "0 add-pool {\"id\":\"p\",\"targetDedicatedNodes\":2,\"taskSlotsPerNode\":2,\
+        \"taskSchedulingPolicy\":{\"nodeFillType\":\"Pack\"}}\n";
+    let pack_output =
+        "1 201\n1 U15 p 1 1\n1 U15 p 2 2\n1 U11 p steady\n2 201\n3 200 201 201 201 201\n\
+        3 U16 j a 1 1\n3 U16 j b 1 2\n3 U16 j c 2 3\ntables 0\npool p active steady 2 0 2 pack\n\
+        node 1 p 1 running\nnode 2 p 2 running\njob j p active 0 -\ntask j a running - - 0\n\
+        task j b running - - 0\ntask j c running - - 0\ntask j d active - - 0\n\
+        run 1 task 1 j a queued -\nrun 2 task 1 j b queued -\nrun 3 task 2 j c queued -\n";
+    assert!(rt; shows(rt.alloc(), pack, FOUR_TASKS, pack_output)?);
+    Ok(())
+}
+
+const WAITING: &str = "0 add-pool {\"id\":\"p\",\"targetDedicatedNodes\":1,\
+    \"startTask\":{\"commandLine\":\"init\",\"maxTaskRetryCount\":1}}\n\
+    0 add-job {\"id\":\"j\",\"poolInfo\":{\"poolId\":\"p\"}}\n\
+    0 add-task j {\"id\":\"t\",\"commandLine\":\"w\"}\n1 take 1\n2 end 1 1\n3 take 2\n";
+
+#[test]
+fn nodes_run_their_start_task(rt: HostRuntime) -> Result<(), Fail> {
+    let started = "1 201\n1 U15 p 1 1\n1 U11 p steady\n2 201\n3 201\n4 200\n5 200\n6 200\n7 200\n\
+        7 U16 j t 1 3\ntables 4\npool p active steady 1 0 1 spread\nnode 1 p 1 running\njob j p active 0 -\n\
+        task j t running - - 0\nrun 1 start 1 - - ended 1\nrun 2 start 1 - - ended 0\nrun 3 task 1 j t queued -\n";
+    assert!(rt; shows(rt.alloc(), WAITING, "4 end 2 0\n", started)?);
+    let failed = "1 201\n1 U15 p 1 1\n1 U11 p steady\n2 201\n3 201\n4 200\n5 200\n6 200\n7 200\n\
+        tables 4\npool p active steady 1 0 1 spread\nnode 1 p 1 starttaskfailed\njob j p active 0 -\n\
+        task j t active - - 0\nrun 1 start 1 - - ended 1\nrun 2 start 1 - - ended 1\n";
+    assert!(rt; shows(rt.alloc(), WAITING, "4 end 2 1\n", failed)?);
+    let unawaited = "0 add-pool {\"id\":\"p\",\"targetDedicatedNodes\":1,\"startTask\":\
+        {\"commandLine\":\"init\",\"maxTaskRetryCount\":1,\"waitForSuccess\":false}}\n";
+    let unawaited_output =
+        "1 201\n1 U15 p 1 1\n1 U11 p steady\n2 201\n3 201\n3 U16 j t 1 2\n4 200\n5 200\n\
+        tables 2\npool p active steady 1 0 1 spread\nnode 1 p 1 running\njob j p active 0 -\n\
+        task j t running - - 0\nrun 1 start 1 - - ended 1\nrun 2 task 1 j t queued -\nrun 3 start 1 - - queued -\n";
+    assert!(rt; shows(rt.alloc(), unawaited, STARTED, unawaited_output)?);
+    Ok(())
+}
