@@ -1,11 +1,11 @@
 -- Collections of tasks, as far as they are answered.
-use Rattle.std.specs.Prelude.{◌≡◌, ℕ, List, [], ◌∷◌, ◌++◌, map, Option, Some, None}
+use Rattle.std.specs.Prelude.{◌≡◌, List, [], ◌∷◌, ◌++◌, map, Option, Some, None}
 use Rattle.bt_rows.specs.Changes.{apply_changes}
 use Rattle.bt_rows.specs.declared.event.TaskSpec.{TaskSpec}
 use Rattle.bt_rows.specs.declared.refusal.Refusal.{Refusal}
 use Rattle.bt_rows.specs.declared.reply.Element.{Element}
 use Rattle.bt_rows.specs.declared.tables.Change.TheVariants.{PutTask}
-use Rattle.batch_model.specs.Events.{add_each, element_of, task_refusals}
+use Rattle.batch_model.specs.Events.{add_each, task_refusals}
 use Rattle.batch_model.specs.Finding.{first_of}
 use Rattle.batch_model.specs.Tasks.{new_task}
 use Rattle.batch_model.specs.Variants.{State, JobRow, TaskRow}
