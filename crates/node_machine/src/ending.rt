@@ -202,7 +202,7 @@ fn put_end_at(
     }
 }
 
-/// The plan that ends a start run on this node. It is left as it is where it leaves its pool.
+/// The plan that ends a start run on this node, which stays as it is where it is leaving.
 fn put_end_on(
     alloc: Global,
     tables: &Tables,
