@@ -272,5 +272,9 @@ pub fn required_list<'v>(
 pub fn object_item<'v>(value: &'v Value, name: Member) -> Result<&'v Value, Fail<Refusal>>
     ensures { GivesAs (λ v. view v.now) result (object_item (view value.now) name) }
 {
-    if value.is_object() { Ok(value) } else { Err(bad(name)) }
+    if value.is_object() {
+        Ok(value)
+    } else {
+        Err(bad(name))
+    }
 }
