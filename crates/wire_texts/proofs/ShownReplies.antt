@@ -11,6 +11,7 @@ use Rattle.bt_rows.specs.declared.refusal.FormulaFault.TheVariants as faults
 use Rattle.bt_rows.specs.declared.refusal.Refusal.TheVariants as refusals
 use Rattle.bt_rows.specs.declared.reply.Element.TheVariants.{Added, NotAdded}
 use Rattle.bt_rows.specs.declared.reply.Reply.TheVariants as replies
+use Rattle.wire_texts.specs.Lines.{numbered}
 use Rattle.wire_texts.specs.Words.{job_state_word}
 use Rattle.wire_texts.specs.Refusals.{refusal_number, refusal_name, refusal_text, fault_name, table_word}
 use Rattle.wire_texts.specs.Replies.{reply_text}
@@ -105,6 +106,14 @@ refused = refl
 collection : reply_text (replies.Elements (Added (codes "a") ∷ NotAdded (codes "A") refusals.TaskExists ∷ NotAdded (codes "b") refusals.DependenciesOff ∷ Added (codes "c") ∷ [])) ≡ codes "200 201 409 400 201"
 unfolding reply_text digits
 collection = refl
+
+all_added : numbered 3 (reply_text (replies.Elements (Added (codes "a") ∷ Added (codes "b") ∷ Added (codes "c") ∷ Added (codes "d") ∷ []))) ≡ codes "3 200 201 201 201 201\n"
+unfolding reply_text digits numbered
+all_added = refl
+
+none_added : reply_text (replies.Elements []) ≡ codes "200"
+unfolding reply_text digits
+none_added = refl
 
 evaluated : reply_text (replies.Results (codes "error BadCharacter 4")) ≡ codes "200 error BadCharacter 4"
 unfolding reply_text digits
