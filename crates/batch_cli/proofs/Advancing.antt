@@ -1,12 +1,10 @@
 -- From what a call was answered to how the desk goes on.
-use Rattle.std.proofs.Common.{◌≡◌, ◌≤◌, ◌<◌, ◌^◌, ◌+◌, ◌-◌, min, ℕ, zero, suc, Bool, true, false, List, [], ◌∷◌, ◌++◌, Option, length, refl, ap, ◌∙◌, sym, subst, arith, map, take, inl, inr, Result, Ok, Err, OnErr, ◌⊎◌}
+use Rattle.std.proofs.Common.{◌≡◌, ◌≤◌, ◌<◌, ℕ, zero, suc, false, List, [], ◌∷◌, ◌++◌, Option, length, refl, ap, ◌∙◌, sym, subst, arith, take, inl, inr, Result, Ok, Err, OnErr}
 use Rattle.std.proofs.lemmas.List.{length_push, append-nil}
-use Rattle.bt_base.specs.Causes.{Rose}
 use Rattle.bt_base.specs.Content.{Gains, GainsFront}
 use Rattle.bt_base.proofs.Gaining.{gains_nothing}
 use Rattle.bt_rows.specs.declared.event.EventKind.{EventKind}
 use Rattle.bt_rows.specs.declared.refusal.Refusal.{Refusal}
-use Rattle.batch_model.specs.Variants.{State}
 use Rattle.wire_lines.specs.declared.line.LineRequest.{LineRequest}
 use Rattle.wire_lines.specs.declared.line.LineRequest.TheVariants.{Skip, Call}
 use Rattle.wire_texts.specs.Lines.{numbered}
@@ -14,13 +12,12 @@ use Rattle.wire_texts.specs.Refusals.{refusal_text}
 use Rattle.batch_desk.specs.declared.entry.Entry.{Entry}
 use Rattle.batch_desk.specs.declared.answer.Answer.{Answer}
 use Rattle.batch_desk.specs.declared.answer.Answer.TheVariants.{Done, KeeperFault, JournalFull, Memory}
-use Rattle.batch_desk.specs.declared.entry.Stop.{Stop}
 use Rattle.batch_desk.specs.declared.entry.Stop.TheVariants.{Rest, KeeperFault as FaultStop, Memory as MemoryStop}
 use Rattle.batch_desk.specs.Kept.{Desk}
-use Rattle.batch_desk.specs.History.{asked_of, after_call, fault_count, faults_of, fault_entry, done_entry}
-use Rattle.batch_desk.specs.Answers.{Answers, Enters, Stays, HasSameOpening, answer_of}
-use Rattle.batch_cli.specs.Shown.{line_shown, call_shown, answer_text, ran_out, memory_stops, call_in}
-use Rattle.batch_cli.specs.Advance.{Advances, ShowsCall, HaltsCall, Did, CutShort, NotDone, Halts, room_of, RoseBy}
+use Rattle.batch_desk.specs.History.{asked_of, after_call, faults_of}
+use Rattle.batch_desk.specs.Answers.{Answers, Enters, HasSameOpening}
+use Rattle.batch_cli.specs.Shown.{call_shown, answer_text, ran_out}
+use Rattle.batch_cli.specs.Advance.{Advances, ShowsCall, HaltsCall, Did, CutShort, Halts, room_of, RoseBy}
 
 take_none : {A : Type 0} (n : ℕ) → take {A = A} n [] ≡ []
 take_none zero = refl

@@ -1,11 +1,10 @@
 -- A desk goes on by one line more.
-use Rattle.std.proofs.Common.{◌≡◌, ◌≤◌, ◌<◌, ◌^◌, ◌+◌, ◌-◌, min, ℕ, zero, suc, Bool, true, false, ◌||◌, List, [], ◌∷◌, ◌++◌, Option, Result, Ok, Err, length, refl, ap, ◌∙◌, sym, subst, arith, map, take, inl, inr, append_assoc, ◌⊎◌}
+use Rattle.std.proofs.Common.{◌≡◌, ◌≤◌, ◌+◌, ◌-◌, min, ℕ, zero, suc, Bool, true, false, ◌||◌, List, [], ◌∷◌, ◌++◌, Option, Result, Ok, Err, length, refl, ap, ◌∙◌, sym, subst, arith, map, take, inl, inr, append_assoc}
 use Rattle.std.proofs.lemmas.List.{append-nil, length-append, length-map, length-take, map-append, take_at, take-take}
 use Rattle.bt_base.specs.Content.{Gains, GainsFront, Sent}
 use Rattle.bt_base.proofs.Gaining.{gains_nothing, gains_more, sent_short}
 use Rattle.bt_rows.specs.declared.event.EventKind.{EventKind}
 use Rattle.bt_rows.specs.declared.refusal.Refusal.{Refusal}
-use Rattle.batch_model.specs.Variants.{State}
 use Rattle.wire_lines.specs.declared.line.LineRequest.{LineRequest}
 use Rattle.wire_lines.specs.declared.line.LineRequest.TheVariants.{Skip, Call}
 use Rattle.wire_lines.specs.Lines.{line_of}
@@ -15,8 +14,8 @@ use Rattle.batch_desk.specs.Kept.{Desk}
 use Rattle.batch_desk.specs.History.{asked_of, fault_count}
 use Rattle.batch_desk.specs.Answers.{HasSameOpening, Begins}
 use Rattle.batch_cli.specs.Shown.{outputs, calls_of, call_in, is_refused, has_refused, memory_stops, line_shown}
-use Rattle.batch_cli.specs.Advance.{Advances, Did, CutShort, NotDone, Halts, Counts, room_of, RoseBy}
-use Rattle.batch_cli.specs.Going.{Going, Whole, Part, CountsAll}
+use Rattle.batch_cli.specs.Advance.{Advances, Did, Halts, Counts, room_of}
+use Rattle.batch_cli.specs.Going.{Going, Whole, Part}
 use Rattle.batch_cli.specs.declared.tally.Tally.{Tally}
 
 take_none : {A : Type 0} (n : ℕ) → take {A = A} n [] ≡ []

@@ -1,5 +1,5 @@
 -- From the run of an opened desk to the whole run.
-use Rattle.std.proofs.Common.{◌≡◌, ◌≤◌, ◌+◌, ℕ, List, Option, Some, None, IfSome, refl, ap, ◌∙◌, sym, subst, arith, inl, inr, map, take}
+use Rattle.std.proofs.Common.{◌≡◌, ◌≤◌, ℕ, List, Option, Some, None, IfSome, ap, ◌∙◌, sym, subst, arith, inr, map, take}
 use Rattle.std.specs.Str.Lines.{lines}
 use Rattle.bt_base.specs.Content.{Gains, GainsFront}
 use Rattle.batch_model.specs.Opening.{opening}
@@ -12,7 +12,7 @@ use Rattle.batch_desk.specs.Answers.{IsInOrder, Begins, HasSameOpening}
 use Rattle.batch_cli.specs.Shown.{outputs, calls_of}
 use Rattle.batch_cli.specs.Advance.{RoseBy}
 use Rattle.batch_cli.specs.Ending.{ending_of}
-use Rattle.batch_cli.specs.Going.{Whole, Part, NothingDone, EndsWith, DeskRan}
+use Rattle.batch_cli.specs.Going.{Part, NothingDone, EndsWith, DeskRan}
 use Rattle.batch_cli.specs.Headline.{IsDone, IsBegun, IsUntouched, RanWith}
 use Rattle.cli_words.specs.declared.command.ReplayOptions.{ReplayOptions as Options}
 use Rattle.batch_cli.specs.declared.status.Status.{Status}
