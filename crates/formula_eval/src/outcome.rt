@@ -1,11 +1,13 @@
 //! What a formula sets.
-ghost use Rattle.std.specs.Prelude.{◌≡◌, ◌<◌, [], IfOk, option_map, slice_set, vec_len};
+ghost use Rattle.std.specs.Prelude.{◌≡◌, ◌<◌, [], ◌∷◌, ◌++◌, None, IfOk, option_map, slice_set, vec_len};
 ghost use Rattle.std.specs.List.{position};
+ghost use Rattle.name_index.specs.Places.{ArePlaces};
 ghost use Rattle.formula_eval.specs.Outcomes.{is_named, value_among, with_value};
 
 use bt_base::{NoMemory, Text};
 use bt_rows::pool::Dealloc;
 use formula_values::Value;
+use name_index::NameIndex;
 use std::alloc::Global;
 use std::marker::Model;
 
@@ -23,10 +25,12 @@ pub struct Other {
     pub value: Value,
 }
 
-/// Variables with names that differ, in the order in which they were set first. Contracts see them as a list.
+/// Variables with names that differ, in the order in which they were set first. Contracts see them as a list. A name is found
+/// through an index, so that a look-up among n variables takes about log n comparisons.
 #[derive(Debug, Drop)]
 pub struct Others {
     items: Vec<Other>,
+    places: NameIndex,
 }
 
 impl Model for Others {
@@ -36,6 +40,11 @@ impl Model for Others {
     ghost Value = { Items Other };
 
     ghost view = { λ o. o.items.items };
+
+    ghost use Rattle.name_index.specs.Places.{ArePlaces};
+    ghost use Rattle.formula_eval.specs.Outcomes.{is_named};
+
+    ghost invariant = { λ o. ArePlaces is_named o.places o.items.items };
 }
 
 /// What a formula has set: the targets, what becomes of the tasks of a node that leaves, and its own variables.
@@ -53,6 +62,7 @@ impl Others {
     {
         Others {
             items: Vec::new(alloc),
+            places: NameIndex::new(alloc),
         }
     }
 
@@ -67,31 +77,22 @@ impl Others {
     pub fn value(&self, name: &[u8]) -> Option<&Value>
         ensures { option_map (λ known. known.now) result ≡ value_among self.now name.now }
     {
-        for other in self.items.as_slice() {
-            if other.name.as_str().as_bytes() == name {
-                return Some(&other.value);
-            }
-        }
-        None
+        let place = self.places.number(name)?;
+        let other = self.items.as_slice().get(place)?;
+        Some(&other.value)
     }
 
     /// Gives the variable of this name a value; it comes last if it was not set before.
-    pub fn set(&mut self, name: Text, value: Value) -> Result<(), NoMemory>
+    pub fn set(&mut self, alloc: Global, name: Text, value: Value) -> Result<(), NoMemory>
         ensures { IfOk result (λ _. self.new ≡ with_value self.old name value) }
     {
-        match place_of(&self.items, name.as_str()) {
-            Some(place) => put_at(&mut self.items, place, Other { name, value }),
-            None => self.items.push(Other { name, value })?,
+        let other = Other { name, value };
+        match self.places.number(other.name.as_str().as_bytes()) {
+            Some(place) => put_at(&mut self.items, place, other),
+            None => append(alloc, &mut self.items, &mut self.places, other)?,
         }
         Ok(())
     }
-}
-
-/// The place of the variable of this name.
-fn place_of(others: &[Other], name: &str) -> Option<usize>
-    ensures { result ≡ position (is_named name.now) others.now }
-{
-    others.iter().position(|other| other.name.as_str() == name)
 }
 
 fn put_at(others: &mut Vec<Other>, place: usize, other: Other)
@@ -99,4 +100,22 @@ fn put_at(others: &mut Vec<Other>, place: usize, other: Other)
     ensures { others.new.items ≡ slice_set others.old.items place other }
 {
     others[place] = other;
+}
+
+/// Appends a variable whose name is not there. Where memory runs out, nothing changes.
+fn append(
+    alloc: Global,
+    others: &mut Vec<Other>,
+    places: &mut NameIndex,
+    other: Other,
+) -> Result<(), NoMemory>
+    requires places { ArePlaces is_named places.old others.old.items }
+    requires absent { position (is_named other.name) others.old.items ≡ None }
+    ensures appended { IfOk result (λ _. others.new.items ≡ others.old.items ++ other ∷ []) }
+    ensures places { ArePlaces is_named places.new others.new.items }
+{
+    others.reserve(1)?;
+    places.put(alloc, other.name.as_str().as_bytes(), others.len())?;
+    others.push(other)?;
+    Ok(())
 }

@@ -85,7 +85,7 @@ fn set_name(
         },
         None => {
             let name = text_in(alloc, name)?;
-            set.others.set(name, value)?;
+            set.others.set(alloc, name, value)?;
             Ok(())
         }
     }

@@ -67,6 +67,10 @@ fn formulas_have_results(rt: HostRuntime) -> Result<(), TestFail> {
             "$TargetDedicatedNodes=4;$TargetLowPriorityNodes=0;$NodeDeallocationOption=requeue;$x=b;$x=[1,-2.5]",
         ),
         (
+            "bb = 1; a = bb + 1; b = a * 10; bb = b + a + bb; $b = bb",
+            "$TargetDedicatedNodes=4;$TargetLowPriorityNodes=0;$NodeDeallocationOption=requeue;$bb=23;$a=2;$b=20;$b=23",
+        ),
+        (
             "z = TimeInterval_Minute + time(); y = TimeInterval_Year; h = time().hour; o = $NodeDeallocationOption",
             "$TargetDedicatedNodes=4;$TargetLowPriorityNodes=0;$NodeDeallocationOption=requeue;$z=2027-01-15T08:01:00.0000000Z;$y=315360000000000;$h=8;$o=requeue",
         ),

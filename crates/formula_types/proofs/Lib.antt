@@ -3,4 +3,3 @@ pub mod Nodes
 pub mod OneAnswer
 pub mod Rules
 pub mod Steps
-pub mod Variables

@@ -15,11 +15,11 @@ use Rattle.formula_types.specs.Nodes.{first_of, node_type, through, types_behind
 use Rattle.formula_types.specs.declared.fault.TypeFault.{TypeFault}
 use Rattle.formula_types.proofs.Steps.{ends_there, one_more}
 
-abbrev from_first : List ℕ → List scopes.Variable → Tree → ExprType → Option Tree → Result ExprType TypeFault
+abbrev from_first : List ℕ → scopes.Variables → Tree → ExprType → Option Tree → Result ExprType TypeFault
 from_first text set t any None = node_type text set t any
 from_first text set t any (Some f) = type_of text set f >>= node_type text set t
 
-type_from_first : (text : List ℕ) (set : List scopes.Variable) (t : Tree) (any : ExprType) → type_of text set t ≡ from_first text set t any (first_of t)
+type_from_first : (text : List ℕ) (set : scopes.Variables) (t : Tree) (any : ExprType) → type_of text set t ≡ from_first text set t any (first_of t)
 type_from_first text set (Numeral n p) any = refl
 type_from_first text set (Quoted p) any = refl
 type_from_first text set (Variable p) any = refl
@@ -32,35 +32,35 @@ type_from_first text set (Binary o p l r) any = refl
 type_from_first text set (Ternary p c y n) any = refl
 
 -- the type of an expression with a first operand
-pub type_by_first : (text : List ℕ) (set : List scopes.Variable) (t f : Tree) (any : ExprType) → first_of t ≡ Some f → type_of text set t ≡ (type_of text set f >>= node_type text set t)
+pub type_by_first : (text : List ℕ) (set : scopes.Variables) (t f : Tree) (any : ExprType) → first_of t ≡ Some f → type_of text set t ≡ (type_of text set f >>= node_type text set t)
 type_by_first text set t f any e = type_from_first text set t any ∙ ap (from_first text set t any) e
 
 -- the type of an expression without one
-pub type_alone : (text : List ℕ) (set : List scopes.Variable) (t : Tree) (any : ExprType) → first_of t ≡ None → type_of text set t ≡ node_type text set t any
+pub type_alone : (text : List ℕ) (set : scopes.Variables) (t : Tree) (any : ExprType) → first_of t ≡ None → type_of text set t ≡ node_type text set t any
 type_alone text set t any e = type_from_first text set t any ∙ ap (from_first text set t any) e
 
 -- one node more, the innermost
-pub through_push : (text : List ℕ) (set : List scopes.Variable) (es : List (Bor Expr)) (e : Bor Expr) (r : Result ExprType TypeFault) → through text set (es ++ e ∷ []) r ≡ through text set es (r >>= node_type text set (tree_of e.now))
+pub through_push : (text : List ℕ) (set : scopes.Variables) (es : List (Bor Expr)) (e : Bor Expr) (r : Result ExprType TypeFault) → through text set (es ++ e ∷ []) r ≡ through text set es (r >>= node_type text set (tree_of e.now))
 through_push text set [] e r = refl
 through_push text set (x ∷ es) e r = ap (λ q. q >>= node_type text set (tree_of x.now)) (through_push text set es e r)
 
 -- a fault within is the fault of the whole
-pub through_fault : (text : List ℕ) (set : List scopes.Variable) (es : List (Bor Expr)) (f : TypeFault) → through text set es (Err f) ≡ Err f
+pub through_fault : (text : List ℕ) (set : scopes.Variables) (es : List (Bor Expr)) (f : TypeFault) → through text set es (Err f) ≡ Err f
 through_fault text set [] f = refl
 through_fault text set (x ∷ es) f = ap (λ q. q >>= node_type text set (tree_of x.now)) (through_fault text set es f)
 
-types_behind_front : (text : List ℕ) (set : List scopes.Variable) (front : Trees) (es : List Expr) → types_of text set (trees_behind front es) ≡ (types_of text set front >>= (λ types. types_behind text set types es))
+types_behind_front : (text : List ℕ) (set : scopes.Variables) (front : Trees) (es : List Expr) → types_of text set (trees_behind front es) ≡ (types_of text set front >>= (λ types. types_behind text set types es))
 types_behind_front text set front [] = ends_there (types_of text set front)
 types_behind_front text set front (e ∷ es) =
     types_behind_front text set (more front (tree_of e)) es
     ∙ one_more (types_of text set front) (type_of text set (tree_of e)) (λ types. types_behind text set types es)
 
 -- the types of all arguments, from the first on
-pub types_in_order : (text : List ℕ) (set : List scopes.Variable) (es : List Expr) → types_of text set (trees_of es) ≡ types_behind text set [] es
+pub types_in_order : (text : List ℕ) (set : scopes.Variables) (es : List Expr) → types_of text set (trees_of es) ≡ types_behind text set [] es
 types_in_order text set es = types_behind_front text set none es
 
 -- the innermost node gave a type
-pub through_pop : (text : List ℕ) (set : List scopes.Variable) (all rest : List (Bor Expr)) (node : Bor Expr) (found next : ExprType) (whole : Result ExprType TypeFault) → all ≡ rest ++ node ∷ [] → through text set all (Ok found) ≡ whole → node_type text set (tree_of node.now) found ≡ Ok next → through text set rest (Ok next) ≡ whole
+pub through_pop : (text : List ℕ) (set : scopes.Variables) (all rest : List (Bor Expr)) (node : Bor Expr) (found next : ExprType) (whole : Result ExprType TypeFault) → all ≡ rest ++ node ∷ [] → through text set all (Ok found) ≡ whole → node_type text set (tree_of node.now) found ≡ Ok next → through text set rest (Ok next) ≡ whole
 through_pop text set all rest node found next whole e h is =
     ap (through text set rest) (sym is)
     ∙ sym (through_push text set rest node (Ok found))
@@ -68,7 +68,7 @@ through_pop text set all rest node found next whole e h is =
     ∙ h
 
 -- the innermost node has a fault
-pub through_fails : (text : List ℕ) (set : List scopes.Variable) (all rest : List (Bor Expr)) (node : Bor Expr) (found : ExprType) (whole : Result ExprType TypeFault) (f : Fail TypeFault) → all ≡ rest ++ node ∷ [] → through text set all (Ok found) ≡ whole → Fails f (node_type text set (tree_of node.now) found) → Fails f whole
+pub through_fails : (text : List ℕ) (set : scopes.Variables) (all rest : List (Bor Expr)) (node : Bor Expr) (found : ExprType) (whole : Result ExprType TypeFault) (f : Fail TypeFault) → all ≡ rest ++ node ∷ [] → through text set all (Ok found) ≡ whole → Fails f (node_type text set (tree_of node.now) found) → Fails f whole
 through_fails text set all rest node found whole Memory e h is = tt
 through_fails text set all rest node found whole (Why g) e h is =
     sym h
@@ -78,7 +78,7 @@ through_fails text set all rest node found whole (Why g) e h is =
     ∙ through_fault text set rest g
 
 -- an argument has a fault
-pub arguments_fail : (text : List ℕ) (set : List scopes.Variable) (types : List ExprType) (es : List Expr) (i : ℕ) (e : Expr) (f : Fail TypeFault) → e ≡ get_or es i e → i < length es → types_behind text set types (drop i es) ≡ types_behind text set [] es → Fails f (type_of text set (tree_of e)) → Fails f (types_of text set (trees_of es))
+pub arguments_fail : (text : List ℕ) (set : scopes.Variables) (types : List ExprType) (es : List Expr) (i : ℕ) (e : Expr) (f : Fail TypeFault) → e ≡ get_or es i e → i < length es → types_behind text set types (drop i es) ≡ types_behind text set [] es → Fails f (type_of text set (tree_of e)) → Fails f (types_of text set (trees_of es))
 arguments_fail text set types es i e Memory is lt h fails = tt
 arguments_fail text set types es i e (Why g) is lt h fails =
     types_in_order text set es
@@ -87,6 +87,6 @@ arguments_fail text set types es i e (Why g) is lt h fails =
     ∙ ap (λ r. r >>= (λ type. types_behind text set (types ++ type ∷ []) (drop (suc i) es))) fails
 
 -- all arguments have types
-pub arguments_typed : (text : List ℕ) (set : List scopes.Variable) (types : List ExprType) (es : List Expr) (i : ℕ) → length es ≤ i → types_behind text set types (drop i es) ≡ types_behind text set [] es → types_of text set (trees_of es) ≡ Ok types
+pub arguments_typed : (text : List ℕ) (set : scopes.Variables) (types : List ExprType) (es : List Expr) (i : ℕ) → length es ≤ i → types_behind text set types (drop i es) ≡ types_behind text set [] es → types_of text set (trees_of es) ≡ Ok types
 arguments_typed text set types es i past h =
     types_in_order text set es ∙ sym h ∙ at_drop_all (types_behind text set types) es i past

@@ -17,7 +17,7 @@ use Rattle.formula_names.specs.Operators.{unary_type, binary_type, ternary_type}
 use Rattle.formula_names.specs.Signatures.{is_double, is_timestamp, function_takes, function_gives, method_takes, method_gives}
 use Rattle.formula_types.specs.declared.fault.TypeFault.TheVariants.{TypeMismatch, WrongArguments}
 use Rattle.formula_types.specs.Scopes as scopes
-use Rattle.formula_types.specs.Scopes.{part, name_type, or_else, type_among}
+use Rattle.formula_types.specs.Scopes.{part, name_type, or_else}
 use Rattle.formula_types.specs.Typing.{type_of, types_of, or_mismatch, name_at, call_at, list_at, member_at, method_at, is_metric}
 use Rattle.formula_types.specs.Rules as rules
 use Rattle.formula_types.specs.Rules.{HasType, HaveTypes}
@@ -76,7 +76,7 @@ some_metric : (o : Option Metric) → is_some o ≡ true → (m : Metric) × (o 
 some_metric None e = cc
 some_metric (Some m) e = (m, refl)
 
-method_of : (text : List ℕ) (set : List scopes.Variable) (t : Tree) (p : Span) (args : Trees) (m : AMethod) (types : List ExprType) → is_metric text t ≡ true → method_named (part text p) ≡ Some m → HaveTypes text set args types → method_takes m types ≡ true → HasType text set (Method t p args) (method_gives m)
+method_of : (text : List ℕ) (set : scopes.Variables) (t : Tree) (p : Span) (args : Trees) (m : AMethod) (types : List ExprType) → is_metric text t ≡ true → method_named (part text p) ≡ Some m → HaveTypes text set args types → method_takes m types ≡ true → HasType text set (Method t p args) (method_gives m)
 method_of text set (Variable q) p args m types is e h takes =
     let metric = some_metric (metric_named (part text q)) is in rules.method q p metric.0 m metric.1 e h takes
 method_of text set (Numeral n q) p args m types is e h takes = cc
@@ -91,7 +91,7 @@ method_of text set (Ternary q c y n) p args m types is e h takes = cc
 
 mutual
   -- a type that the definition gives is one by the rules
-  pub by_rules : (text : List ℕ) (set : List scopes.Variable) (t : Tree) (type : ExprType) → type_of text set t ≡ Ok type → HasType text set t type
+  pub by_rules : (text : List ℕ) (set : scopes.Variables) (t : Tree) (type : ExprType) → type_of text set t ≡ Ok type → HasType text set t type
   by_rules text set (Numeral n p) type e = subst (HasType text set (Numeral n p)) (ok_same _ type e) (rules.number n p)
   by_rules text set (Quoted p) type e = subst (HasType text set (Quoted p)) (ok_same _ type e) (rules.quoted p)
   by_rules text set (Variable p) type e =
@@ -127,7 +127,7 @@ mutual
       let w = both (type_of text set n) (λ second. or_mismatch p (ternary_type u.0 v.0 second)) type v.2 in
       rules.ternary p u.0 v.0 w.0 type (by_rules text set c u.0 u.1) (by_rules text set y v.0 v.1) (by_rules text set n w.0 w.1) (matched p (ternary_type u.0 v.0 w.0) type w.2)
 
-  pub all_by_rules : (text : List ℕ) (set : List scopes.Variable) (ts : Trees) (types : List ExprType) → types_of text set ts ≡ Ok types → HaveTypes text set ts types
+  pub all_by_rules : (text : List ℕ) (set : scopes.Variables) (ts : Trees) (types : List ExprType) → types_of text set ts ≡ Ok types → HaveTypes text set ts types
   all_by_rules text set none types e = subst (HaveTypes text set none) (ok_same _ types e) rules.no_types
   all_by_rules text set (more front last) types e =
       let x = both (types_of text set front) (λ before. type_of text set last >>= (λ type. Ok (before ++ type ∷ []))) types e in
@@ -142,12 +142,12 @@ metric_fixed : (name : List ℕ) (m : Metric) → metric_named name ≡ Some m �
 unfolding fixed_type
 metric_fixed name m e = passes (is_some (metric_named name)) (Some Double) _ (ap is_some e)
 
-metric_typed : (text : List ℕ) (set : List scopes.Variable) (q : Span) (m : Metric) → metric_named (part text q) ≡ Some m → type_of text set (Variable q) ≡ Ok (Value Double)
-metric_typed text set q m e = ap (λ o. name_at q (or_else o (type_among set (part text q)))) (metric_fixed (part text q) m e)
+metric_typed : (text : List ℕ) (set : scopes.Variables) (q : Span) (m : Metric) → metric_named (part text q) ≡ Some m → type_of text set (Variable q) ≡ Ok (Value Double)
+metric_typed text set q m e = ap (λ o. name_at q (or_else o (set (part text q)))) (metric_fixed (part text q) m e)
 
 mutual
   -- a type by the rules is the one that the definition gives
-  pub by_definition : (text : List ℕ) (set : List scopes.Variable) (t : Tree) (type : ExprType) → HasType text set t type → type_of text set t ≡ Ok type
+  pub by_definition : (text : List ℕ) (set : scopes.Variables) (t : Tree) (type : ExprType) → HasType text set t type → type_of text set t ≡ Ok type
   by_definition text set _ _ (rules.number n p) = refl
   by_definition text set _ _ (rules.quoted p) = refl
   by_definition text set _ _ (rules.name p v e) = ap (name_at p) e
@@ -175,7 +175,7 @@ mutual
       ∙ goes_on _ _ unmet (by_definition text set n unmet third)
       ∙ ap (or_mismatch p) e
 
-  pub all_by_definition : (text : List ℕ) (set : List scopes.Variable) (ts : Trees) (types : List ExprType) → HaveTypes text set ts types → types_of text set ts ≡ Ok types
+  pub all_by_definition : (text : List ℕ) (set : scopes.Variables) (ts : Trees) (types : List ExprType) → HaveTypes text set ts types → types_of text set ts ≡ Ok types
   all_by_definition text set _ _ rules.no_types = refl
   all_by_definition text set _ _ (rules.types {front = front} {last = last} before type h g) =
       goes_on _ _ before (all_by_definition text set front before h) ∙ goes_on _ _ type (by_definition text set last type g)

@@ -1,5 +1,5 @@
 -- What a text is as a formula: its statements, which have types, or its first fault. The text is lexed whole, then read, then typed.
-use Rattle.std.specs.Prelude.{◌≡◌, ℕ, Bool, true, List, [], length, Some, None, Result, Ok, Err, is_ok}
+use Rattle.std.specs.Prelude.{◌≡◌, ℕ, Bool, true, List, length, Some, None, Result, Ok, Err, is_ok}
 use Rattle.bt_base.specs.declared.fail.Fail.{Fail}
 use Rattle.bt_base.specs.declared.fail.Fail.TheVariants.{Memory, Why}
 use Rattle.formula_lex.specs.declared.fault.LexFault.{LexFault}
@@ -10,6 +10,7 @@ use Rattle.formula_trees.specs.declared.fault.SyntaxFault.{SyntaxFault}
 use Rattle.formula_trees.specs.declared.fault.SyntaxFault.TheVariants as syntactic
 use Rattle.formula_trees.specs.Formula.{StatementTree}
 use Rattle.formula_trees.specs.TheFormula.{IsTheFormula, fault_in}
+use Rattle.formula_types.specs.Scopes.{nothing}
 use Rattle.formula_types.specs.declared.fault.TypeFault.{TypeFault}
 use Rattle.formula_types.specs.declared.fault.TypeFault.TheVariants as types
 use Rattle.formula_types.specs.declared.fault.FormulaFault.{FormulaFault}
@@ -39,7 +40,7 @@ pub record IsRead (text : List ℕ) (tokens : List Token) (ss : List StatementTr
 
 -- each expression of these statements has a type
 abbrev pub have_types : List ℕ → List StatementTree → Bool
-have_types text ss = is_ok (typed text [] ss)
+have_types text ss = is_ok (typed text nothing ss)
 
 -- the text is the formula of these statements
 pub record IsFormula (text : List ℕ) (ss : List StatementTree) : Type 0 where
@@ -51,7 +52,7 @@ pub record IsFormula (text : List ℕ) (ss : List StatementTree) : Type 0 where
 pub data HasFault : List ℕ → FormulaFault → Type 0 where
   in_tokens : {text : List ℕ} (f : LexFault) → lexed text ≡ Err f → HasFault text (of_lexical f)
   in_syntax : {text : List ℕ} {tokens : List Token} (f : SyntaxFault) → lexed text ≡ Ok tokens → fault_in tokens (length text) ≡ Some f → HasFault text (of_syntax f)
-  in_types : {text : List ℕ} {tokens : List Token} {ss : List StatementTree} (f : TypeFault) → IsRead text tokens ss → typed text [] ss ≡ Err f → HasFault text (of_type f)
+  in_types : {text : List ℕ} {tokens : List Token} {ss : List StatementTree} (f : TypeFault) → IsRead text tokens ss → typed text nothing ss ≡ Err f → HasFault text (of_type f)
 
 -- the answer is a value with this property, or the text's first fault, unless memory ran out
 abbrev pub OrFault : {X : Type 0} → List ℕ → (X → Type 0) → Result X (Fail FormulaFault) → Type 0

@@ -23,7 +23,7 @@ first_of (Ternary p c y n) = Some c
 first_of _ = None
 
 -- the type of a node whose first operand has this type, if it has one
-abbrev pub node_type : List ℕ → List scopes.Variable → Tree → ExprType → Result ExprType TypeFault
+abbrev pub node_type : List ℕ → scopes.Variables → Tree → ExprType → Result ExprType TypeFault
 node_type text set (Member t p) first = member_at p (member_named (part text p)) first
 node_type text set (Method t p args) first = types_of text set args >>= method_at p (method_named (part text p)) (is_metric text t)
 node_type text set (Unary o p t) first = or_mismatch p (unary_type o first)
@@ -32,11 +32,11 @@ node_type text set (Ternary p c y n) first = type_of text set y >>= (λ met. typ
 node_type text set t first = type_of text set t
 
 -- the type of the first of these nodes, each of which is the first operand of the one before it, from that of the last one's first operand
-abbrev pub through : List ℕ → List scopes.Variable → List (Bor Expr) → Result ExprType TypeFault → Result ExprType TypeFault
+abbrev pub through : List ℕ → scopes.Variables → List (Bor Expr) → Result ExprType TypeFault → Result ExprType TypeFault
 through text set [] innermost = innermost
 through text set (e ∷ es) innermost = through text set es innermost >>= node_type text set (tree_of e.now)
 
 -- the types of arguments, behind those of others
-abbrev pub types_behind : List ℕ → List scopes.Variable → List ExprType → List Expr → Result (List ExprType) TypeFault
+abbrev pub types_behind : List ℕ → scopes.Variables → List ExprType → List Expr → Result (List ExprType) TypeFault
 types_behind text set types [] = Ok types
 types_behind text set types (e ∷ es) = type_of text set (tree_of e) >>= (λ type. types_behind text set (types ++ type ∷ []) es)

@@ -58,7 +58,7 @@ is_metric text _ = false
 
 abbrev mutual
   -- the type of an expression of a text, where these variables are set
-  pub type_of : List ℕ → List scopes.Variable → Tree → Result ExprType TypeFault
+  pub type_of : List ℕ → scopes.Variables → Tree → Result ExprType TypeFault
   type_of text set (Numeral n p) = Ok (Value Double)
   type_of text set (Quoted p) = Ok (Value Text)
   type_of text set (Variable p) = name_at p (name_type set (part text p))
@@ -74,29 +74,29 @@ abbrev mutual
       type_of text set c >>= (λ condition. type_of text set y >>= (λ first. type_of text set n >>= (λ second. or_mismatch p (ternary_type condition first second))))
 
   -- the types of arguments or items
-  pub types_of : List ℕ → List scopes.Variable → Trees → Result (List ExprType) TypeFault
+  pub types_of : List ℕ → scopes.Variables → Trees → Result (List ExprType) TypeFault
   types_of text set none = Ok []
   types_of text set (more front last) =
       types_of text set front >>= (λ types. type_of text set last >>= (λ type. Ok (types ++ type ∷ [])))
 
 -- the variables once a name has a value of this type, where it had this one before or none
-abbrev pub set_to : List scopes.Variable → Span → List ℕ → Option ValueType → ExprType → Result (List scopes.Variable) TypeFault
+abbrev pub set_to : scopes.Variables → Span → List ℕ → Option ValueType → ExprType → Result scopes.Variables TypeFault
 set_to set p name before Stop = Err (TypeMismatch p.from)
 set_to set p name None (Value value) = Ok (with_variable set name value)
 set_to set p name (Some before) (Value value) = if is_some (common_type before value) then Ok set else Err (TypeMismatch p.from)
 
 -- the variables once a name is set, or why it cannot be
-abbrev pub assigned : List ℕ → List scopes.Variable → Span → ExprType → Result (List scopes.Variable) TypeFault
+abbrev pub assigned : List ℕ → scopes.Variables → Span → ExprType → Result scopes.Variables TypeFault
 assigned text set p type =
     if is_read_only (part text p) then Err (ReadOnly p.from)
     else set_to set p (part text p) (name_type set (part text p)) type
 
 -- the variables behind a statement. Any expression may stand alone.
-abbrev pub statement_typed : List ℕ → List scopes.Variable → StatementTree → Result (List scopes.Variable) TypeFault
+abbrev pub statement_typed : List ℕ → scopes.Variables → StatementTree → Result scopes.Variables TypeFault
 statement_typed text set (Sets p t) = type_of text set t >>= assigned text set p
 statement_typed text set (Drops t) = type_of text set t >>= (λ dropped. Ok set)
 
 -- the variables behind statements, one after the other
-abbrev pub typed : List ℕ → List scopes.Variable → List StatementTree → Result (List scopes.Variable) TypeFault
+abbrev pub typed : List ℕ → scopes.Variables → List StatementTree → Result scopes.Variables TypeFault
 typed text set [] = Ok set
 typed text set (s ∷ ss) = statement_typed text set s >>= (λ next. typed text next ss)

@@ -1,8 +1,9 @@
--- The variables that the program keeps: the parts of the text where they were set first.
-use Rattle.std.specs.Prelude.{ℕ, List, [], ◌∷◌}
-use Rattle.formula_types.specs.declared.scope.Variable.{Variable as AVariable}
-use Rattle.formula_types.specs.Scopes.{Variable, part}
+-- The variables that the program keeps.
+use Rattle.std.specs.BTreeMap.{get_by}
+use Rattle.std.specs.Cmp.Lexicographic.{slice_cmp}
+use Rattle.std.specs.Ordering.{nat_cmp}
+use Rattle.formula_types.specs.declared.scope.Scope.{Scope}
+use Rattle.formula_types.specs.Scopes.{Variables}
 
-abbrev pub variables_of : List ℕ → List AVariable → List Variable
-variables_of text [] = []
-variables_of text (v ∷ set) = (part text v.name, v.value) ∷ variables_of text set
+unfoldable pub types_in : Scope → Variables
+types_in scope name = get_by (λ k. slice_cmp nat_cmp name k.now) scope.types

@@ -1,16 +1,18 @@
 //! Parts of a formula's text, and the variables that it sets.
-ghost use Rattle.std.specs.Prelude.{◌≡◌};
-ghost use Rattle.formula_types.specs.Scopes.{part, type_among, name_type};
-ghost use Rattle.formula_types.specs.View.{variables_of};
+ghost use Rattle.std.specs.Prelude.{◌≡◌, OnOk};
+ghost use Rattle.formula_types.specs.Scopes.{part, nothing, name_type, with_variable};
 
+use bt_base::NoMemory;
 use formula_lex::Span;
 use formula_names::{ValueType, fixed_type};
+use std::alloc::Global;
+use std::collections::BTreeMap;
 
-/// A variable of the formula's own: the part of the text where it was set first, and the type that it got there.
-#[derive(Clone, Copy, Debug)]
-pub struct Variable {
-    pub name: Span,
-    pub value: ValueType,
+/// The formula's own variables that are set so far, each with the type that it got where it was set first. A look-up among n of
+/// them takes about log n comparisons.
+#[derive(Drop)]
+pub struct Scope<'a> {
+    types: BTreeMap<&'a [u8], ValueType>,
 }
 
 /// A part of a text. It takes no memory.
@@ -22,24 +24,35 @@ pub fn part(text: &[u8], span: Span) -> &[u8]
     &behind[..length.min(behind.len())]
 }
 
-/// The type of the variable of this name, if it is set.
-fn type_among(text: &[u8], variables: &[Variable], name: &[u8]) -> Option<ValueType>
-    ensures { result ≡ type_among (variables_of text.now variables.now) name.now }
-{
-    for variable in variables {
-        if part(text, variable.name) == name {
-            return Some(variable.value);
+impl<'a> Scope<'a> {
+    ghost use Rattle.formula_types.specs.View.{types_in};
+
+    /// No variables. It takes no memory.
+    #[tactic(auto, unfolding(crate::specs::View::types_in))]
+    pub fn new(alloc: Global) -> Scope<'a>
+        ensures { types_in result ≡ nothing }
+    {
+        Scope {
+            types: BTreeMap::new(alloc),
         }
     }
-    None
-}
 
-/// The type of a name, where these variables are set.
-pub fn name_type(text: &[u8], variables: &[Variable], name: &[u8]) -> Option<ValueType>
-    ensures { result ≡ name_type (variables_of text.now variables.now) name.now }
-{
-    match fixed_type(name) {
-        Some(value) => Some(value),
-        None => type_among(text, variables, name),
+    /// The type of a name, if it has one: of the language's own names, and of variables that are set. It takes no memory.
+    #[tactic(auto, unfolding(crate::specs::View::types_in))]
+    pub fn name_type(&self, name: &[u8]) -> Option<ValueType>
+        ensures { result ≡ name_type (types_in self.now) name.now }
+    {
+        match fixed_type(name) {
+            Some(value) => Some(value),
+            None => self.types.get(name).copied(),
+        }
+    }
+
+    /// Gives a variable a type.
+    pub fn set(&mut self, name: &'a [u8], value: ValueType) -> Result<(), NoMemory>
+        ensures { OnOk result (types_in self.new ≡ with_variable (types_in self.old) name.now value) }
+    {
+        self.types.insert(name, value)?;
+        Ok(())
     }
 }

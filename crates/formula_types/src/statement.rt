@@ -2,13 +2,12 @@
 ghost use Rattle.bt_base.specs.Fails.{GivesAs};
 ghost use Rattle.formula_trees.specs.View.{statement_of, statements_of};
 ghost use Rattle.formula_types.specs.Typing.{assigned, set_to, statement_typed, typed};
-ghost use Rattle.formula_types.specs.View.{variables_of};
-ghost use Rattle.std.specs.Prelude.{ℕ, List, []};
+ghost use Rattle.formula_types.specs.View.{types_in};
 ghost use Rattle.formula_names.specs.declared.value_types.ExprType.TheVariants.{Value};
-ghost use Rattle.formula_types.specs.Scopes.{part as part_of};
+ghost use Rattle.formula_types.specs.Scopes.{nothing};
 
 use crate::fault::TypeFault;
-use crate::scope::{Variable, name_type, part};
+use crate::scope::{Scope, part};
 use crate::typing::type_of;
 use bt_base::Fail;
 use formula_lex::Span;
@@ -16,84 +15,85 @@ use formula_names::{ExprType, ValueType, common_type, is_read_only};
 use formula_trees::Statement;
 use std::alloc::Global;
 
-/// Sets a name to a value of this type, where it had one of that type before or none.
-fn set(
-    variables: &mut Vec<Variable>,
-    name: Span,
+/// Sets the name at this part of the text to a value of this type, where it had one of that type before or none.
+fn set<'a>(
+    scope: &mut Scope<'a>,
+    span: Span,
+    name: &'a [u8],
     before: Option<ValueType>,
     value: ValueType,
 ) -> Result<(), Fail<TypeFault>>
-    ensures { (text : List ℕ) → GivesAs (λ _. variables_of text variables.new.items) result (set_to (variables_of text variables.old.items) name (part_of text name) before (Value value)) }
+    ensures { GivesAs (λ _. types_in scope.new) result (set_to (types_in scope.old) span name.now before (Value value)) }
 {
     match before {
         None => {
-            variables.push(Variable { name, value })?;
+            scope.set(name, value)?;
             Ok(())
         }
         Some(before) => {
             if common_type(before, value).is_some() {
                 Ok(())
             } else {
-                Err(Fail::Why(TypeFault::TypeMismatch(name.from)))
+                Err(Fail::Why(TypeFault::TypeMismatch(span.from)))
             }
         }
     }
 }
 
 /// Sets the name at this part of the text, if it can be set.
-fn assign(
-    text: &[u8],
-    variables: &mut Vec<Variable>,
-    name: Span,
+fn assign<'a>(
+    text: &'a [u8],
+    scope: &mut Scope<'a>,
+    span: Span,
     found: ExprType,
 ) -> Result<(), Fail<TypeFault>>
-    ensures { GivesAs (λ _. variables_of text.now variables.new.items) result (assigned text.now (variables_of text.now variables.old.items) name found) }
+    ensures { GivesAs (λ _. types_in scope.new) result (assigned text.now (types_in scope.old) span found) }
 {
-    let bytes = part(text, name);
-    if is_read_only(bytes) {
-        return Err(Fail::Why(TypeFault::ReadOnly(name.from)));
+    let name = part(text, span);
+    if is_read_only(name) {
+        return Err(Fail::Why(TypeFault::ReadOnly(span.from)));
     }
     match found {
-        ExprType::Stop => Err(Fail::Why(TypeFault::TypeMismatch(name.from))),
+        ExprType::Stop => Err(Fail::Why(TypeFault::TypeMismatch(span.from))),
         ExprType::Value(value) => {
-            let before = name_type(text, variables, bytes);
-            set(variables, name, before, value)
+            let before = scope.name_type(name);
+            set(scope, span, name, before, value)
         }
     }
 }
 
 /// Takes a statement behind those before it.
-fn take(
+fn take<'a>(
     alloc: Global,
-    text: &[u8],
-    variables: &mut Vec<Variable>,
+    text: &'a [u8],
+    scope: &mut Scope<'a>,
     statement: &Statement,
 ) -> Result<(), Fail<TypeFault>>
-    ensures { GivesAs (λ _. variables_of text.now variables.new.items) result (statement_typed text.now (variables_of text.now variables.old.items) (statement_of statement.now)) }
+    ensures { GivesAs (λ _. types_in scope.new) result (statement_typed text.now (types_in scope.old) (statement_of statement.now)) }
 {
     match statement {
         Statement::Assign(name, expr) => {
-            let found = type_of(alloc, text, variables, expr)?;
-            assign(text, variables, *name, found)
+            let found = type_of(alloc, text, scope, expr)?;
+            assign(text, scope, *name, found)
         }
         Statement::Expression(expr) => {
-            type_of(alloc, text, variables, expr)?;
+            type_of(alloc, text, scope, expr)?;
             Ok(())
         }
     }
 }
 
 /// The variables behind the statements of a formula, or their first fault.
-pub fn check(
+pub fn check<'a>(
     alloc: Global,
-    text: &[u8],
+    text: &'a [u8],
     statements: &[Statement],
-) -> Result<Vec<Variable>, Fail<TypeFault>>
-    ensures { GivesAs (λ variables. variables_of text.now variables.items) result (typed text.now [] (statements_of statements.now)) }
+) -> Result<Scope<'a>, Fail<TypeFault>>
+    ensures { GivesAs types_in result (typed text.now nothing (statements_of statements.now)) }
 {
-    let mut variables = Vec::new(alloc);
+    let mut scope = Scope::new(alloc);
     for statement in statements {
-        take(alloc, text, &mut variables, statement)?;
+        take(alloc, text, &mut scope, statement)?;
     }
-    Ok(variables)
+    Ok(scope)
 }

@@ -9,12 +9,12 @@ ghost use Rattle.formula_types.specs.Scopes as scopes;
 ghost use Rattle.formula_types.specs.Scopes.{part as part_of};
 ghost use Rattle.formula_types.specs.Typing.{type_of, types_of, or_mismatch, name_at, call_at, list_at, member_at, method_at, is_metric};
 ghost use Rattle.formula_types.specs.Nodes.{first_of, node_type, through};
-ghost use Rattle.formula_types.specs.View.{variables_of};
+ghost use Rattle.formula_types.specs.View.{types_in};
 ghost use Rattle.formula_types.specs.Rules.{HasType};
 ghost use Rattle.formula_trees.specs.Tree.{Tree};
 
 use crate::fault::TypeFault;
-use crate::scope::{Variable, name_type, part};
+use crate::scope::{Scope, part};
 use bt_base::Fail;
 use formula_lex::Span;
 use formula_names::{
@@ -36,10 +36,10 @@ fn or_mismatch(span: Span, found: Option<ExprType>) -> Result<ExprType, Fail<Typ
 }
 
 /// The type of a name alone.
-fn name_at(text: &[u8], variables: &[Variable], span: Span) -> Result<ExprType, Fail<TypeFault>>
-    ensures { Gives result (name_at span (scopes.name_type (variables_of text.now variables.now) (part_of text.now span))) }
+fn name_at(text: &[u8], scope: &Scope, span: Span) -> Result<ExprType, Fail<TypeFault>>
+    ensures { Gives result (name_at span (scopes.name_type (types_in scope.now) (part_of text.now span))) }
 {
-    match name_type(text, variables, part(text, span)) {
+    match scope.name_type(part(text, span)) {
         Some(value) => Ok(ExprType::Value(value)),
         None => Err(Fail::Why(TypeFault::UnknownName(span.from))),
     }
@@ -138,7 +138,7 @@ fn first_operand(expr: &Expr) -> Option<&Expr>
 
 /// The nodes of an expression from the whole down to the operand that is typed first.
 fn spine(alloc: Global, expr: &Expr) -> Result<Vec<&Expr>, AllocError>
-    ensures value { IfOk result (λ nodes. (text : List ℕ) (set : List scopes.Variable) (any : AType) → through text set nodes.items (Ok any) ≡ type_of text set (tree_of expr.now)) }
+    ensures value { IfOk result (λ nodes. (text : List ℕ) (set : scopes.Variables) (any : AType) → through text set nodes.items (Ok any) ≡ type_of text set (tree_of expr.now)) }
     ensures within { IfOk result (λ nodes. All (λ node. size-Expr node.now ≤ size-Expr expr.now) nodes.items) }
 {
     let mut nodes = Vec::new(alloc);
@@ -156,14 +156,14 @@ fn spine(alloc: Global, expr: &Expr) -> Result<Vec<&Expr>, AllocError>
 fn types_of(
     alloc: Global,
     text: &[u8],
-    variables: &[Variable],
+    scope: &Scope,
     items: &[Expr],
 ) -> Result<Vec<ExprType>, Fail<TypeFault>>
-    ensures { GivesAs (λ types. types.items) result (types_of text.now (variables_of text.now variables.now) (trees_of items.now)) }
+    ensures { GivesAs (λ types. types.items) result (types_of text.now (types_in scope.now) (trees_of items.now)) }
 {
     let mut types = Vec::new(alloc);
     for item in items {
-        let found = type_of(alloc, text, variables, item)?;
+        let found = type_of(alloc, text, scope, item)?;
         types.push(found)?;
     }
     Ok(types)
@@ -174,37 +174,37 @@ fn types_of(
 fn node_type(
     alloc: Global,
     text: &[u8],
-    variables: &[Variable],
+    scope: &Scope,
     node: &Expr,
     first: ExprType,
 ) -> Result<ExprType, Fail<TypeFault>>
-    ensures { Gives result (node_type text.now (variables_of text.now variables.now) (tree_of node.now) first) }
+    ensures { Gives result (node_type text.now (types_in scope.now) (tree_of node.now) first) }
 {
     match node {
         Expr::Number(_, _) => Ok(ExprType::Value(ValueType::Double)),
         Expr::Text(_) => Ok(ExprType::Value(ValueType::Text)),
-        Expr::Name(span) => name_at(text, variables, *span),
+        Expr::Name(span) => name_at(text, scope, *span),
         Expr::Call(span, arguments) => {
-            let types = types_of(alloc, text, variables, arguments)?;
+            let types = types_of(alloc, text, scope, arguments)?;
             call_at(text, *span, &types)
         }
         Expr::List(span, items) => {
-            let types = types_of(alloc, text, variables, items)?;
+            let types = types_of(alloc, text, scope, items)?;
             list_at(*span, &types)
         }
         Expr::Member(_, span) => member_at(text, *span, first),
         Expr::Method(operand, span, arguments) => {
-            let types = types_of(alloc, text, variables, arguments)?;
+            let types = types_of(alloc, text, scope, arguments)?;
             method_at(text, *span, is_metric(text, operand), &types)
         }
         Expr::Unary(operator, span, _) => or_mismatch(*span, unary_type(*operator, first)),
         Expr::Binary(operator, span, _, right) => {
-            let right = type_of(alloc, text, variables, right)?;
+            let right = type_of(alloc, text, scope, right)?;
             or_mismatch(*span, binary_type(*operator, first, right))
         }
         Expr::Ternary(span, _, yes, other) => {
-            let met = type_of(alloc, text, variables, yes)?;
-            let unmet = type_of(alloc, text, variables, other)?;
+            let met = type_of(alloc, text, scope, yes)?;
+            let unmet = type_of(alloc, text, scope, other)?;
             or_mismatch(*span, ternary_type(first, met, unmet))
         }
     }
@@ -216,20 +216,20 @@ fn node_type(
 pub fn type_of(
     alloc: Global,
     text: &[u8],
-    variables: &[Variable],
+    scope: &Scope,
     expr: &Expr,
 ) -> Result<ExprType, Fail<TypeFault>>
-    ensures { Gives result (type_of text.now (variables_of text.now variables.now) (tree_of expr.now)) }
+    ensures { Gives result (type_of text.now (types_in scope.now) (tree_of expr.now)) }
 {
     let mut nodes = spine(alloc, expr)?;
     let mut found = ExprType::Stop;
     'up: while let Some(node) = nodes.pop() {
-        found = node_type(alloc, text, variables, node, found)?;
+        found = node_type(alloc, text, scope, node, found)?;
     }
     Ok(found)
 }
 
 /// A type is found exactly where the rules give it.
 pub fn types_by_rules()
-    ensures { (text : List ℕ) (set : List scopes.Variable) (tree : Tree) (found : AType) → type_of text set tree ≡ Ok found ↔ HasType text set tree found }
+    ensures { (text : List ℕ) (set : scopes.Variables) (tree : Tree) (found : AType) → type_of text set tree ≡ Ok found ↔ HasType text set tree found }
 {}

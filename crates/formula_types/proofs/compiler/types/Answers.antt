@@ -1,7 +1,8 @@
-use Rattle.std.proofs.Common.{◌≡◌, [], Result, true, sym, ap, ◌∙◌, subst, IfOk, is_ok}
+use Rattle.std.proofs.Common.{◌≡◌, Result, true, sym, ap, ◌∙◌, subst, IfOk, is_ok}
 use Rattle.bt_base.specs.declared.fail.Fail.{Fail}
 use Rattle.formula_trees.specs.View.{statements_of}
 use Rattle.formula_types.specs.declared.fault.FormulaFault.{FormulaFault}
+use Rattle.formula_types.specs.Scopes.{nothing}
 use Rattle.formula_types.specs.Typing.{typed}
 use Rattle.formula_types.specs.Compiled.{HasFault, OrFault, have_types, in_types}
 use Rattle.formula_types.proofs.compiler.types.Goals as goal
@@ -13,7 +14,7 @@ returns-clause-typed c =
     let ss = statements_of c.args.statements.now in
     let Typed : Result (Unit {0}) (Fail FormulaFault) → Type 0 = λ r. IfOk r (λ _. have_types text ss ≡ true) in
     elim c.match-check.branch [
-      | in-Ok w ↦ subst Typed (sym w.result-is) (ap (λ b. is_ok (typed b [] ss)) (sym c.as_bytes.ensures.value) ∙ ap is_ok w.in-Ok.ensures)
+      | in-Ok w ↦ subst Typed (sym w.result-is) (ap (λ b. is_ok (typed b nothing ss)) (sym c.as_bytes.ensures.value) ∙ ap is_ok w.in-Ok.ensures)
       | in-Err-Memory w ↦ subst Typed (sym w.result-is) tt
       | in-Err-Why w ↦ subst Typed (sym w.result-is) tt
     ]
@@ -29,6 +30,6 @@ returns-clause-fault c =
       | in-Err-Memory w ↦ subst Answers (sym w.result-is) tt
       | in-Err-Why w ↦
           let found = rw w.in-Err-Why.field-0-is at w.in-Err-Why.ensures in
-          let fault = in_types w.in-Err-Why.fault read (ap (λ b. typed b [] ss) (sym c.as_bytes.ensures.value) ∙ found) in
+          let fault = in_types w.in-Err-Why.fault read (ap (λ b. typed b nothing ss) (sym c.as_bytes.ensures.value) ∙ found) in
           subst Answers (sym w.result-is) (subst (HasFault text) (sym w.of_type.ensures) fault)
     ]

@@ -1,23 +1,30 @@
-use Rattle.std.proofs.Common.{◌∙◌, sym, ap}
-use Rattle.std.specs.List.{position}
+use Rattle.std.proofs.Common.{◌∙◌, sym, ap, position}
 use Rattle.bt_rows.specs.Lists.{put_row}
 use Rattle.bt_rows.proofs.PutRows.{placed, absent}
+use Rattle.name_index.specs.Numbers.{number_of}
 use Rattle.formula_eval.specs.declared.outcome.Other.{Other}
 use Rattle.formula_eval.specs.Outcomes.{is_named}
+use Rattle.formula_eval.proofs.Variables.{put_kept}
 use Rattle.formula_eval.proofs.outcome.Others.set.Goals as goal
+
+pub invariant_of-self : goal.invariant_of-self
+invariant_of-self c =
+    let other : Other = record { name = c.args.name; value = c.args.value } in
+    let found = c.in-Some.ensures ∙ ap (number_of c.self.inside.places) (c.as_bytes.ensures.value ∙ c.as_str.ensures) ∙ c.self.invariant c.args.name in
+    λ name. put_kept c.self.inside.places c.self.inside.items.items c.in-Some.place other c.self.invariant found name ∙ ap (position (is_named name)) (sym c.put_at.ensures)
 
 pub returns-in-Some : goal.returns-in-Some
 returns-in-Some c =
     let other : Other = record { name = c.args.name; value = c.args.value } in
-    let found = c.in-Some.ensures ∙ ap (λ name. position (is_named name) c.deref.result.now) c.as_str.ensures ∙ ap (position (is_named c.args.name)) c.deref.ensures.value in
+    let found = c.in-Some.ensures ∙ ap (number_of c.self.inside.places) (c.as_bytes.ensures.value ∙ c.as_str.ensures) ∙ c.self.invariant c.args.name in
     c.put_at.ensures
     ∙ sym ((placed (is_named c.args.name) c.self.inside.items.items c.in-Some.place found).put other)
     ∙ ap (put_row (is_named c.args.name) other) c.self.view_is
 
-pub returns-in_ok-push-in-None : goal.returns-in_ok-push-in-None
-returns-in_ok-push-in-None c =
+pub returns-in_ok-append-in-None : goal.returns-in_ok-append-in-None
+returns-in_ok-append-in-None c =
     let other : Other = record { name = c.args.name; value = c.args.value } in
-    let found = c.in-None.ensures ∙ ap (λ name. position (is_named name) c.deref.result.now) c.as_str.ensures ∙ ap (position (is_named c.args.name)) c.deref.ensures.value in
-    c.in_ok-push-in-None.ensures.items
+    let found = c.in-None.ensures ∙ ap (number_of c.self.inside.places) (c.as_bytes.ensures.value ∙ c.as_str.ensures) ∙ c.self.invariant c.args.name in
+    c.in_ok-append-in-None.ensures.appended
     ∙ sym ((absent (is_named c.args.name) c.self.inside.items.items found).put other)
     ∙ ap (put_row (is_named c.args.name) other) c.self.view_is

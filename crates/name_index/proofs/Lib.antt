@@ -1,0 +1,2 @@
+mod Lookups
+pub mod Places
