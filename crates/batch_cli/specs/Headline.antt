@@ -1,5 +1,5 @@
 -- What a script's run was, and what it left.
-use Rattle.std.specs.Prelude.{◌≡◌, ◌⊎◌, ◌≤◌, ◌<◌, ℕ, List, [], length, map, take, Option, Some, None}
+use Rattle.std.specs.Prelude.{◌≡◌, ◌⊎◌, ◌≤◌, ◌<◌, ℕ, List, [], length, map, take, Option, Some, None, IfSome}
 use Rattle.std.specs.Str.Lines.{lines}
 use Rattle.bt_base.specs.Content.{Gains, GainsFront}
 use Rattle.batch_model.specs.Opening.{opening}
@@ -93,6 +93,12 @@ abbrev pub Ran : Option Command → List ℕ → State → Option (List ℕ) →
 Ran None script loaded before now told f g status = (status ≡ Usage) × IsUntouched loaded before now told
 Ran (Some (Replay options)) script loaded before now told f g status = RanWith options script loaded before now told f g status
 Ran (Some (Formula options)) formula loaded before now told f g status = RanFormula options formula before now (end_of status) × Tells told loaded
+
+-- what a status says of words whose command calls no keeper, of what the source tells, and of what the sink tells before and now
+abbrev pub RanAlone : Option Command → Option (List ℕ) → Option (List ℕ) → Option (List ℕ) → Status → Type 0
+RanAlone None left before taken status = Gains before taken []
+RanAlone (Some (Replay options)) left before taken status = Unit {0}
+RanAlone (Some (Formula options)) left before taken status = IfSome left (λ formula. RanFormula options formula before taken (end_of status))
 
 -- the command calls no keeper
 abbrev pub CallsNoKeeper : Option Command → Type 0

@@ -5,7 +5,7 @@ ghost use Rattle.bt_base.specs.Causes.{Rose};
 ghost use Rattle.batch_desk.specs.Answers.{IsInOrder, Begins};
 ghost use Rattle.cli_words.specs.Commands.{command_of};
 ghost use Rattle.batch_cli.specs.Going.{DeskRan};
-ghost use Rattle.batch_cli.specs.Headline.{Ran, RanWith, CallsNoKeeper};
+ghost use Rattle.batch_cli.specs.Headline.{Ran, RanWith, RanAlone, CallsNoKeeper};
 
 use crate::formula::formula;
 use crate::replay::do_script;
@@ -114,6 +114,8 @@ pub fn run_words<R: Source, W: Sink, K: Keeper + Drop>(
     // or the bytes and the status those of one evaluation.
     ensures ran { IfSome (R.left source.old) (λ script. IfSome (K.told keeper) (λ loaded.
         Ran (command_of words.now) script loaded (W.taken sink.old) (W.taken sink.new) (K.told result.1) (K.faults keeper) (K.faults result.1) result.0)) }
+    // Where the keeper is not called, the bytes and the status are these whatever it tells.
+    ensures alone { RanAlone (command_of words.now) (R.left source.old) (W.taken sink.old) (W.taken sink.new) result.0 }
     // Whatever they tell, each fault was counted.
     ensures usage { (result.0 ≡ Status.Usage) ↔ (command_of words.now ≡ None) }
     // The keeper is not called where the words are no command, or one that needs no tables.
