@@ -1,13 +1,10 @@
 -- An expression's value has the expression's type.
-use Rattle.std.proofs.Common.{◌≡◌, ℕ, Bool, true, false, cond, List, [], ◌∷◌, ◌++◌, map, Option, Some, None, Result, Ok, Err, is_some, refl, sym, ap, ◌∙◌}
+use Rattle.std.proofs.Common.{◌≡◌, ℕ, Bool, true, false, cond, List, [], ◌∷◌, ◌++◌, map, Option, Some, None, Result, Ok, Err, refl, sym, ap, ◌∙◌}
 use Rattle.std.specs.List.{list_all}
 use Rattle.bt_base.specs.Fails.{◌>>=◌}
 use Rattle.formula_lex.specs.declared.token.Span.{Span}
 use Rattle.formula_lex.specs.declared.token.BinaryOperator.{BinaryOperator}
 use Rattle.formula_trees.specs.Tree.{Tree, Numeral, Quoted, Variable, Call, Vector, Member, Method, Unary, Binary, Ternary, Trees, none, more}
-use Rattle.formula_names.specs.declared.names.Function.{Function}
-use Rattle.formula_names.specs.declared.names.Member.{Member as AMember}
-use Rattle.formula_names.specs.declared.names.Method.{Method as AMethod}
 use Rattle.formula_names.specs.declared.names.Metric.{Metric}
 use Rattle.formula_names.specs.declared.value_types.ValueType.{ValueType}
 use Rattle.formula_names.specs.declared.value_types.ValueType.TheVariants as types
@@ -16,7 +13,7 @@ use Rattle.formula_names.specs.declared.value_types.ExprType.TheVariants.{Value 
 use Rattle.formula_names.specs.Names.{metric_named, function_named, method_named, member_named}
 use Rattle.formula_names.specs.Operators as names
 use Rattle.formula_names.specs.Operators.{valued, unary_type, binary_type, ternary_type, branch_type, common_type}
-use Rattle.formula_names.specs.Signatures.{is_double, is_timestamp, function_takes, function_gives, method_takes, method_gives}
+use Rattle.formula_names.specs.Signatures.{is_double, function_takes, method_takes}
 use Rattle.formula_types.specs.Scopes.{Variables, part, name_type}
 use Rattle.formula_types.specs.Typing as typing
 use Rattle.formula_types.specs.Typing.{type_of, types_of, or_mismatch, name_at, list_at, is_metric}
@@ -34,6 +31,7 @@ use Rattle.formula_eval.specs.declared.outcome.Outcome.{Outcome}
 use Rattle.formula_eval.specs.Names.{name_value}
 use Rattle.formula_eval.specs.Evaluation.{at, value_of, values_of, call_at, member_at, method_at, metric_of, string_value, decided, unless_decided, binary_at, branch}
 use Rattle.formula_laws.specs.ValueTypes.{type_of_value, Agree}
+use Rattle.formula_types.proofs.Found.{ok_same, err_ok, both, passed, matched, named, called, member_found, method_found, some_metric}
 use Rattle.formula_laws.proofs.Agreement.{name_kept}
 use Rattle.formula_laws.proofs.Operations.{unary_kept, binary_kept, decided_kept, common_same}
 use Rattle.formula_laws.proofs.Calls.{call_kept, member_kept}
@@ -41,56 +39,13 @@ use Rattle.formula_laws.proofs.Methods.{method_kept}
 
 -- what a step that gave a value says of its parts
 
-abbrev value_or : {A E : Type 0} → A → Result A E → A
-value_or d (Ok x) = x
-value_or d (Err e) = d
-
-pub ok_same : {A E : Type 0} (x y : A) → ◌≡◌ {A = Result A E} (Ok x) (Ok y) → x ≡ y
-ok_same x y e = ap (value_or x) e
-
-pub err_ok : {A E : Type 0} (e : E) (x : A) → ◌≡◌ {A = Result A E} (Err e) (Ok x) → ⊥
-err_ok e x h = cc
-
-pub both : {A B E : Type 0} (r : Result A E) (go : A → Result B E) (y : B) → (r >>= go) ≡ Ok y → (x : A) × (r ≡ Ok x) × (go x ≡ Ok y)
-both (Ok x) go y e = (x, refl, e)
-both (Err f) go y e = absurd (err_ok f y e)
-
-pub passed : {A E : Type 0} (b : Bool) (x y : A) (f : E) → cond {A = Result A E} b (Ok x) (Err f) ≡ Ok y → (b ≡ true) × (x ≡ y)
-passed true x y f e = (refl, ok_same x y e)
-passed false x y f e = absurd (err_ok f y e)
-
 placed : {A : Type 0} (p : Span) (r : Result A ValueFault) (x : A) → at p r ≡ Ok x → r ≡ Ok x
 placed p (Ok y) x e = ap Ok (ok_same y x e)
 placed p (Err f) x e = absurd (err_ok _ x e)
 
-pub matched : (p : Span) (o : Option ExprType) (t : ExprType) → or_mismatch p o ≡ Ok t → o ≡ Some t
-matched p None t e = absurd (err_ok _ t e)
-matched p (Some s) t e = ap Some (ok_same s t e)
-
-pub named : (p : Span) (o : Option ValueType) (t : ExprType) → name_at p o ≡ Ok t → (v : ValueType) × (o ≡ Some v) × (V v ≡ t)
-named p None t e = absurd (err_ok _ t e)
-named p (Some v) t e = (v, refl, ok_same (V v) t e)
-
-pub called : (p : Span) (o : Option Function) (args : List ExprType) (t : ExprType) → typing.call_at p o args ≡ Ok t → (f : Function) × (o ≡ Some f) × (function_takes f args ≡ true) × (function_gives f ≡ t)
-called p None args t e = absurd (err_ok _ t e)
-called p (Some f) args t e = let h = passed (function_takes f args) (function_gives f) t _ e in (f, refl, h.0, h.1)
-
-pub member_found : (p : Span) (o : Option AMember) (a t : ExprType) → typing.member_at p o a ≡ Ok t → (m : AMember) × (o ≡ Some m) × (is_timestamp a ≡ true) × (V types.Double ≡ t)
-member_found p None a t e = absurd (err_ok _ t e)
-member_found p (Some m) a t e = let h = passed (is_timestamp a) (V types.Double) t _ e in (m, refl, h.0, h.1)
-
-pub method_found : (p : Span) (o : Option AMethod) (b : Bool) (args : List ExprType) (t : ExprType) → typing.method_at p o b args ≡ Ok t → (m : AMethod) × (o ≡ Some m) × (b ≡ true) × (method_takes m args ≡ true) × (method_gives m ≡ t)
-method_found p None b args t e = absurd (err_ok _ t e)
-method_found p (Some m) false args t e = absurd (err_ok _ t e)
-method_found p (Some m) true args t e = let h = passed (method_takes m args) (method_gives m) t _ e in (m, refl, refl, h.0, h.1)
-
 pub found_value : (o : Option ValueType) (t : ExprType) → valued o ≡ Some t → (c : ValueType) × (o ≡ Some c) × (V c ≡ t)
 found_value None t e = cc
 found_value (Some c) t e = (c, refl, cc)
-
-some_metric : (o : Option Metric) → is_some o ≡ true → (m : Metric) × (o ≡ Some m)
-some_metric None e = cc
-some_metric (Some m) e = (m, refl)
 
 -- what has methods is a metric
 pub metric_found : (text : List ℕ) (t : Tree) → is_metric text t ≡ true → (m : Metric) × (metric_of text t ≡ Some m)
@@ -109,7 +64,7 @@ metric_found text (Ternary q c y n) e = cc
 abbrev pub typed_as : Value → ExprType
 typed_as known = V (type_of_value known)
 
-same_type : (a b : ValueType) → V a ≡ V b → a ≡ b
+pub same_type : (a b : ValueType) → V a ≡ V b → a ≡ b
 same_type a b e = cc
 
 typed_more : (front : List Value) (last : Value) → map typed_as (front ++ last ∷ []) ≡ map typed_as front ++ typed_as last ∷ []

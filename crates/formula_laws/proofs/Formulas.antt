@@ -29,7 +29,8 @@ use Rattle.formula_eval.specs.Statements.{target_of, chosen_or, with_setting, pl
 use Rattle.formula_laws.specs.ValueTypes.{type_of_value, Agree}
 use Rattle.formula_laws.specs.Reaching.{Reaches, there, on}
 use Rattle.formula_laws.proofs.Agreement.{agree_first, agree_set, agree_kept}
-use Rattle.formula_laws.proofs.Expressions.{ok_same, err_ok, both, typed_as, kept}
+use Rattle.formula_types.proofs.Found.{ok_same, err_ok, both}
+use Rattle.formula_laws.proofs.Expressions.{typed_as, kept}
 use Rattle.formula_laws.proofs.NameTexts.{name_text}
 use Rattle.formula_laws.proofs.Operations.{common_same}
 

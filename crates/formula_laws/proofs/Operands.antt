@@ -1,5 +1,5 @@
 -- An expression with a type meets only operands and arguments that go together.
-use Rattle.std.proofs.Common.{◌≡◌, ℕ, true, List, Option, Some, None, Ok, is_some, IsSome, refl, sym, ap, ◌∙◌}
+use Rattle.std.proofs.Common.{◌≡◌, ℕ, List, Option, Some, None, Ok, is_some, IsSome, refl, sym, ap, ◌∙◌}
 use Rattle.std.specs.Prelude.{option_map}
 use Rattle.std.specs.List.{list_all}
 use Rattle.bt_base.specs.Fails.{◌>>=◌}
@@ -13,7 +13,7 @@ use Rattle.formula_names.specs.declared.value_types.ExprType.TheVariants.{Value 
 use Rattle.formula_names.specs.Names.{fixed_type, function_named, method_named, member_named}
 use Rattle.formula_names.specs.Operators as names
 use Rattle.formula_names.specs.Operators.{unary_type, binary_type, ternary_type}
-use Rattle.formula_names.specs.Signatures.{is_double, is_timestamp, function_takes, method_takes}
+use Rattle.formula_names.specs.Signatures.{is_double, function_takes, method_takes}
 use Rattle.formula_types.specs.Scopes.{Variables, part, or_else, name_type}
 use Rattle.formula_types.specs.Typing as typing
 use Rattle.formula_types.specs.Typing.{type_of, types_of, or_mismatch, list_at, is_metric}
@@ -23,7 +23,8 @@ use Rattle.formula_eval.specs.declared.outcome.Outcome.{Outcome}
 use Rattle.formula_eval.specs.Outcomes.{value_among}
 use Rattle.formula_laws.specs.ValueTypes.{type_of_value, Agree}
 use Rattle.formula_laws.specs.Operands.{GoTogether}
-use Rattle.formula_laws.proofs.Expressions.{both, passed, matched, named, called, member_found, method_found, metric_found, found_value, kept, all_kept}
+use Rattle.formula_types.proofs.Found.{both, passed, matched, named, called, member_found, method_found}
+use Rattle.formula_laws.proofs.Expressions.{same_type, metric_found, found_value, kept, all_kept}
 
 -- where there is a type of a value, there is the value
 valued_there : (o : Option Value) (v : ValueType) → option_map type_of_value o ≡ Some v → IsSome o
@@ -34,14 +35,6 @@ valued_there (Some known) v e = refl
 own_typed : (fixed own : Option ValueType) (v : ValueType) → or_else fixed own ≡ Some v → fixed ≡ None → own ≡ Some v
 own_typed None own v e is = e
 own_typed (Some other) own v e is = cc
-
--- what has members is a timestamp
-timestamp_typed : (v : ValueType) → is_timestamp (V v) ≡ true → v ≡ types.Timestamp
-timestamp_typed types.Double e = cc
-timestamp_typed types.DoubleVec e = cc
-timestamp_typed types.Text e = cc
-timestamp_typed types.Timestamp e = refl
-timestamp_typed types.TimeInterval e = cc
 
 -- an operator with a type takes operands of the types that were found
 unary_takes : (o : UnaryOperator) (a : ValueType) (operand type : ExprType) → operand ≡ V a → unary_type o operand ≡ Some type → IsSome (names.unary_value o a)
@@ -81,7 +74,7 @@ module _ (text : List ℕ) (metrics : Metrics) (now : ℕ) (set : Outcome) (vari
   operands_kept (Member u p) found h = λ a e.
       let t = both (type_of text variables u) (typing.member_at p (member_named (part text p))) found h in
       let m = member_found p (member_named (part text p)) t.0 found t.2 in
-      (m.0, m.1, timestamp_typed (type_of_value a) (ap is_timestamp (sym (kept text metrics now set variables agree u a t.0 e t.1)) ∙ m.2))
+      (m.0, m.1, same_type (type_of_value a) types.Timestamp (sym (kept text metrics now set variables agree u a t.0 e t.1) ∙ m.2))
   operands_kept (Method u p args) found h = λ known e.
       let operand = both (type_of text variables u) (λ operand. types_of text variables args >>= typing.method_at p (method_named (part text p)) (is_metric text u)) found h in
       let t = both (types_of text variables args) (typing.method_at p (method_named (part text p)) (is_metric text u)) found operand.2 in
