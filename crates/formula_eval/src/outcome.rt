@@ -1,5 +1,5 @@
 //! What a formula sets.
-ghost use Rattle.std.specs.Prelude.{◌≡◌, ◌<◌, [], ◌∷◌, ◌++◌, None, IfOk, option_map, slice_set, vec_len};
+ghost use Rattle.std.specs.Prelude.{◌≡◌, ◌<◌, [], ◌∷◌, ◌++◌, None, IfOk, OnErr, option_map, slice_set, vec_len};
 ghost use Rattle.std.specs.List.{position};
 ghost use Rattle.name_index.specs.Places.{ArePlaces};
 ghost use Rattle.formula_eval.specs.Outcomes.{is_named, value_among, with_value};
@@ -82,9 +82,10 @@ impl Others {
         Some(&other.value)
     }
 
-    /// Gives the variable of this name a value; it comes last if it was not set before.
+    /// Gives the variable of this name a value; it comes last if it was not set before. Where memory runs out, nothing changes.
     pub fn set(&mut self, alloc: Global, name: Text, value: Value) -> Result<(), NoMemory>
-        ensures { IfOk result (λ _. self.new ≡ with_value self.old name value) }
+        ensures set { IfOk result (λ _. self.new ≡ with_value self.old name value) }
+        ensures unchanged { OnErr result (self.new ≡ self.old) }
     {
         let other = Other { name, value };
         match self.places.number(other.name.as_str().as_bytes()) {
@@ -112,6 +113,7 @@ fn append(
     requires places { ArePlaces is_named places.old others.old.items }
     requires absent { position (is_named other.name) others.old.items ≡ None }
     ensures appended { IfOk result (λ _. others.new.items ≡ others.old.items ++ other ∷ []) }
+    ensures unchanged { OnErr result (others.new.items ≡ others.old.items) }
     ensures places { ArePlaces is_named places.new others.new.items }
 {
     others.reserve(1)?;

@@ -1,5 +1,5 @@
 -- An expression's value has the expression's type.
-use Rattle.std.proofs.Common.{◌≡◌, ℕ, Bool, true, false, cond, List, [], ◌∷◌, ◌++◌, map, Option, Some, None, Result, Ok, Err, refl, sym, ap, ◌∙◌}
+use Rattle.std.proofs.Common.{◌≡◌, ℕ, Bool, true, false, cond, List, [], ◌∷◌, ◌++◌, map, Option, Some, None, Result, Ok, refl, sym, ap, ◌∙◌}
 use Rattle.std.specs.List.{list_all}
 use Rattle.bt_base.specs.Fails.{◌>>=◌}
 use Rattle.formula_lex.specs.declared.token.Span.{Span}
@@ -17,7 +17,6 @@ use Rattle.formula_names.specs.Signatures.{is_double, function_takes, method_tak
 use Rattle.formula_types.specs.Scopes.{Variables, part, name_type}
 use Rattle.formula_types.specs.Typing as typing
 use Rattle.formula_types.specs.Typing.{type_of, types_of, or_mismatch, name_at, list_at, is_metric}
-use Rattle.formula_values.specs.declared.fault.ValueFault.{ValueFault}
 use Rattle.formula_values.specs.declared.value.Value.{Value}
 use Rattle.formula_values.specs.declared.value.Value.TheVariants.{Double, DoubleVec}
 use Rattle.formula_values.specs.Values.{is_true}
@@ -31,17 +30,13 @@ use Rattle.formula_eval.specs.declared.outcome.Outcome.{Outcome}
 use Rattle.formula_eval.specs.Names.{name_value}
 use Rattle.formula_eval.specs.Evaluation.{at, value_of, values_of, call_at, member_at, method_at, metric_of, string_value, decided, unless_decided, binary_at, branch}
 use Rattle.formula_laws.specs.ValueTypes.{type_of_value, Agree}
-use Rattle.formula_types.proofs.Found.{ok_same, err_ok, both, passed, matched, named, called, member_found, method_found, some_metric}
+use Rattle.formula_types.proofs.Found.{ok_same, both, passed, matched, named, called, member_found, method_found, some_metric}
 use Rattle.formula_laws.proofs.Agreement.{name_kept}
 use Rattle.formula_laws.proofs.Operations.{unary_kept, binary_kept, decided_kept, common_same}
-use Rattle.formula_laws.proofs.Calls.{call_kept, member_kept}
+use Rattle.formula_laws.proofs.Calls.{at_gave, call_kept, member_kept}
 use Rattle.formula_laws.proofs.Methods.{method_kept}
 
 -- what a step that gave a value says of its parts
-
-placed : {A : Type 0} (p : Span) (r : Result A ValueFault) (x : A) → at p r ≡ Ok x → r ≡ Ok x
-placed p (Ok y) x e = ap Ok (ok_same y x e)
-placed p (Err f) x e = absurd (err_ok _ x e)
 
 pub found_value : (o : Option ValueType) (t : ExprType) → valued o ≡ Some t → (c : ValueType) × (o ≡ Some c) × (V c ≡ t)
 found_value None t e = cc
@@ -76,10 +71,10 @@ typed_more (x ∷ front) last = ap (λ rest. typed_as x ∷ rest) (typed_more fr
 unary_step : (o : _) (p : Span) (a known : Value) (type : ExprType) → at p (values.unary_value o a) ≡ Ok known → unary_type o (typed_as a) ≡ Some type → type ≡ typed_as known
 unary_step o p a known type e h =
     let c = found_value (names.unary_value o (type_of_value a)) type h in
-    sym c.2 ∙ ap V (unary_kept o a known c.0 (placed p (values.unary_value o a) known e) c.1)
+    sym c.2 ∙ ap V (unary_kept o a known c.0 (at_gave p (values.unary_value o a) known e) c.1)
 
 -- the right operand of an operator has a value type too
-right_valued : (o : BinaryOperator) (a : ValueType) (right type : ExprType) → binary_type o (V a) right ≡ Some type → (b : ValueType) × (c : ValueType) × (right ≡ V b) × (names.binary_value o a b ≡ Some c) × (V c ≡ type)
+pub right_valued : (o : BinaryOperator) (a : ValueType) (right type : ExprType) → binary_type o (V a) right ≡ Some type → (b : ValueType) × (c : ValueType) × (right ≡ V b) × (names.binary_value o a b ≡ Some c) × (V c ≡ type)
 right_valued o a (V b) type e = let c = found_value (names.binary_value o a b) type e in (b, c.0, refl, c.1, c.2)
 right_valued o a Stop type e = cc
 
@@ -94,7 +89,7 @@ binary_step o p a known right second type ih e h = either (decided o a) refl e
         let t = right_valued o (type_of_value a) second type h in
         let x = both right (λ b. at p (values.binary_value o a b)) known e in
         let same : t.0 ≡ type_of_value x.0 = same_type t.0 (type_of_value x.0) (sym t.2 ∙ ih x.0 x.1) in
-        sym t.4 ∙ ap V (binary_kept o a x.0 known t.1 (placed p (values.binary_value o a x.0) known x.2) (ap (names.binary_value o (type_of_value a)) (sym same) ∙ t.3))
+        sym t.4 ∙ ap V (binary_kept o a x.0 known t.1 (at_gave p (values.binary_value o a x.0) known x.2) (ap (names.binary_value o (type_of_value a)) (sym same) ∙ t.3))
 
 -- a condition is a double
 condition_typed : (c a b type : ExprType) → ternary_type c a b ≡ Some type → branch_type a b ≡ Some type
@@ -128,7 +123,7 @@ module _ (text : List ℕ) (metrics : Metrics) (now : ℕ) (set : Outcome) (vari
     kept (Quoted p) known type e h = sym (ok_same (V types.Text) type h) ∙ ap typed_as (ok_same (string_value (part text p)) known e)
     kept (Variable p) known type e h =
         let t = named p (name_type variables (part text p)) type h in
-        sym t.2 ∙ ap V (name_kept metrics set known t.0 variables (part text p) agree (placed p (name_value metrics set (part text p)) known e) t.1)
+        sym t.2 ∙ ap V (name_kept metrics set known t.0 variables (part text p) agree (at_gave p (name_value metrics set (part text p)) known e) t.1)
     kept (Call p args) known type e h =
         let x = both (values_of text metrics now set args) (call_at now p (function_named (part text p))) known e in
         let t = both (types_of text variables args) (typing.call_at p (function_named (part text p))) type h in
@@ -154,7 +149,7 @@ module _ (text : List ℕ) (metrics : Metrics) (now : ℕ) (set : Outcome) (vari
         let metric = metric_found text u m.2 in
         let given = ap (λ o. method_at metrics now p o (Some m.0) x.0) (sym metric.1) ∙ ap (λ o. method_at metrics now p (metric_of text u) o x.0) (sym m.1) ∙ x.2 in
         sym m.4
-        ∙ method_kept (part_of metrics metric.0) m.0 x.0 now known (ap (method_takes m.0) (sym (all_kept args x.0 t.0 x.1 t.1)) ∙ m.3) (placed p (method_value (part_of metrics metric.0) m.0 x.0 now) known given)
+        ∙ method_kept (part_of metrics metric.0) m.0 x.0 now known (ap (method_takes m.0) (sym (all_kept args x.0 t.0 x.1 t.1)) ∙ m.3) (at_gave p (method_value (part_of metrics metric.0) m.0 x.0 now) known given)
     kept (Unary o p u) known type e h =
         let x = both (value_of text metrics now set u) (λ operand. at p (values.unary_value o operand)) known e in
         let t = both (type_of text variables u) (λ operand. or_mismatch p (unary_type o operand)) type h in

@@ -114,6 +114,14 @@ all_named text [] rest h = tt
 all_named text (Sets p t ∷ front) rest h = (h [] (front ++ rest) p t refl, all_named text front rest (λ f r q u e. h (Sets p t ∷ f) r q u (ap (λ ss. Sets p t ∷ ss) e)))
 all_named text (Drops t ∷ front) rest h = (tt, all_named text front rest (λ f r q u e. h (Drops t ∷ f) r q u (ap (λ ss. Drops t ∷ ss) e)))
 
+-- what a name that can be set is set to
+set_by : (text : List ℕ) (before after : Variables) (p : Span) (known : Value) (type : ExprType) → type ≡ typed_as known → typing.assigned text before p type ≡ Ok after → set_to before p (part text p) (or_else (option_map setting_type (setting_named (part text p))) (before (part text p))) (typed_as known) ≡ Ok after
+set_by text before after p known type same e =
+    let may = may_set text before after p type e in
+    ap (λ o. set_to before p (part text p) o (typed_as known)) (sym (own_type before (part text p) may.0))
+    ∙ ap (set_to before p (part text p) (name_type before (part text p))) (sym same)
+    ∙ may.1
+
 -- one statement
 one_done : (text : List ℕ) (metrics : Metrics) (now : ℕ) (set next : Outcome) (before after : Variables) (s : StatementTree) (known : Value) → Agree before set.others → IsNamed text s → value_of text metrics now set (expression_of s) ≡ Ok known → settled text set s known ≡ Ok next → statement_typed text before s ≡ Ok after → Agree after next.others
 one_done text metrics now set next before after (Drops t) known agree word value e h =
@@ -122,12 +130,7 @@ one_done text metrics now set next before after (Drops t) known agree word value
 one_done text metrics now set next before after (Sets p t) known agree word value e h =
     let x = both (type_of text before t) (typing.assigned text before p) after h in
     let type = kept text metrics now set before agree t known x.0 value x.1 in
-    let may = may_set text before after p x.0 x.2 in
-    let given : set_to before p (part text p) (or_else (option_map setting_type (setting_named (part text p))) (before (part text p))) (typed_as known) ≡ Ok after =
-    ap (λ o. set_to before p (part text p) o (typed_as known)) (sym (own_type before (part text p) may.0))
-    ∙ ap (set_to before p (part text p) (name_type before (part text p))) (sym type)
-    ∙ may.1 in
-    name_set text set next before after p known agree (setting_named (part text p)) (found p (with_name set (part text p) (setting_named (part text p)) known) next e) given word
+    name_set text set next before after p known agree (setting_named (part text p)) (found p (with_name set (part text p) (setting_named (part text p)) known) next e) (set_by text before after p known x.0 type x.2) word
 
 -- statements, one after the other
 all_done : (text : List ℕ) (metrics : Metrics) (now : ℕ) (set end : Outcome) (front : List StatementTree) (before after : Variables) → Reaches text metrics now set front end → Agree before set.others → AreNamed text front → typed text before front ≡ Ok after → Agree after end.others
@@ -141,3 +144,11 @@ pub statements_kept : (text : List ℕ) (metrics : Metrics) (now : ℕ) (start :
 statements_kept text metrics now start set variables front rest formula done e =
     all_done text metrics now (at_start start) set front nothing variables done agree_first
     (all_named text front rest (λ f r p t is. name_text text f r p t (subst (IsFormula text) is formula))) e
+
+-- a setting gets values of its type
+pub setting_kept : (text : List ℕ) (metrics : Metrics) (now : ℕ) (set : Outcome) (variables after : Variables) (p : Span) (t : Tree) (known : Value) (s : Setting) → Agree variables set.others → value_of text metrics now set t ≡ Ok known → statement_typed text variables (Sets p t) ≡ Ok after → setting_named (part text p) ≡ Some s → setting_type s ≡ type_of_value known
+setting_kept text metrics now set variables after p t known s agree value e is =
+    let x = both (type_of text variables t) (typing.assigned text variables p) after e in
+    let given = set_by text variables after p known x.0 (kept text metrics now set variables agree t known x.0 value x.1) x.2 in
+    (set_again variables after p (part text p) (setting_type s) (type_of_value known)
+    (ap (λ o. set_to variables p (part text p) (or_else (option_map setting_type o) (variables (part text p))) (typed_as known)) (sym is) ∙ given)).1

@@ -6,3 +6,4 @@ pub mod Methods
 pub mod NameTexts
 pub mod Operands
 pub mod Operations
+pub mod Reachings

@@ -1,14 +1,15 @@
--- The operands and arguments that an expression's evaluation meets go together: each operator, function, method and member takes the
--- values that it gets, and each name has a value.
+-- Operands and arguments that go together: an operator, a function, a method and a member take the values that they get, and a name
+-- has a value.
 use Rattle.std.specs.Prelude.{◌≡◌, ℕ, true, List, map, Some, None, Ok, IsSome}
 use Rattle.std.specs.List.{list_all}
-use Rattle.formula_trees.specs.Tree.{Tree, Numeral, Quoted, Variable, Call, Vector, Member, Method, Unary, Binary, Ternary}
+use Rattle.formula_trees.specs.Tree.{Tree, Numeral, Quoted, Variable, Call, Vector, Member, Method, Unary, Binary, Ternary, Trees, none, more}
 use Rattle.formula_names.specs.declared.names.Function.{Function}
 use Rattle.formula_names.specs.declared.names.Member.{Member as AMember}
 use Rattle.formula_names.specs.declared.names.Method.{Method as AMethod}
 use Rattle.formula_names.specs.declared.names.Metric.{Metric}
 use Rattle.formula_names.specs.declared.value_types.ExprType.{ExprType}
 use Rattle.formula_names.specs.declared.value_types.ExprType.TheVariants as exprs
+use Rattle.formula_names.specs.declared.value_types.ValueType.{ValueType}
 use Rattle.formula_names.specs.declared.value_types.ValueType.TheVariants as types
 use Rattle.formula_names.specs.Names.{fixed_type, function_named, member_named, method_named}
 use Rattle.formula_names.specs.Operators as names
@@ -25,6 +26,7 @@ use Rattle.formula_laws.specs.ValueTypes.{type_of_value}
 abbrev pub types_of_values : List Value → List ExprType
 types_of_values values = map (λ known. exprs.Value (type_of_value known)) values
 
+-- what the evaluation of an expression meets goes together, at its outermost node
 abbrev pub GoTogether : List ℕ → Metrics → ℕ → Outcome → Tree → Type 0
 GoTogether text metrics now set (Numeral n p) = Unit {0}
 GoTogether text metrics now set (Quoted p) = Unit {0}
@@ -41,8 +43,29 @@ GoTogether text metrics now set (Method t p args) =
     (metric : Metric) × (metric_of text t ≡ Some metric) × (m : AMethod) × (method_named (part text p) ≡ Some m) × (method_takes m (types_of_values values) ≡ true)
 GoTogether text metrics now set (Unary o p t) =
     (a : Value) → value_of text metrics now set t ≡ Ok a → IsSome (names.unary_value o (type_of_value a))
+-- what the left side decides alone is decided by an operand that goes together with some other
 GoTogether text metrics now set (Binary o p l r) =
-    (a b : Value) → value_of text metrics now set l ≡ Ok a → value_of text metrics now set r ≡ Ok b →
-    IsSome (names.binary_value o (type_of_value a) (type_of_value b))
+    (a : Value) → value_of text metrics now set l ≡ Ok a →
+    (b : ValueType) × IsSome (names.binary_value o (type_of_value a) b) × ((known : Value) → value_of text metrics now set r ≡ Ok known → type_of_value known ≡ b)
 GoTogether text metrics now set (Ternary p c y n) =
     (a : Value) → value_of text metrics now set c ≡ Ok a → type_of_value a ≡ types.Double
+
+abbrev mutual
+  -- the same of an expression and of all its parts
+  pub AllGoTogether : List ℕ → Metrics → ℕ → Outcome → Tree → Type 0
+  AllGoTogether text metrics now set (Numeral n p) = Unit {0}
+  AllGoTogether text metrics now set (Quoted p) = Unit {0}
+  AllGoTogether text metrics now set (Variable p) = GoTogether text metrics now set (Variable p)
+  AllGoTogether text metrics now set (Call p args) = GoTogether text metrics now set (Call p args) × EachGoTogether text metrics now set args
+  AllGoTogether text metrics now set (Vector p items) = GoTogether text metrics now set (Vector p items) × EachGoTogether text metrics now set items
+  AllGoTogether text metrics now set (Member t p) = GoTogether text metrics now set (Member t p) × AllGoTogether text metrics now set t
+  AllGoTogether text metrics now set (Method t p args) = GoTogether text metrics now set (Method t p args) × EachGoTogether text metrics now set args
+  AllGoTogether text metrics now set (Unary o p t) = GoTogether text metrics now set (Unary o p t) × AllGoTogether text metrics now set t
+  AllGoTogether text metrics now set (Binary o p l r) =
+      GoTogether text metrics now set (Binary o p l r) × AllGoTogether text metrics now set l × AllGoTogether text metrics now set r
+  AllGoTogether text metrics now set (Ternary p c y n) =
+      GoTogether text metrics now set (Ternary p c y n) × AllGoTogether text metrics now set c × AllGoTogether text metrics now set y × AllGoTogether text metrics now set n
+
+  pub EachGoTogether : List ℕ → Metrics → ℕ → Outcome → Trees → Type 0
+  EachGoTogether text metrics now set none = Unit {0}
+  EachGoTogether text metrics now set (more front last) = EachGoTogether text metrics now set front × AllGoTogether text metrics now set last

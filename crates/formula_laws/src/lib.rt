@@ -3,4 +3,4 @@
 
 mod values;
 
-pub use values::values_have_types;
+pub use values::{statements_are_reached, values_have_types};

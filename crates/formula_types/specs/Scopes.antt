@@ -13,9 +13,11 @@ part text p = take (p.to - p.from) (drop p.from text)
 abbrev pub Variables : Type 0
 Variables = List ℕ → Option ValueType
 
+-- no variable is set
 abbrev pub nothing : Variables
 nothing = λ name. None
 
+-- the first of two types that is there
 abbrev pub or_else : Option ValueType → Option ValueType → Option ValueType
 or_else (Some value) other = Some value
 or_else None other = other

@@ -13,16 +13,16 @@ invariant_of-self c =
     let found = c.in-Some.ensures ∙ ap (number_of c.self.inside.places) (c.as_bytes.ensures.value ∙ c.as_str.ensures) ∙ c.self.invariant c.args.name in
     λ name. put_kept c.self.inside.places c.self.inside.items.items c.in-Some.place other c.self.invariant found name ∙ ap (position (is_named name)) (sym c.put_at.ensures)
 
-pub returns-in-Some : goal.returns-in-Some
-returns-in-Some c =
+pub returns-in-Some-clause-set : goal.returns-in-Some-clause-set
+returns-in-Some-clause-set c =
     let other : Other = record { name = c.args.name; value = c.args.value } in
     let found = c.in-Some.ensures ∙ ap (number_of c.self.inside.places) (c.as_bytes.ensures.value ∙ c.as_str.ensures) ∙ c.self.invariant c.args.name in
     c.put_at.ensures
     ∙ sym ((placed (is_named c.args.name) c.self.inside.items.items c.in-Some.place found).put other)
     ∙ ap (put_row (is_named c.args.name) other) c.self.view_is
 
-pub returns-in_ok-append-in-None : goal.returns-in_ok-append-in-None
-returns-in_ok-append-in-None c =
+pub returns-in_ok-append-in-None-clause-set : goal.returns-in_ok-append-in-None-clause-set
+returns-in_ok-append-in-None-clause-set c =
     let other : Other = record { name = c.args.name; value = c.args.value } in
     let found = c.in-None.ensures ∙ ap (number_of c.self.inside.places) (c.as_bytes.ensures.value ∙ c.as_str.ensures) ∙ c.self.invariant c.args.name in
     c.in_ok-append-in-None.ensures.appended
