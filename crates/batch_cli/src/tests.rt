@@ -45,7 +45,7 @@ fn run_over(
     let mut source = MemorySource::new(bytes, Vec::from_slice(alloc, run.source_fails)?);
     let mut sink = MemorySink::new(alloc, Vec::from_slice(alloc, run.sink_fails)?);
     let (status, keeper) = run_words(alloc, words.as_slice(), &mut source, &mut sink, keeper);
-    Ok((status, sink.into_bytes(), keeper))
+    Ok((status, sink.into_bytes().ok_or(AllocError)?, keeper))
 }
 
 /// Whether a run over a keeper of empty tables, of which these calls fail, has this status and output.

@@ -1,5 +1,5 @@
 //! Command lines.
-ghost use Rattle.std.specs.Prelude.{◌≡◌, ℕ, List, Option, IfOk, is_ok};
+ghost use Rattle.std.specs.Prelude.{◌≡◌, ℕ, List, Option, IfOk, is_ok, true};
 ghost use Rattle.bt_base.specs.CommandLines.{Piece, read_words, is_command_line, command_line_of};
 ghost use Rattle.bt_base.specs.WordSteps.{adds, is_line_behind};
 
@@ -9,6 +9,9 @@ use crate::quoting::{Found, Stand, step};
 use crate::text::Text;
 use std::alloc::{AllocError, Global};
 use std::marker::Model;
+
+/// The greatest count of bytes in a command line (this project's profile).
+pub const MAX_COMMAND_LINE_BYTES: usize = 8192;
 
 /// A command line: at most 8,192 bytes, with at least one word and no open quote (this project's profile). Contracts see
 /// it as its bytes.
@@ -29,7 +32,7 @@ impl Model for CommandLine {
 }
 
 impl CommandLine {
-    /// The command line that the text is; none where it has over 8,192 bytes, no word, or a quote that is not closed.
+    /// The command line that the text is; None if it has more than 8,192 bytes, no word, or a quote that is not closed.
     pub fn read(alloc: Global, text: &str) -> Result<Option<CommandLine>, NoMemory>
         ensures { IfOk result (λ line. line ≡ command_line_of text.now) }
     {
@@ -41,11 +44,18 @@ impl CommandLine {
         }))
     }
 
-    /// The command line as a text. It takes no memory.
+    /// The command line as a text. It does not allocate.
     pub fn as_str(&self) -> &str
         ensures { result.now ≡ self.now }
     {
         self.text.as_str()
+    }
+
+    /// Tells callers that the text is a command line. It does nothing at run time.
+    pub fn known(&self)
+        ensures { is_command_line self.now ≡ true }
+    {
+        let _ = &self.text;
     }
 }
 
@@ -65,13 +75,13 @@ impl Duplicate for CommandLine {
     }
 }
 
-/// Whether a text is a command line: at most 8,192 bytes, with at least one word and no open quote. It takes no memory.
+/// Whether a text is a command line: at most 8,192 bytes, with at least one word and no open quote. It does not allocate.
 #[tactic(auto, unfolding(crate::specs::CommandLines::is_command_line))]
 pub fn is_command_line(text: &str) -> bool
     ensures { result ≡ is_command_line text.now }
 {
     let bytes = text.as_bytes();
-    bytes.len() <= 8192 && has_words(bytes)
+    bytes.len() <= MAX_COMMAND_LINE_BYTES && has_words(bytes)
 }
 
 /// Whether there is a word and no open quote.
@@ -88,7 +98,7 @@ fn has_words(bytes: &[u8]) -> bool
     has_word && stand == Stand::Outside
 }
 
-/// Whether there is a word, once a byte gave this.
+/// Whether there is a word after a byte that gave this.
 fn has_word_after(has_word: bool, found: Found) -> bool
     ensures { (pieces : Option (List Piece)) → is_line_behind has_word (adds found pieces) ≡ is_line_behind result pieces }
 {

@@ -2,7 +2,7 @@
 ghost use Rattle.std.specs.Prelude.{◌≡◌, ℕ, List, Bool, not, count_by, option_map};
 ghost use Rattle.std.specs.List.{position};
 ghost use Rattle.bt_base.specs.Fails.{Gives};
-ghost use Rattle.bt_base.specs.Ids.{same, is_id_byte, character_count, bad_place, id_fault, id_number, read_id, within};
+ghost use Rattle.bt_base.specs.Ids.{same, is_id_byte, character_count, bad_place, id_fault, id_number, read_id, within, IsId};
 
 use crate::fail::Fail;
 use crate::list::Duplicate;
@@ -10,6 +10,13 @@ use crate::memory::NoMemory;
 use crate::text::Text;
 use std::alloc::{AllocError, Global};
 use std::marker::Model;
+
+/// The greatest count of characters in an id (Azure Batch REST reference).
+pub const MAX_ID_CHARACTERS: usize = 64;
+
+/// The greatest number that an id of digits can stand for in a range of ids (Azure Batch REST reference: a signed 32-bit
+/// integer).
+pub const MAX_ID_NUMBER: u64 = 2_147_483_647;
 
 /// An id: 1 to 64 ASCII letters, digits, `-` and `_`. Contracts see it as its bytes. Ids are compared without regard to
 /// case (Azure Batch REST reference).
@@ -29,19 +36,19 @@ impl Model for Id {
     ghost invariant = { λ i. IsId i.text };
 }
 
-/// Why a text is no id; the first of these that holds.
+/// Why a text is not an id: the first of these that holds.
 #[derive(Clone, Copy, Debug, PartialEq, Eq)]
 pub enum IdFault {
     /// The text is empty.
     Empty,
-    /// It has over 64 characters.
+    /// It has more than 64 characters.
     TooLong,
-    /// The character at this place, in bytes from 0, is none that an id has.
+    /// An id cannot have the character at this place, which counts bytes from 0.
     BadCharacter(usize),
 }
 
 impl Id {
-    /// The id that the text is, or why it is none.
+    /// The id that the text is, or why it is not an id.
     #[tactic(auto, unfolding(crate::specs::Ids::read_id))]
     pub fn read(alloc: Global, text: &str) -> Result<Id, Fail<IdFault>>
         ensures { Gives result (read_id text.now) }
@@ -54,21 +61,29 @@ impl Id {
         }
     }
 
-    /// The id as a text. It takes no memory.
+    /// The id as a text. It does not allocate.
     pub fn as_str(&self) -> &str
         ensures { result.now ≡ self.now }
     {
         self.text.as_str()
     }
 
-    /// The number that an id of digits alone shows, up to 2,147,483,647. Leading zeros do not matter. It takes no memory.
+    /// Tells callers that the text is an id. It does nothing at run time.
+    pub fn known(&self)
+        ensures { IsId self.now }
+    {
+        let _ = &self.text;
+    }
+
+    /// The number that an id of digits alone stands for, up to 2,147,483,647; None for another id or a greater number.
+    /// Leading zeros do not matter. It does not allocate.
     pub fn number(&self) -> Option<u32>
         ensures { result ≡ id_number self.now }
     {
         number_of(self.text.as_str().as_bytes())
     }
 
-    /// Whether the ids are the same but for case. It takes no memory.
+    /// Whether the ids are the same but for case. It does not allocate.
     pub fn same(&self, other: &Id) -> bool
         ensures { result ≡ same self.now other.now }
     {
@@ -92,7 +107,7 @@ impl Duplicate for Id {
     }
 }
 
-/// Whether two texts are the same but for the case of ASCII letters. It takes no memory.
+/// Whether two texts are the same but for the case of ASCII letters. It does not allocate.
 pub fn is_same(a: &str, b: &str) -> bool
     ensures { result ≡ same a.now b.now }
 {
@@ -117,9 +132,6 @@ fn bad_place(bytes: &[u8]) -> Option<usize>
     bytes.iter().position(|b| !is_id_byte(*b))
 }
 
-/// The greatest number that an id can show.
-const LAST_NUMBER: u64 = 2_147_483_647;
-
 fn number_of(digits: &[u8]) -> Option<u32>
     ensures { result ≡ id_number digits.now }
 {
@@ -129,7 +141,7 @@ fn number_of(digits: &[u8]) -> Option<u32>
             return None;
         }
         number = 10 * number + u64::from(*digit - b'0');
-        if number > LAST_NUMBER {
+        if number > MAX_ID_NUMBER {
             return None;
         }
     }
@@ -142,7 +154,7 @@ fn fault_of(text: &str) -> Option<IdFault>
     let bytes = text.as_bytes();
     if bytes.is_empty() {
         Some(IdFault::Empty)
-    } else if character_count(bytes) > 64 {
+    } else if character_count(bytes) > MAX_ID_CHARACTERS {
         Some(IdFault::TooLong)
     } else {
         match bad_place(bytes) {

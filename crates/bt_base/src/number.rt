@@ -1,16 +1,22 @@
 //! Numbers with six decimals.
-ghost use Rattle.std.specs.Prelude.{◌≡◌, ◌==◌, ◌≤◌, ◌<◌, ◌++◌, ◌≢◌, ◌*ℤ◌, pos, min, IfOk, IfSome, option_map, string_bytes};
+ghost use Rattle.std.specs.Prelude.{◌≡◌, ◌==◌, ◌≤◌, ◌<◌, ◌++◌, ◌≢◌, ◌*ℤ◌, pos, min, IfOk, IfSome, option_map, string_bytes, true};
 ghost use Rattle.std.specs.Char.{is_ascii_digit};
 ghost use Rattle.std.specs.List.{list_all, position};
 ghost use Rattle.bt_base.specs.Ids.{decimal_from};
-ghost use Rattle.bt_base.specs.Numbers.{in_bounds, bounded, whole_number, sum_of, difference_of, product_of, quotient_of, is_minus, cut, if_digits, is_digits, millionths_of, unsigned, signed, read_number, fraction_text, decimals, number_text};
+ghost use Rattle.bt_base.specs.Numbers.{is_in_bounds, in_bounds, bounded, whole_number, sum_of, difference_of, product_of, quotient_of, is_minus, cut, if_digits, is_digits, millionths_of, unsigned, signed, read_number, fraction_text, decimals, number_text};
 
 use crate::memory::NoMemory;
 use crate::text::Text;
 use std::alloc::Global;
 use std::marker::Model;
 
-/// A number with six decimals, of magnitude at most 10^12. Contracts see it as its millionths.
+/// The greatest magnitude of a number, in millionths: that of 10^12 (this project's profile).
+pub const MAX_MILLIONTHS: i64 = 1_000_000_000_000_000_000;
+
+/// The millionths of one.
+pub const MILLIONTHS_PER_ONE: i64 = 1_000_000;
+
+/// A number with six decimals, of magnitude at most 10^12 (this project's profile). Contracts see it as its millionths.
 #[derive(Clone, Copy, Debug, PartialEq, Eq, PartialOrd, Ord)]
 pub struct Num {
     millionths: i64,
@@ -32,26 +38,20 @@ impl Model for Num {
 /// Why there is no number.
 #[derive(Clone, Copy, Debug, PartialEq, Eq)]
 pub enum NumFault {
-    /// The text is not digits, with a `-` before them or a point and digits behind them, or neither.
+    /// The text is not a number: a `-` that may be left out, digits, and a point and digits that may be left out.
     NotANumber,
-    /// The magnitude passes 10^12.
+    /// The magnitude is greater than 10^12.
     TooLarge,
     /// The divisor is zero.
     DivideByZero,
 }
 
-/// The greatest magnitude, in millionths.
-const GREATEST: i64 = 1_000_000_000_000_000_000;
-
-/// The millionths of one.
-const ONE: i64 = 1_000_000;
-
 impl Num {
-    /// The number with so many millionths; none past the greatest magnitude. It takes no memory.
+    /// The number with these millionths; None if its magnitude is greater than 10^12. It does not allocate.
     pub fn of_millionths(millionths: i64) -> Option<Num>
         ensures { result ≡ in_bounds millionths }
     {
-        if -GREATEST <= millionths && millionths <= GREATEST {
+        if -MAX_MILLIONTHS <= millionths && millionths <= MAX_MILLIONTHS {
             Some(Num { millionths })
         } else {
             None
@@ -65,9 +65,16 @@ impl Num {
         self.millionths
     }
 
-    /// The number that the text shows: a `-` that may be left out, digits, and a point and digits behind it that may be
-    /// left out. Decimals past the sixth are cut. `NotANumber` for another text, `TooLarge` for a magnitude past 10^12.
-    /// It takes no memory.
+    /// Tells callers that the number is within its bounds. It does nothing at run time.
+    pub fn known(self)
+        ensures { is_in_bounds self ≡ true }
+    {
+        let _ = self.millionths;
+    }
+
+    /// The number that the text is: a `-` that may be left out, digits, and a point and digits that may be left out.
+    /// Decimals after the sixth are cut off. Returns `NotANumber` for any other text, and `TooLarge` if the magnitude is
+    /// greater than 10^12. It does not allocate.
     pub fn read(text: &str) -> Result<Num, NumFault>
         ensures { result ≡ read_number text.now }
     {
@@ -79,46 +86,47 @@ impl Num {
         }
     }
 
-    /// The whole number; `TooLarge` past 10^12. It takes no memory.
+    /// The whole number. Returns `TooLarge` if its magnitude is greater than 10^12. It does not allocate.
     pub fn of_whole(whole: i64) -> Result<Num, NumFault>
         ensures { result ≡ whole_number whole }
     {
-        bounded(i128::from(whole) * i128::from(ONE))
+        bounded(i128::from(whole) * i128::from(MILLIONTHS_PER_ONE))
     }
 
-    /// The sum; `TooLarge` where its magnitude passes 10^12. It takes no memory.
+    /// The sum. Returns `TooLarge` if its magnitude is greater than 10^12. It does not allocate.
     pub fn add(self, other: Num) -> Result<Num, NumFault>
         ensures { result ≡ sum_of self other }
     {
         bounded(i128::from(self.millionths) + i128::from(other.millionths))
     }
 
-    /// The difference; `TooLarge` where its magnitude passes 10^12. It takes no memory.
+    /// The difference. Returns `TooLarge` if its magnitude is greater than 10^12. It does not allocate.
     pub fn sub(self, other: Num) -> Result<Num, NumFault>
         ensures { result ≡ difference_of self other }
     {
         bounded(i128::from(self.millionths) - i128::from(other.millionths))
     }
 
-    /// The product, cut toward zero after six decimals; `TooLarge` where its magnitude passes 10^12. It takes no memory.
+    /// The product, cut toward zero after six decimals. Returns `TooLarge` if its magnitude is greater than 10^12. It does
+    /// not allocate.
     pub fn mul(self, other: Num) -> Result<Num, NumFault>
         ensures { result ≡ product_of self other }
     {
-        bounded(fraction(self.millionths, other.millionths, ONE))
+        bounded(fraction(self.millionths, other.millionths, MILLIONTHS_PER_ONE))
     }
 
-    /// The quotient, cut toward zero after six decimals; `DivideByZero` where `other` is zero, `TooLarge` where the
-    /// quotient's magnitude passes 10^12. It takes no memory.
+    /// The quotient, cut toward zero after six decimals. Returns `DivideByZero` if `other` is zero, and `TooLarge` if the
+    /// quotient's magnitude is greater than 10^12. It does not allocate.
     pub fn div(self, other: Num) -> Result<Num, NumFault>
         ensures { result ≡ quotient_of self other }
     {
         if other.millionths == 0 {
             return Err(NumFault::DivideByZero);
         }
-        bounded(fraction(self.millionths, ONE, other.millionths))
+        bounded(fraction(self.millionths, MILLIONTHS_PER_ONE, other.millionths))
     }
 
-    /// The number as text: no zeros at the end of its decimals, and no point where it is whole.
+    /// The number as text: without zeros at the end of its decimals, and without a point if it is whole.
     #[tactic(auto, unfolding(crate::specs::Numbers::number_text))]
     pub fn text(self, alloc: Global) -> Result<Text, NoMemory>
         ensures { IfOk result (λ text. text ≡ number_text self) }
@@ -144,7 +152,7 @@ fn fraction(a: i64, b: i64, under: i64) -> i128
 fn bounded(millionths: i128) -> Result<Num, NumFault>
     ensures { result ≡ bounded millionths }
 {
-    if -i128::from(GREATEST) <= millionths && millionths <= i128::from(GREATEST) {
+    if -i128::from(MAX_MILLIONTHS) <= millionths && millionths <= i128::from(MAX_MILLIONTHS) {
         Ok(Num {
             millionths: millionths as i64,
         })
@@ -153,7 +161,7 @@ fn bounded(millionths: i128) -> Result<Num, NumFault>
     }
 }
 
-/// Appends a point and the decimals of so many millionths, or nothing for none.
+/// Appends a point and the decimals of these millionths, or nothing if there are none.
 #[tactic(auto, unfolding(crate::specs::Numbers::fraction_text))]
 fn push_fraction(text: &mut String, millionths: u64) -> Result<(), NoMemory>
     requires { millionths < 1000000 }
@@ -182,12 +190,12 @@ fn push_decimals(text: &mut String, millionths: u64) -> Result<(), NoMemory>
     Ok(())
 }
 
-/// One more than the greatest magnitude, in millionths: what stands for each magnitude past it while a text is read.
+/// One more than the greatest magnitude, in millionths: while a text is read, it stands for each greater magnitude.
 const PAST: u64 = 1_000_000_000_000_000_001;
 
 const ZEROS: [u8; 6] = *b"000000";
 
-/// The number of so many millionths, above or below zero.
+/// The number of these millionths, above or below zero.
 fn with_sign(below: bool, millionths: Option<u64>) -> Result<Num, NumFault>
     ensures { result ≡ signed below millionths }
 {
@@ -222,7 +230,7 @@ fn are_digits(text: &[u8]) -> bool
     text.iter().all(|b| b.is_ascii_digit())
 }
 
-/// The millionths that a text without a sign shows, up to `PAST`.
+/// The millionths of a text without a sign, up to `PAST`.
 fn unsigned(text: &[u8]) -> Option<u64>
     ensures { result ≡ option_map (λ n. min n PAST) (unsigned text.now) }
 {
@@ -253,7 +261,7 @@ fn if_digits(are: bool, whole: &[u8], decimals: &[u8]) -> Option<u64>
     }
 }
 
-/// The millionths that the digits before and behind a point show, up to `PAST`.
+/// The millionths of the digits before and after a point, up to `PAST`.
 fn millionths(whole: &[u8], decimals: &[u8]) -> u64
     ensures { result ≡ min (millionths_of whole.now decimals.now) PAST }
 {
@@ -263,7 +271,7 @@ fn millionths(whole: &[u8], decimals: &[u8]) -> u64
     shown(cut, &ZEROS[..6 - kept])
 }
 
-/// The number that the digits show behind those that show `before`, up to `PAST`.
+/// The number that the digits stand for after those of the number `before`, up to `PAST`.
 fn shown(before: u64, digits: &[u8]) -> u64
     requires { before ≤ PAST }
     ensures { result ≡ min (decimal_from before digits.now) PAST }

@@ -27,7 +27,8 @@ fn gives(
     if !wanted.is_empty() {
         text.push('\n')?;
     }
-    Ok(ended == end && sink.into_bytes().as_slice() == text.as_bytes())
+    let written = sink.into_bytes().ok_or(AllocError)?;
+    Ok(ended == end && written.as_slice() == text.as_bytes())
 }
 
 const PLAIN: &str =
@@ -165,7 +166,7 @@ fn stream_faults_are_told(rt: HostRuntime) -> Result<(), Fail> {
         let mut source = MemorySource::new(Vec::from_slice(alloc, b"x = 1")?, fails);
         let mut sink = MemorySink::new(alloc, Vec::from_slice(alloc, sink_fails)?);
         assert_eq!(rt; run_formula(alloc, options, &mut source, &mut sink), end);
-        assert!(rt; sink.into_bytes().is_empty());
+        assert!(rt; sink.into_bytes().ok_or("memory was ample")?.is_empty());
     }
     Ok(())
 }
