@@ -10,9 +10,9 @@ use Rattle.batch_model.specs.Dues.{due_step}
 use Rattle.batch_model.specs.Laws.{parts_slots, has_parted_slots, HoldsWithinSlots}
 use Rattle.batch_model.specs.Sound.{IsSound, has_slots_for}
 use Rattle.batch_model.specs.Variants.{State, PoolRow, NodeRow}
-use Rattle.batch_model.proofs.RowLists.{each_weaker}
-use Rattle.batch_model.proofs.DueSound.{sound_by_due}
-use Rattle.batch_model.proofs.EventSound.{sound_by_event}
+use Rattle.model_lists.proofs.RowLists.{each_weaker}
+use Rattle.model_rules.proofs.DueSound.{sound_by_due}
+use Rattle.model_events.proofs.EventSound.{sound_by_event}
 use Rattle.batch_desk.specs.declared.entry.Entry.{Entry}
 use Rattle.batch_desk.specs.declared.entry.Mark.{Mark}
 use Rattle.batch_desk.specs.declared.entry.Mark.TheVariants.{Done, KeeperFault as NotKept}

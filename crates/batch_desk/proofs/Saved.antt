@@ -7,7 +7,7 @@ use Rattle.bt_rows.specs.declared.plan.Plan.{Plan}
 use Rattle.bt_rows.specs.declared.tables.Change.{Change}
 use Rattle.batch_model.specs.Sound.{IsSound}
 use Rattle.batch_model.specs.WellFormed.{IsWellFormed}
-use Rattle.batch_model.proofs.WellFormedTables.{well_formed}
+use Rattle.model_tables.proofs.WellFormedTables.{well_formed}
 use Rattle.batch_keeper.specs.Told.{told_after}
 use Rattle.batch_desk.specs.Kept.{Tells}
 

@@ -13,7 +13,7 @@ use Rattle.batch_model.specs.Pools.{is_resizing, is_stopping}
 use Rattle.batch_model.specs.Opening.{opening, is_refilled, refilled, is_emptied, emptied, is_cut_short, requeued, withdrawn}
 use Rattle.batch_model.specs.WellFormed.{KeysAreDistinct}
 use Rattle.batch_model.specs.Variants.{State, PoolRow, Alloc, Steady, Resizing, Stopping, ResizeError, NodeRow, TaskRow, Want, RunRow, RunState, PrepRow}
-use Rattle.batch_model.proofs.Tests.{and_first, and_second}
+use Rattle.model_lists.proofs.Tests.{and_first, and_second}
 use Rattle.machine_opening.specs.Openings.{puts_of, put_if_some, is_fresh, opened_pool, opened_task, opened_run, pool_puts, task_puts, run_puts, node_drops, drop_of_node, prep_drops, drop_of_prep, key_of_prep, with_opening}
 use Rattle.machine_opening.proofs.PutsInPlace.{put_if_some as put_row_if_some, put_each, put_in_place, put_is_change_where, drop_each, drop_all}
 

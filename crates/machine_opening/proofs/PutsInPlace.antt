@@ -4,8 +4,8 @@ use Rattle.std.specs.List.{list_any}
 use Rattle.std.specs.Cmp.{IsEquivalence}
 use Rattle.bt_rows.specs.Lists.{put_row, drop_row, AreDistinct}
 use Rattle.batch_model.specs.Finding.{only_if, change_where}
-use Rattle.batch_model.proofs.Tests.{or_false_first, or_false_second}
-use Rattle.batch_model.proofs.RowLists.{any_agree}
+use Rattle.model_lists.proofs.Tests.{or_false_first, or_false_second}
+use Rattle.model_lists.proofs.RowLists.{any_agree}
 
 module _ {R : Type 0} (same : R → R → Bool) where
   -- a row is put, if there is one

@@ -11,10 +11,10 @@ use Rattle.batch_model.specs.Rows.{put_pool, put_task, add_node_row, add_run_row
 use Rattle.batch_model.specs.Sound.{NumbersAreNew}
 use Rattle.batch_model.specs.WellFormed.{KeysAreDistinct}
 use Rattle.batch_model.specs.Variants.{State, PoolRow, NodeRow, TaskRow, RunRow}
-use Rattle.batch_model.proofs.Putting.{put_row-found, put_row-new}
-use Rattle.batch_model.proofs.NodeAdded.{below_other}
-use Rattle.batch_model.proofs.RowLists.{each_weaker, none_any}
-use Rattle.batch_model.proofs.Tests.{true_not}
+use Rattle.model_lists.proofs.Putting.{put_row-found, put_row-new}
+use Rattle.model_lists.proofs.NextNumbers.{below_other}
+use Rattle.model_lists.proofs.RowLists.{each_weaker, none_any}
+use Rattle.model_lists.proofs.Tests.{true_not}
 
 -- a pool in the place of one that a search finds
 pub pool_changed : (test : PoolRow → Bool) (pool row : PoolRow) (s : State) → KeysAreDistinct s → find test s.pools ≡ Some pool → row.id ≡ pool.id → apply_change (PutPool row) s ≡ put_pool row s

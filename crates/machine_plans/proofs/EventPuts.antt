@@ -12,9 +12,9 @@ use Rattle.batch_model.specs.Rows.{is_pool, is_job, is_task, is_run, pool_of, jo
 use Rattle.batch_model.specs.Events.{taken_run, ended_run, started_task, is_task_of_run, run_taken}
 use Rattle.batch_model.specs.WellFormed.{KeysAreDistinct}
 use Rattle.batch_model.specs.Variants.{State, PoolRow, JobRow, TaskRow, RunRow, Ending}
-use Rattle.batch_model.proofs.Tests.{and_first, and_second}
-use Rattle.batch_model.proofs.RowLists.{find_test}
-use Rattle.batch_model.proofs.Putting.{put_row-new, any-not_found, put_row-found, change_where-none}
+use Rattle.model_lists.proofs.Tests.{and_first, and_second}
+use Rattle.model_lists.proofs.RowLists.{find_test}
+use Rattle.model_lists.proofs.Putting.{put_row-new, any-not_found, put_row-found, change_where-none}
 
 -- nothing is there
 is_nothing : {A : Type 0} (o : Option A) → is_some o ≡ false → o ≡ None

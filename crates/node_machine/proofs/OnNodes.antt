@@ -7,7 +7,7 @@ use Rattle.batch_model.specs.Rows.{is_node, node_of, run_of}
 use Rattle.batch_model.specs.Sound.{IsSound}
 use Rattle.batch_model.specs.WellFormed.{is_unended_start_on, has_few_tries}
 use Rattle.batch_model.specs.Variants.{State, NodeRow, RunRow}
-use Rattle.batch_model.proofs.RowLists.{each_found, find_test}
+use Rattle.model_lists.proofs.RowLists.{each_found, find_test}
 use Rattle.node_machine.specs.Endings.{IsOnNode}
 
 -- a number that is far below another

@@ -9,8 +9,8 @@ use Rattle.batch_model.specs.Rows.{is_node, is_run, node_of, add_run_row}
 use Rattle.batch_model.specs.Runs.{start_run}
 use Rattle.batch_model.specs.Starts.{change_node, counted_node, start_again}
 use Rattle.batch_model.specs.Variants.{State, NodeRow, StartTask, Ending, RunRow}
-use Rattle.batch_model.proofs.ChangedRows.{each_change_same}
-use Rattle.batch_model.proofs.Putting.{put_row-found}
+use Rattle.model_lists.proofs.ChangedRows.{each_change_same}
+use Rattle.model_lists.proofs.Putting.{put_row-found}
 use Rattle.machine_plans.proofs.DuePuts.{next_run_put}
 use Rattle.machine_plans.proofs.EventPuts.{ended_put}
 use Rattle.node_machine.specs.Endings.{IsThere, with_end}

@@ -10,8 +10,8 @@ use Rattle.slot_ledger.specs.Ledgers.{is_of, has_node}
 use Rattle.batch_model.specs.Finding.{Each}
 use Rattle.batch_model.specs.Nodes.{is_usable}
 use Rattle.batch_model.specs.Variants.{State, NodeRow}
-use Rattle.batch_model.proofs.RowLists.{each_tail, each_head, each_of_two, each_any, any_none}
-use Rattle.batch_model.proofs.Tests.{not_true, true_not, or_false}
+use Rattle.model_lists.proofs.RowLists.{each_tail, each_head, each_of_two, each_any, any_none}
+use Rattle.model_lists.proofs.Tests.{not_true, true_not, or_false}
 use Rattle.table_scans.specs.Entries.{ledger_by, entry_by, only_usable}
 
 module _ {X : Type 0} where

@@ -19,8 +19,8 @@ use Rattle.batch_model.specs.Sound.{SlotsSuffice, has_slots_for}
 use Rattle.batch_model.specs.Tasks.{is_placed}
 use Rattle.batch_model.specs.WellFormed.{has_pool_row}
 use Rattle.batch_model.specs.Variants.{State, PoolRow, NodeRow, TaskRow, RunRow}
-use Rattle.batch_model.proofs.RowLists.{each_and, each_found, each_any, find_any, find_test, any_none, any_weaker_where}
-use Rattle.batch_model.proofs.Tests.{and_true, and_first, and_second, not_true, asked}
+use Rattle.model_lists.proofs.RowLists.{each_and, each_found, each_any, find_any, find_test, any_none, any_weaker_where}
+use Rattle.model_lists.proofs.Tests.{and_true, and_first, and_second, not_true, asked}
 use Rattle.table_scans.specs.Entries.{slots_of, only_usable, held_by, entry_by, ledger_by, is_on_usable, is_counted, with_run}
 use Rattle.table_scans.specs.Holding.{is_holding, is_of_any, only_placed}
 

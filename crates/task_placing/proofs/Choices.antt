@@ -18,8 +18,8 @@ use Rattle.batch_model.specs.Placing.{is_placeable, fits, precedes, choice}
 use Rattle.batch_model.specs.Rows.{is_pool, pool_of, is_node, node_of}
 use Rattle.batch_model.specs.Slots.{held_slots}
 use Rattle.batch_model.specs.Variants.{State, PoolRow, NodeRow, JobRow}
-use Rattle.batch_model.proofs.RowLists.{each_found, any_none, find_agree}
-use Rattle.batch_model.proofs.Tests.{not_true}
+use Rattle.model_lists.proofs.RowLists.{each_found, any_none, find_agree}
+use Rattle.model_lists.proofs.Tests.{not_true}
 use Rattle.table_scans.specs.Entries.{slots_of, entry_of, only_usable, ledger_of}
 use Rattle.task_placing.specs.Fitting.{IsPoolRow, fits_in, fits_by}
 

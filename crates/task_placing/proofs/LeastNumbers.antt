@@ -15,8 +15,8 @@ use Rattle.bt_base.specs.Ids.{same, lowered}
 use Rattle.bt_base.proofs.SameIds.{same_equiv}
 use Rattle.batch_model.specs.Finding.{Each}
 use Rattle.batch_model.specs.Variants.{TaskRow}
-use Rattle.batch_model.proofs.RowLists.{each_cons, each_weaker}
-use Rattle.batch_model.proofs.Tests.{and_first, and_second}
+use Rattle.model_lists.proofs.RowLists.{each_cons, each_weaker}
+use Rattle.model_lists.proofs.Tests.{and_first, and_second}
 use Rattle.task_placing.specs.LeastSlots.{lower, number_if, is_ready_in, least_slots}
 
 -- numbers

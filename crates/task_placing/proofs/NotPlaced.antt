@@ -19,8 +19,8 @@ use Rattle.batch_model.specs.Slots.{held_slots}
 use Rattle.batch_model.specs.Tasks.{is_in_job}
 use Rattle.batch_model.specs.WellFormed.{needs_length, is_task_valid, is_task_in_range, is_task_past, has_fitting_failures}
 use Rattle.batch_model.specs.Variants.{State, PoolRow, NodeRow, JobRow, TaskRow}
-use Rattle.batch_model.proofs.RowLists.{find_test, each_head, each_tail, each_found, each_any, none_weaker, any_none}
-use Rattle.batch_model.proofs.Tests.{and_true, and_first, and_second, or_false_first, or_false_second, not_true}
+use Rattle.model_lists.proofs.RowLists.{find_test, each_head, each_tail, each_found, each_any, none_weaker, any_none}
+use Rattle.model_lists.proofs.Tests.{and_true, and_first, and_second, or_false_first, or_false_second, not_true}
 use Rattle.table_scans.specs.Entries.{ledger_of}
 use Rattle.task_placing.specs.Fitting.{IsPoolRow, fits_in, fits_by}
 use Rattle.task_placing.specs.LeastSlots.{is_ready_in, least_slots}

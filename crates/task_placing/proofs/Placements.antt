@@ -15,10 +15,10 @@ use Rattle.batch_model.specs.Finding.{Each}
 use Rattle.batch_model.specs.Runs.{work_run}
 use Rattle.batch_model.specs.Placing.{placed, place}
 use Rattle.batch_model.specs.Variants.{State, NodeRow, TaskRow, RunRow, TaskRun, Queued}
-use Rattle.batch_model.proofs.Putting.{put_row-new, put_row-found}
-use Rattle.batch_model.proofs.RowLists.{none_any, each_weaker, each_found}
-use Rattle.batch_model.proofs.NodeAdded.{below_other}
-use Rattle.batch_model.proofs.Tests.{true_not}
+use Rattle.model_lists.proofs.Putting.{put_row-new, put_row-found}
+use Rattle.model_lists.proofs.RowLists.{none_any, each_weaker, each_found}
+use Rattle.model_lists.proofs.NextNumbers.{below_other}
+use Rattle.model_lists.proofs.Tests.{true_not}
 use Rattle.batch_model.specs.Steps.{DueStep}
 use Rattle.std.proofs.lemmas.Bool.Decides.{Decides-ltb}
 use Rattle.machine_plans.specs.Plans.{IsPlanOf, answer_of_step}

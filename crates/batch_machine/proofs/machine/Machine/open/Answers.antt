@@ -1,7 +1,7 @@
 use Rattle.std.proofs.Common.{◌≡◌, sym, subst}
 use Rattle.batch_model.specs.Opening.{opening}
 use Rattle.batch_model.specs.Sound.{IsSound}
-use Rattle.batch_model.proofs.OpeningSound.{sound_by_opening}
+use Rattle.model_rules.proofs.OpeningSound.{sound_by_opening}
 use Rattle.batch_machine.proofs.machine.Machine.open.Goals as goal
 
 pub invariant_of-machine : goal.invariant_of-machine

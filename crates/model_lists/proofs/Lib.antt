@@ -1,0 +1,9 @@
+pub mod Tests
+pub mod NextNumbers
+pub mod RowLists
+pub mod ChangedRows
+pub mod MappedRows
+pub mod DistinctLists
+pub mod Putting
+pub mod KeyedLists
+pub mod RowSums

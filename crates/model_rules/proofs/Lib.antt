@@ -1,0 +1,17 @@
+pub mod DueCases
+pub mod SettledRows
+pub mod Completed
+pub mod Requeued
+pub mod LimitsPools
+pub mod LimitsTasks
+pub mod PoolSteady
+pub mod NodeAdded
+pub mod LimitsNodes
+pub mod DueFalls
+pub mod NodeChosen
+pub mod TaskPlaced
+pub mod LimitsPlaced
+pub mod UnendedByDue
+pub mod StartsByDue
+pub mod DueSound
+pub mod OpeningSound
