@@ -1,19 +1,23 @@
--- How many rows the tables take.
+-- How many rows the tables take, and how large a request may be.
 use Rattle.std.specs.Prelude.{ℕ}
+use Rattle.bt_rows.specs.declared.limits.TheConstants.{POOL_LIMIT, JOB_LIMIT, TASK_LIMIT, COLLECTION_LIMIT, DEPENDENCY_ID_LIMIT}
 
+-- 64 pools
 abbrev pub pool_limit : ℕ
-pool_limit = 64
+pool_limit = POOL_LIMIT
 
+-- 10,000 jobs
 abbrev pub job_limit : ℕ
-job_limit = 10000
+job_limit = JOB_LIMIT
 
+-- 1,000,000 tasks of all jobs together
 abbrev pub task_limit : ℕ
-task_limit = 1000000
+task_limit = TASK_LIMIT
 
--- so many tasks are added at once, at most
+-- one request adds at most 100 tasks
 abbrev pub collection_limit : ℕ
-collection_limit = 100
+collection_limit = COLLECTION_LIMIT
 
--- the ids of one list of dependencies have at most so many characters together
+-- the ids on which one task depends have at most 64,000 characters together
 abbrev pub needs_limit : ℕ
-needs_limit = 64000
+needs_limit = DEPENDENCY_ID_LIMIT

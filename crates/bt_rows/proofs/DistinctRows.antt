@@ -7,7 +7,7 @@ use Rattle.std.proofs.lemmas.List.Sums.{sum_by-cons, sum_by-le-sum_by}
 use Rattle.bt_rows.specs.Lists.{put_row, drop_row, AreDistinct}
 
 module _ {R : Type 0} (same : R → R → Bool) (e : IsEquivalence same) where
-  -- what no row of a list has, none has after a put of a row that hasn't it either
+  -- if no row passes a test, none does after a put of a row that does not pass either
   any_cons : (p : R → Bool) (row old : R) (rest : List R) (b : Bool) → p row ≡ false → (p old || list_any p rest) ≡ false → (list_any p rest ≡ false → list_any p (put_row (λ x. same x row) row rest) ≡ false) → list_any p (cond b (row ∷ rest) (old ∷ put_row (λ x. same x row) row rest)) ≡ false
   any_cons p row old rest true h k ih = grind (arith, common_steps)
   any_cons p row old rest false h k ih = grind (arith, common_steps)
@@ -20,7 +20,7 @@ module _ {R : Type 0} (same : R → R → Bool) (e : IsEquivalence same) where
   any_agree p q agree [] = refl
   any_agree p q agree (x ∷ xs) = rw (agree x, any_agree p q agree xs)
 
-  -- rows that have one key have the same others
+  -- rows with the same key agree on which others have it
   any_same : (a b : R) (xs : List R) → same a b ≡ true → list_any (same a) xs ≡ false → list_any (same b) xs ≡ false
   any_same a b xs s h = any_agree (same b) (same a) (λ x. sym (e.congr a b x s)) xs ∙ h
 
@@ -64,12 +64,12 @@ module _ {R : Type 0} (f : R → ℕ) (p : R → Bool) where
       rw (sum_by-cons f x (put_row p row rest), sum_by-cons f x rest)
       (sum_later (sum_by f (put_row p row rest)) (sum_by f rest) (f x) (f old) (f row) (ih h))
 
-  -- the sum loses what the row before gave, and gains what the row gives
+  -- a put changes the sum by the difference of the new row and the one that it replaces
   pub sum_by-put : (row old : R) (xs : List R) → find p xs ≡ Some old → sum_by f (put_row p row xs) + f old ≡ sum_by f xs + f row
   sum_by-put row old [] h = cc
   sum_by-put row old (x ∷ xs) h = sum_cons row old x xs (p x) h (sum_by-put row old xs)
 
--- what a search finds passes
+-- a row that a search finds passes its test
 passes_cons : {R : Type 0} (p : R → Bool) (x row : R) (rest : List R) (b : Bool) → p x ≡ b → cond b (Some x) (find p rest) ≡ Some row → (find p rest ≡ Some row → p row ≡ true) → p row ≡ true
 passes_cons p x row rest true e h ih = let i : x ≡ row = cc in subst (λ y. p y ≡ true) i e
 passes_cons p x row rest false e h ih = ih h
@@ -90,7 +90,7 @@ module _ {R : Type 0} (f g : R → ℕ) (p : R → Bool) where
       let k : f x ≤ g x = each x in
       rw (sum_by-cons f x rest, sum_by-cons g x rest) (omega arith)
 
-  -- a sum is less where no part is more, and that of a row that is found is less
+  -- a sum is less if no part is greater and that of a row that is found is less
   pub sum_by-less : (row : R) (xs : List R) → find p xs ≡ Some row → ((y : R) → f y ≤ g y) → f row < g row → sum_by f xs < sum_by g xs
   sum_by-less row [] h each less = cc
   sum_by-less row (x ∷ xs) h each less = less_cons x row xs (p x) h each less (λ e. sum_by-less row xs e each less)

@@ -1,4 +1,4 @@
--- What holds of rows and what some row does is kept by a put.
+-- What holds of each row, or of some row, still holds after a put.
 use Rattle.std.proofs.Common.{◌≡◌, ℕ, ◌+◌, ◌<◌, ◌≤◌, Bool, true, false, ◌&&◌, ◌||◌, List, [], ◌∷◌, ◌++◌, Option, Some, None, cond, refl, sym, ◌∙◌, ap, subst, sum_by, arith}
 use Rattle.std.specs.List.{list_any, find, All}
 use Rattle.std.proofs.lemmas.Grind.{common_steps}
@@ -16,7 +16,7 @@ module _ {R : Type 0} (key : R → Bool) where
   All-put P row (old ∷ rest) p h =
       all_cons P row old rest (key old) p (All-head P old rest h) (All-tail P old rest h) (All-put P row rest p (All-tail P old rest h))
 
-  -- some row passes, and the one that is replaced doesn't, or the new one does too
+  -- some row passes after a put: the new one, or one that is not replaced
   or_right : (a : Bool) {b : Bool} → b ≡ true → (a || b) ≡ true
   or_right true h = refl
   or_right false h = h
@@ -42,7 +42,7 @@ module _ {R : Type 0} (key : R → Bool) where
   kept_cons p row old first rest false true e f n h ih = or_left (list_any p (put_row key row rest)) e
   kept_cons p row old first rest false false e f n h ih = or_right (p old) (ih f h)
 
-  -- the row that is replaced doesn't pass
+  -- the row that is replaced does not pass, so that another one does
   pub any-put_kept : (p : R → Bool) (row first : R) (xs : List R) → find key xs ≡ Some first → p first ≡ false → list_any p xs ≡ true → list_any p (put_row key row xs) ≡ true
   any-put_kept p row first [] f n h = cc
   any-put_kept p row first (old ∷ rest) f n h =

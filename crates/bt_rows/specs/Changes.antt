@@ -6,6 +6,7 @@ use Rattle.bt_rows.specs.State.{State}
 use Rattle.bt_rows.specs.Lists.{put_row, drop_row}
 use Rattle.bt_rows.specs.Keys.{same_pool, pool_has_id, same_node, node_has_number, same_job, job_has_id, same_task, task_has_key, same_run, run_has_number, same_prep, prep_has_key, same_sample, sample_has_key, same_scale, scale_has_pool}
 
+-- a row that is put replaces the one with its key, or goes to the end
 abbrev pub apply_change : Change → State → State
 apply_change (PutPool row) s = record s { pools = put_row (λ old. same_pool old row) row s.pools }
 apply_change (DropPool key) s = record s { pools = drop_row (pool_has_id key) s.pools }
@@ -26,7 +27,7 @@ apply_change (DropScale key) s = record s { scales = drop_row (scale_has_pool ke
 apply_change (Counters node run) s = record s { next_node = node; next_run = run }
 apply_change (Now moment) s = record s { moment = moment }
 
--- from the left
+-- from the first to the last
 abbrev pub apply_changes : List Change → State → State
 apply_changes [] s = s
 apply_changes (change ∷ changes) s = apply_changes changes (apply_change change s)

@@ -4,6 +4,7 @@ use Rattle.std.specs.Cmp.{IsEquivalence, on_equiv, nat_eq_equiv}
 use Rattle.bt_rows.specs.declared.sample.Metric.{Metric}
 use Rattle.bt_rows.specs.declared.sample.Metric.TheVariants.{CpuPercent, ActiveTasks, RunningTasks, PendingTasks, SucceededTasks, FailedTasks, TaskSlotsPerNode, CurrentDedicatedNodes, CurrentLowPriorityNodes, PreemptedNodeCount}
 
+-- a number for each metric
 abbrev pub place_of_metric : Metric → ℕ
 place_of_metric CpuPercent = 0
 place_of_metric ActiveTasks = 1
@@ -16,8 +17,10 @@ place_of_metric CurrentDedicatedNodes = 7
 place_of_metric CurrentLowPriorityNodes = 8
 place_of_metric PreemptedNodeCount = 9
 
+-- both are the same metric
 abbrev pub same_metric : Metric → Metric → Bool
 same_metric a b = nat_eq (place_of_metric a) (place_of_metric b)
 
+-- which is an equivalence
 pub metric_equiv : IsEquivalence same_metric
 metric_equiv = on_equiv place_of_metric nat_eq_equiv

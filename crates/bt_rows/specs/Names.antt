@@ -3,7 +3,7 @@ use Rattle.std.specs.Prelude.{ℕ, List, codes}
 use Rattle.bt_rows.specs.declared.member.Member.{Member}
 use Rattle.bt_rows.specs.declared.member.Member.TheVariants as names
 
--- as a body or a query has them
+-- the name of a member in a body or a query
 unfoldable pub member_text : Member → List ℕ
 member_text names.Id = codes "id"
 member_text names.CommandLine = codes "commandLine"

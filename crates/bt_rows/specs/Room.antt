@@ -2,7 +2,7 @@
 use Rattle.std.specs.Prelude.{◌+◌, ◌≤◌, vec_len, vec_capacity}
 use Rattle.bt_rows.specs.declared.tables.Tables.TheInside.{Inside}
 
--- each list has as many free places as the room says
+-- each list has at least `room` free places
 pub record HasRoom (t : Inside) : Type 0 where
   pub pools : vec_len t.pools + t.room ≤ vec_capacity t.pools
   pub nodes : vec_len t.nodes + t.room ≤ vec_capacity t.nodes

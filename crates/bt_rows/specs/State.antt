@@ -23,10 +23,11 @@ pub record State : Type 0 where
   pub next_run : ℕ
   pub moment : ℕ
 
--- a state, and how many changes of it take no memory
+-- a state, and the number of changes that may be applied to it without an allocation
 pub record StateWithRoom : Type 0 where
   pub state : State
   pub room : ℕ
 
+-- no rows
 abbrev pub empty_state : State
 empty_state = record { pools = []; nodes = []; jobs = []; tasks = []; runs = []; preps = []; samples = []; scales = []; next_node = 1; next_run = 1; moment = 0 }

@@ -1,4 +1,4 @@
-//! Events, and what their bodies hold.
+//! Events, and the contents of their bodies.
 ghost use Rattle.std.specs.Prelude.{◌≡◌, true};
 ghost use Rattle.bt_rows.specs.Ranges.{is_event_in_range};
 
@@ -9,132 +9,210 @@ use crate::task::{Given, Multi};
 use bt_base::{CommandLine, Id, List, Num, Text};
 use std::marker::Model;
 
-/// A formula, and the milliseconds between its evaluations.
+/// How a pool is to scale automatically.
 #[derive(Drop)]
 pub struct Scaling {
+    /// The formula, at most 8,192 bytes (Azure: autoScaleFormula).
     pub formula: Text,
+    /// The time between evaluations, in milliseconds, 300,000 to 604,800,000 (Azure: autoScaleEvaluationInterval).
     pub interval: u64,
 }
 
-/// The body of `add-pool`.
+/// The body of `add-pool` (Azure: BatchPoolCreateContent).
 #[derive(Drop)]
 pub struct PoolSpec {
+    /// The id (Azure: id).
     pub id: Id,
+    /// The wanted number of dedicated nodes, 0 to 1,000; 0 if the pool scales automatically (Azure: targetDedicatedNodes).
     pub dedicated: u32,
+    /// The wanted number of low-priority nodes, which is 0 in this project's profile (Azure: targetLowPriorityNodes).
     pub low: u32,
+    /// The slots of each node, 1 to 8 (Azure: taskSlotsPerNode).
     pub slots: u8,
+    /// How tasks are distributed over the nodes (Azure: taskSchedulingPolicy.nodeFillType).
     pub fill: Fill,
+    /// Whether nodes may communicate (Azure: enableInterNodeCommunication).
     pub inter: bool,
+    /// The timeout of resizes in milliseconds, 300,000 to 864,000,000 (Azure: resizeTimeout).
     pub timeout: u64,
+    /// The start task; None if there is none (Azure: startTask).
     pub start: Option<StartTask>,
+    /// How it scales automatically; None if it does not (Azure: enableAutoScale).
     pub scale: Option<Scaling>,
 }
 
-/// The body of `resize`.
+/// The body of `resize` (Azure: BatchPoolResizeContent). It has at least one of the two targets.
 #[derive(Drop)]
 pub struct ResizeSpec {
+    /// The wanted number of dedicated nodes, 0 to 1,000; None leaves the target (Azure: targetDedicatedNodes).
     pub dedicated: Option<u32>,
+    /// The wanted number of low-priority nodes, which is 0 in this project's profile; None leaves the target (Azure:
+    /// targetLowPriorityNodes).
     pub low: Option<u32>,
+    /// The timeout in milliseconds, 300,000 to 864,000,000 (Azure: resizeTimeout).
     pub timeout: u64,
+    /// What it does to the tasks of nodes that leave (Azure: nodeDeallocationOption).
     pub option: Dealloc,
 }
 
-/// The body of `enable-autoscale`.
+/// The body of `enable-autoscale` (Azure: BatchPoolEnableAutoScaleContent).
 #[derive(Drop)]
 pub struct ScaleSpec {
+    /// The formula, at most 8,192 bytes; None leaves the one that is there (Azure: autoScaleFormula).
     pub formula: Option<Text>,
+    /// The time between evaluations, in milliseconds, 300,000 to 604,800,000; None leaves the one that is there, or is
+    /// 900,000 (Azure: autoScaleEvaluationInterval).
     pub interval: Option<u64>,
 }
 
-/// The body of `add-job` beside its id.
+/// The body of `add-job` beside its id (Azure: BatchJobCreateContent).
 #[derive(Drop)]
 pub struct JobSpec {
+    /// The id of the pool that its tasks run in (Azure: poolInfo.poolId).
     pub pool: Id,
+    /// The priority, -1,000 to 1,000; a greater number is a higher one (Azure: priority).
     pub priority: i32,
+    /// The greatest number of placed tasks, 1 to 2,147,483,647, or -1 for no limit (Azure: maxParallelTasks).
     pub parallel: i32,
+    /// How often a task that names no number is tried again after a failure: 0 to 1,000,000, or -1 for no limit (Azure:
+    /// constraints.maxTaskRetryCount).
     pub retries: i32,
+    /// The longest time from its creation to its end, in milliseconds, 0 to 3,153,600,000,000; None for no limit (Azure:
+    /// constraints.maxWallClockTime).
     pub wall: Option<u64>,
+    /// Whether its tasks may depend on others (Azure: usesTaskDependencies).
     pub deps: bool,
+    /// Whether it is terminated once all its tasks are completed (Azure: onAllTasksComplete).
     pub on_all: bool,
+    /// Whether the job action of an ended task is done (Azure: onTaskFailure).
     pub on_fail: bool,
+    /// What runs on a node before its first task of the job; None if there is none (Azure: jobPreparationTask).
     pub prep: Option<StartTask>,
+    /// What runs when the job ends, only beside a preparation; None if there is none (Azure: jobReleaseTask).
     pub release: Option<ReleaseTask>,
 }
 
-/// How often a job's tasks are tried again, and how long the job may last.
+/// The constraints that a change of a job sets (Azure: constraints).
 #[derive(Drop)]
 pub struct Limits {
+    /// How often a task that names no number is tried again after a failure: 0 to 1,000,000, or -1 for no limit (Azure:
+    /// maxTaskRetryCount).
     pub retries: i32,
+    /// The longest time from the job's creation to its end, in milliseconds, 0 to 3,153,600,000,000; None for no limit
+    /// (Azure: maxWallClockTime).
     pub wall: Option<u64>,
 }
 
-/// The body of `patch-job`.
+/// The body of `patch-job` (Azure: BatchJobUpdateContent). What is None is left as it is.
 #[derive(Drop)]
 pub struct JobPatch {
+    /// The priority, -1,000 to 1,000 (Azure: priority).
     pub priority: Option<i32>,
+    /// The greatest number of placed tasks, 1 to 2,147,483,647, or -1 for no limit (Azure: maxParallelTasks).
     pub parallel: Option<i32>,
+    /// The constraints, both of them (Azure: constraints).
     pub limits: Option<Limits>,
+    /// Whether it is terminated once all its tasks are completed (Azure: onAllTasksComplete).
     pub on_all: Option<bool>,
 }
 
-/// What `disable-job` does to placed tasks.
+/// What `disable-job` does to placed tasks (Azure: disableTasks).
 #[derive(Clone, Copy, Debug, PartialEq, Eq)]
 pub enum DisableTasks {
+    /// They are stopped and become active again (Azure: requeue).
     Requeue,
+    /// They are stopped and complete as terminated (Azure: terminate).
     Terminate,
+    /// They run to their end (Azure: wait).
     Wait,
 }
 
-/// The body of `add-task`.
+/// The body of `add-task` (Azure: BatchTaskCreateContent).
 #[derive(Drop)]
 pub struct TaskSpec {
+    /// The id (Azure: id).
     pub id: Id,
+    /// The command line (Azure: commandLine).
     pub line: CommandLine,
+    /// The slots that it holds of its node, 1 to 8 (Azure: requiredSlots).
     pub slots: u8,
+    /// How often it is tried again after a failure: 0 to 1,000,000, or -1 for no limit; None for the job's number (Azure:
+    /// constraints.maxTaskRetryCount).
     pub retries: Option<i32>,
+    /// The longest time from the start of an attempt to its end, in milliseconds, 0 to 3,153,600,000,000; None for no limit
+    /// (Azure: constraints.maxWallClockTime).
     pub wall: Option<u64>,
+    /// How long its files are kept after it ended, in milliseconds, 0 to 3,153,600,000,000; None for without end (Azure:
+    /// constraints.retentionTime).
     pub retention: Option<u64>,
+    /// Exit options for single exit codes (Azure: exitConditions.exitCodes).
     pub codes: List<(i32, Given)>,
+    /// Exit options for ranges of exit codes, with the first and the last code of each (Azure: exitConditions.exitCodeRanges).
     pub ranges: List<(i32, i32, Given)>,
+    /// Exit options for a command line that could not be started (Azure: exitConditions.preProcessingError).
     pub launch: Option<Given>,
+    /// Exit options for every other ending that is not code 0 (Azure: exitConditions.default).
     pub other: Option<Given>,
+    /// The ids of tasks of the job that it depends on (Azure: dependsOn.taskIds).
     pub needs: List<Id>,
+    /// Ranges of numbers of tasks of the job that it depends on, with the first and the last number of each, at most 64
+    /// (Azure: dependsOn.taskIdRanges).
     pub spans: List<(u32, u32)>,
+    /// How it runs on several nodes; None if it runs on one (Azure: multiInstanceSettings).
     pub multi: Option<Multi>,
 }
 
-/// What comes to the service from outside, by its kind.
+/// What reaches the service from outside, by its kind. Names are those of the operations of the Azure Batch REST reference
+/// where it has them.
 #[derive(Drop)]
 pub enum EventKind {
+    /// A pool is added (Azure: Create Pool).
     AddPool(PoolSpec),
+    /// The pool with this id is deleted (Azure: Delete Pool).
     DeletePool(Id),
+    /// The pool with this id is resized (Azure: Resize Pool).
     Resize(Id, ResizeSpec),
+    /// The resize of the pool with this id is stopped (Azure: Stop Pool Resize).
     StopResize(Id),
+    /// The pool with this id scales automatically from now on (Azure: Enable Pool Auto Scale).
     EnableAutoscale(Id, ScaleSpec),
+    /// The pool with this id no longer scales automatically (Azure: Disable Pool Auto Scale).
     DisableAutoscale(Id),
+    /// A formula is evaluated over the pool with this id, which it does not change (Azure: Evaluate Pool Auto Scale).
     EvaluateAutoscale(Id, Text),
+    /// A job with this id is added (Azure: Create Job).
     AddJob(Id, JobSpec),
+    /// The job with this id is changed (Azure: Update Job).
     PatchJob(Id, JobPatch),
+    /// The job with this id is disabled (Azure: Disable Job).
     DisableJob(Id, DisableTasks),
+    /// The job with this id is enabled (Azure: Enable Job).
     EnableJob(Id),
+    /// The job with this id is terminated, for a reason of 1 to 256 bytes if one is stated (Azure: Terminate Job).
     TerminateJob(Id, Option<Text>),
+    /// The job with this id is deleted (Azure: Delete Job).
     DeleteJob(Id),
+    /// A task is added to the job with this id (Azure: Create Task).
     AddTask(Id, TaskSpec),
+    /// Tasks are added to the job with this id, each as `AddTask` would add it (Azure: Create Task Collection).
     AddTasks(Id, List<TaskSpec>),
-    /// A task of a job.
+    /// Of the job with the first id, the task with the second id is deleted (Azure: Delete Task).
     DeleteTask(Id, Id),
+    /// Of the job with the first id, the task with the second id is terminated (Azure: Terminate Task).
     TerminateTask(Id, Id),
+    /// Of the job with the first id, the task with the second id is made active again (Azure: Reactivate Task).
     ReactivateTask(Id, Id),
-    /// The child program of this run is being started.
+    /// The child program of the run with this number is being started (this project's own).
     Take(u64),
-    /// The child program of this run has ended so.
+    /// The child program of the run with this number has ended like this (this project's own).
     End(u64, Ending),
-    /// A pool's processor time, in percent.
+    /// A sample of the processor time of the pool with this id, in percent, 0 to 100 (this project's own).
     Sample(Id, Num),
+    /// Time passes (this project's own).
     Tick,
 }
 
-/// What comes to the service from outside. Its values are in their ranges, which its type keeps.
+/// What reaches the service from outside. Its values are in their ranges, which its type keeps.
 #[derive(Drop)]
 pub struct Event {
     kind: EventKind,
@@ -153,7 +231,7 @@ impl Model for Event {
 }
 
 impl Event {
-    /// The event of this kind, whose values are in their ranges.
+    /// The event of this kind, whose values are in their ranges. It does not allocate.
     pub fn new(kind: EventKind) -> Event
         requires { is_event_in_range kind ≡ true }
         ensures { result ≡ kind }

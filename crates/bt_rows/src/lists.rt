@@ -1,4 +1,4 @@
-//! Lists of rows, by their keys.
+//! Lists of rows with keys: putting, dropping and finding a row.
 ghost use Rattle.std.specs.Prelude.{◌≡◌, ◌<◌, ◌≤◌, ◌+◌, Bool, vec_len, vec_capacity, MatchOption};
 ghost use Rattle.std.specs.List.{find, position};
 ghost use Rattle.std.specs.Cmp.{IsEquivalence};
@@ -8,23 +8,26 @@ use bt_base::Duplicate;
 
 /// A row with a key.
 pub trait Row: Duplicate {
+    /// What tells the row from others of its kind.
     type Key;
 
     ghost has_key: { Self.Key → Self → Bool };
 
     ghost same_key: { Self → Self → Bool };
 
+    /// Whether the row has the key.
     fn has_key(&self, key: &Self::Key) -> bool
         ensures { result ≡ has_key key.now self.now };
 
+    /// Whether both rows have the same key.
     fn same_key(&self, other: &Self) -> bool
         ensures { result ≡ same_key self.now other.now };
 
-    /// Rows with one key have each other's.
+    // to have the same key is an equivalence
     ghost same_key_equiv: { IsEquivalence same_key };
 }
 
-/// Puts the row in the place of the one that has its key, or else at the end.
+/// Replaces the row that has the new one's key, or else adds the new one at the end. It does not allocate.
 pub fn put<R: Row>(rows: &mut Vec<R>, row: R)
     requires { vec_len rows.old < vec_capacity rows.old }
     ensures items { rows.new.items ≡ put_row (λ old. R.same_key old row) row rows.old.items }
@@ -37,7 +40,7 @@ pub fn put<R: Row>(rows: &mut Vec<R>, row: R)
     }
 }
 
-/// Drops the row that has the key.
+/// Drops the first row that has the key, if there is one. It does not allocate.
 pub fn drop_by_key<R: Row>(rows: &mut Vec<R>, key: &R::Key)
     ensures items { rows.new.items ≡ drop_row (R.has_key key.now) rows.old.items }
     ensures len { vec_len rows.new ≤ vec_len rows.old }
@@ -51,7 +54,7 @@ pub fn drop_by_key<R: Row>(rows: &mut Vec<R>, key: &R::Key)
     }
 }
 
-/// The row that has the key.
+/// The first row that has the key; None if there is none. It does not allocate.
 pub fn get<'a, R: Row>(rows: &'a [R], key: &R::Key) -> Option<&'a R>
     ensures { MatchOption result (find (R.has_key key.now) rows.now ≡ None) (λ row. find (R.has_key key.now) rows.now ≡ Some row.now) }
 {

@@ -2,7 +2,8 @@
 ghost use Rattle.std.specs.Prelude.{◌≡◌};
 ghost use Rattle.bt_rows.specs.Names.{member_text};
 
-/// A member of a body or of a query, by its name in the Azure Batch REST reference.
+/// A member of a body or of a query. Its variant is its name in the Azure Batch REST reference, but for `After` and `Node`, which
+/// are this project's own.
 #[derive(Clone, Copy, Debug, PartialEq, Eq)]
 pub enum Member {
     Id,
@@ -60,7 +61,7 @@ pub enum Member {
 }
 
 impl Member {
-    /// The member's name.
+    /// The member's name, in ASCII. It does not allocate.
     #[tactic(auto, unfolding(crate::specs::Names::member_text))]
     pub fn text(self) -> &'static str
         ensures { result.now ≡ member_text self }

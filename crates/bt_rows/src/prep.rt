@@ -1,36 +1,54 @@
+//! Preparations of jobs on nodes.
 ghost use Rattle.bt_rows.specs.Keys.{prep_has_key, same_prep, same_prep_equiv};
 
 use crate::lists::Row;
 use bt_base::{Duplicate, Id, NoMemory};
 
+/// The state of a preparation (Azure: jobPreparationTaskExecutionInfo.state).
 #[derive(Clone, Copy, Debug, PartialEq, Eq)]
 pub enum PrepState {
+    /// It is queued or runs, also again after a failure (Azure: running).
     Running,
+    /// It ended with code 0 (Azure: completed).
     Completed,
+    /// It failed for the last time, or was stopped (Azure: completed, with the result `failure`).
     Failed,
 }
 
+/// The state of a job's release task on the node (Azure: jobReleaseTaskExecutionInfo.state).
 #[derive(Clone, Copy, Debug, PartialEq, Eq)]
 pub enum ReleaseState {
+    /// It was not made.
     No,
+    /// It is queued or runs (Azure: running).
     Running,
+    /// It has ended, with any code (Azure: completed).
     Done,
 }
 
-/// A job's preparation on a node.
+/// A job's preparation on a node (Azure: the status of job preparation and release tasks). Its key is the job and the node.
 #[derive(Clone, Drop)]
 pub struct PrepRow {
+    /// The id of the job (Azure: jobId).
     pub job: Id,
+    /// The number of the node (in place of Azure's nodeId).
     pub node: u64,
+    /// The state of the preparation.
     pub state: PrepState,
+    /// How often it has failed (Azure: jobPreparationTaskExecutionInfo.retryCount).
     pub tries: u64,
+    /// Whether a task of the job was started on the node, so that the release task runs there (this project's own).
     pub ran: bool,
+    /// The state of the release task.
     pub release: ReleaseState,
 }
 
+/// The key of a preparation.
 #[derive(Clone, Drop)]
 pub struct PrepKey {
+    /// The id of the job.
     pub job: Id,
+    /// The number of the node.
     pub node: u64,
 }
 

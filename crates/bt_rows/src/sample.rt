@@ -1,3 +1,4 @@
+//! Samples of metrics.
 ghost use Rattle.bt_rows.specs.Keys.{sample_has_key, same_sample, same_sample_equiv};
 
 use crate::lists::Row;
@@ -17,19 +18,27 @@ pub enum Metric {
     PreemptedNodeCount,
 }
 
-/// A sample of a pool's metric.
+/// A sample of a pool's metric (Azure: what `GetSample` of autoscale formulas reads). Its key is pool, metric and label.
 #[derive(Clone, Drop)]
 pub struct SampleRow {
+    /// The id of the pool.
     pub pool: Id,
+    /// The metric.
     pub metric: Metric,
+    /// When it was taken, in milliseconds since 1970: a multiple of 30,000.
     pub label: u64,
+    /// The value, in millionths.
     pub value: Num,
 }
 
+/// The key of a sample.
 #[derive(Clone, Drop)]
 pub struct SampleKey {
+    /// The id of the pool.
     pub pool: Id,
+    /// The metric.
     pub metric: Metric,
+    /// When it was taken, in milliseconds since 1970: a multiple of 30,000.
     pub label: u64,
 }
 

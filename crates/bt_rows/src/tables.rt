@@ -1,4 +1,4 @@
-//! The tables, and changes of them.
+//! The tables, and changes of them. Rows are found by their keys in `lookup`.
 ghost use Rattle.std.specs.Prelude.{◌≡◌, ◌≤◌, ◌+◌, length, OnOk, OnErr, IfOk};
 ghost use Rattle.bt_rows.specs.State.{State, empty_state};
 ghost use Rattle.bt_rows.specs.Changes.{apply_change, apply_changes};
@@ -18,8 +18,7 @@ use std::marker::Model;
 
 /// The rows of a service, each kind in order of adding.
 ///
-/// Contracts see them as a `State`, and beside it the room: so many changes may be applied without
-/// memory.
+/// Contracts see them as a `State`, and beside it the room: the number of changes that may be applied without an allocation.
 #[derive(Drop)]
 pub struct Tables {
     pools: Vec<PoolRow>,
@@ -52,30 +51,50 @@ impl Model for Tables {
     ghost invariant = { HasRoom };
 }
 
-/// One change of the tables.
+/// One change of the tables. A row that is put replaces the one with its key, or else goes to the end; a dropped key that no
+/// row has changes nothing.
 #[derive(Drop)]
 pub enum Change {
+    /// Puts a pool.
     PutPool(PoolRow),
+    /// Drops the pool with this id.
     DropPool(Id),
+    /// Puts a node.
     PutNode(NodeRow),
+    /// Drops the node with this number.
     DropNode(u64),
+    /// Puts a job.
     PutJob(JobRow),
+    /// Drops the job with this id.
     DropJob(Id),
+    /// Puts a task.
     PutTask(TaskRow),
+    /// Drops the task with this key.
     DropTask(TaskKey),
+    /// Puts a run.
     PutRun(RunRow),
+    /// Drops the run with this number.
     DropRun(u64),
+    /// Puts a preparation.
     PutPrep(PrepRow),
+    /// Drops the preparation with this key.
     DropPrep(PrepKey),
+    /// Puts a sample.
     PutSample(SampleRow),
+    /// Drops the sample with this key.
     DropSample(SampleKey),
+    /// Puts the scaling of a pool.
     PutScale(ScaleRow),
+    /// Drops the scaling of the pool with this id.
     DropScale(Id),
+    /// Sets the numbers of the next node and of the next run.
     Counters(u64, u64),
+    /// Sets the last moment, in milliseconds since 1970.
     Now(u64),
 }
 
 impl Tables {
+    /// Tables without rows, with the counters 1 and the moment 0. It does not allocate.
     pub fn empty(alloc: Global) -> Tables
         ensures { result.state ≡ empty_state }
     {
@@ -95,72 +114,84 @@ impl Tables {
         }
     }
 
+    /// The pools, in order of adding.
     pub fn pools(&self) -> &[PoolRow]
         ensures { result.now ≡ self.now.state.pools }
     {
         self.pools.as_slice()
     }
 
+    /// The nodes, in order of adding.
     pub fn nodes(&self) -> &[NodeRow]
         ensures { result.now ≡ self.now.state.nodes }
     {
         self.nodes.as_slice()
     }
 
+    /// The jobs, in order of adding.
     pub fn jobs(&self) -> &[JobRow]
         ensures { result.now ≡ self.now.state.jobs }
     {
         self.jobs.as_slice()
     }
 
+    /// The tasks of all jobs, in order of adding.
     pub fn tasks(&self) -> &[TaskRow]
         ensures { result.now ≡ self.now.state.tasks }
     {
         self.tasks.as_slice()
     }
 
+    /// The runs, in order of making.
     pub fn runs(&self) -> &[RunRow]
         ensures { result.now ≡ self.now.state.runs }
     {
         self.runs.as_slice()
     }
 
+    /// The preparations of jobs on nodes, in order of adding.
     pub fn preps(&self) -> &[PrepRow]
         ensures { result.now ≡ self.now.state.preps }
     {
         self.preps.as_slice()
     }
 
+    /// The samples, in order of adding.
     pub fn samples(&self) -> &[SampleRow]
         ensures { result.now ≡ self.now.state.samples }
     {
         self.samples.as_slice()
     }
 
+    /// The scalings of pools, in order of adding.
     pub fn scales(&self) -> &[ScaleRow]
         ensures { result.now ≡ self.now.state.scales }
     {
         self.scales.as_slice()
     }
 
+    /// The greatest moment that was handed in so far, in milliseconds since 1970.
     pub fn moment(&self) -> u64
         ensures { result ≡ self.now.state.moment }
     {
         self.moment
     }
 
+    /// The number of the next node that is made.
     pub fn next_node(&self) -> u64
         ensures { result ≡ self.now.state.next_node }
     {
         self.next_node
     }
 
+    /// The number of the next run that is made.
     pub fn next_run(&self) -> u64
         ensures { result ≡ self.now.state.next_run }
     {
         self.next_run
     }
 
+    /// A copy of the tables, without room. It fails only when out of memory.
     pub fn copy(&self) -> Result<Tables, NoMemory>
         ensures { IfOk result (λ copy. copy.state ≡ self.now.state) }
     {
@@ -181,7 +212,7 @@ impl Tables {
         })
     }
 
-    /// Takes room for these changes.
+    /// Reserves room for these changes. It fails only when out of memory, and then the tables are as before.
     pub fn reserve(&mut self, changes: &[Change]) -> Result<(), NoMemory>
         ensures state { self.new.state ≡ self.old.state }
         ensures room { OnOk result (length changes.now ≤ self.new.room) }
@@ -199,7 +230,7 @@ impl Tables {
         Ok(())
     }
 
-    /// Makes one change. It takes no memory.
+    /// Makes one change. It does not allocate.
     fn apply_one(&mut self, change: Change)
         requires { 1 ≤ self.old.room }
         ensures state { self.new.state ≡ apply_change change self.old.state }
@@ -231,7 +262,7 @@ impl Tables {
         }
     }
 
-    /// Makes the changes in order. It takes no memory.
+    /// Makes the changes from the first to the last. It does not allocate.
     pub fn apply(&mut self, changes: List<Change>)
         requires { length changes ≤ self.old.room }
         ensures { self.new.state ≡ apply_changes changes self.old.state }

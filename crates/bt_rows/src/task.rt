@@ -1,89 +1,146 @@
+//! Tasks.
 ghost use Rattle.bt_rows.specs.Keys.{task_has_key, same_task, same_task_equiv};
-ghost use Rattle.std.specs.Prelude.{◌≡◌, IfOk};
 
 use crate::lists::Row;
 use crate::run::Ending;
 use bt_base::{CommandLine, Duplicate, Id, List, NoMemory};
 
+/// What a task's ending does to its job (Azure: jobAction).
 #[derive(Clone, Copy, Debug, PartialEq, Eq)]
 pub enum JobAction {
+    /// Nothing (Azure: none).
     Nothing,
+    /// The job is disabled, and its placed tasks are requeued (Azure: disable).
     Disable,
+    /// The job is terminated (Azure: terminate).
     Terminate,
 }
 
+/// The exit options that a task states for an ending (Azure: exitOptions).
 #[derive(Clone, Copy, Debug, PartialEq, Eq)]
 pub struct Given {
+    /// What becomes of the job; None if it is not stated (Azure: jobAction).
     pub job: Option<JobAction>,
+    /// Whether dependent tasks may go on; None if it is not stated (Azure: dependencyAction, which is `satisfy` or `block`).
     pub satisfies: Option<bool>,
 }
 
-/// What an ending means: what becomes of the job, and whether the task satisfies its dependents.
+/// The exit options that count for an ending, with the defaults of those that the task does not state (Azure: exitOptions).
 #[derive(Clone, Copy, Debug, PartialEq, Eq)]
 pub struct Options {
+    /// What becomes of the job (Azure: jobAction).
     pub job: JobAction,
+    /// Whether dependent tasks may go on (Azure: dependencyAction).
     pub satisfies: bool,
 }
 
-#[derive(Drop)]
+/// How a task runs on several nodes at once (Azure: multiInstanceSettings).
+#[derive(Clone, Drop)]
 pub struct Multi {
+    /// The number of nodes, 1 to 32 (Azure: numberOfInstances).
     pub count: u8,
+    /// The command line that each of the nodes runs first (Azure: coordinationCommandLine).
     pub line: CommandLine,
 }
 
+/// How far a task has come. Its state in replies follows from its stage and its runs (Azure: state of a task).
 #[derive(Clone, Copy, Debug, PartialEq, Eq)]
 pub enum TaskStage {
+    /// It is to be placed (Azure: active).
     Active,
+    /// It is placed on a node, or on several (Azure: preparing, or running).
     Placed,
+    /// It has ended (Azure: completed).
     Completed,
 }
 
+/// How a placed task is to be ended from outside its command line (this project's own).
 #[derive(Clone, Copy, Debug, PartialEq, Eq)]
 pub enum Want {
+    /// It becomes active again, and does not count a failure.
     Requeue,
+    /// It completes as terminated.
     Terminate,
+    /// It completes since its longest time has passed.
     Wall,
+    /// It is removed.
     Delete,
 }
 
+/// How a task was completed.
 #[derive(Clone, Copy, Debug, PartialEq, Eq)]
 pub enum How {
+    /// By an ending of its command line.
     Ended(Ending),
+    /// By the user, or with its job.
     Terminated,
+    /// By the end of its longest time (Azure: constraints.maxWallClockTime).
     Wall,
 }
 
+/// The end of a completed task.
 #[derive(Clone, Copy, Debug, PartialEq, Eq)]
 pub struct Closed {
+    /// How it was completed.
     pub how: How,
+    /// Whether it succeeded, which is an ending with code 0 (Azure: executionInfo.result).
     pub success: bool,
+    /// Whether tasks that depend on it may go on.
     pub satisfies: bool,
+    /// When it was completed, in milliseconds since 1970 (Azure: executionInfo.endTime).
     pub at: u64,
 }
 
-/// A task of a job.
+/// A task of a job. Its key is the job and its id.
 #[derive(Drop)]
 pub struct TaskRow {
+    /// The id of the job, as the job spells it.
     pub job: Id,
+    /// The id, unique among the job's tasks but for case (Azure: id).
     pub id: Id,
+    /// The command line (Azure: commandLine).
     pub line: CommandLine,
+    /// The slots that it holds of its node, 1 to 8 (Azure: requiredSlots).
     pub slots: u8,
+    /// How often it is tried again after a failure: 0 to 1,000,000, or -1 for no limit; None for the job's number (Azure:
+    /// constraints.maxTaskRetryCount).
     pub retries: Option<i32>,
+    /// The longest time from the start of an attempt to its end, in milliseconds, 0 to 3,153,600,000,000; None for no limit
+    /// (Azure: constraints.maxWallClockTime).
     pub wall: Option<u64>,
+    /// How long its files are kept after it ended, in milliseconds, 0 to 3,153,600,000,000; None for without end (Azure:
+    /// constraints.retentionTime).
     pub retention: Option<u64>,
+    /// Exit options for single exit codes, of which the first with the code counts (Azure: exitConditions.exitCodes).
     pub codes: List<(i32, Given)>,
+    /// Exit options for ranges of exit codes, with the first and the last code of each, of which the first that holds the code
+    /// counts, after `codes` (Azure: exitConditions.exitCodeRanges).
     pub ranges: List<(i32, i32, Given)>,
+    /// Exit options for a command line that could not be started (Azure: exitConditions.preProcessingError).
     pub launch: Option<Given>,
+    /// Exit options for every other ending that is not code 0 (Azure: exitConditions.default).
     pub other: Option<Given>,
+    /// The ids of tasks of the job that it depends on, at most 64,000 characters together (Azure: dependsOn.taskIds).
     pub needs: List<Id>,
+    /// Ranges of numbers of tasks of the job that it depends on, with the first and the last number of each, at most 64
+    /// (Azure: dependsOn.taskIdRanges).
     pub spans: List<(u32, u32)>,
+    /// How it runs on several nodes; None if it runs on one (Azure: multiInstanceSettings).
     pub multi: Option<Multi>,
+    /// How far it has come.
     pub stage: TaskStage,
+    /// The number of its present attempt, which is how often it was placed.
     pub attempt: u64,
+    /// How many of its attempts failed since it was added or reactivated (Azure: executionInfo.retryCount).
     pub failures: u64,
+    /// How it is to be ended from outside its command line; None if it is not (this project's own).
     pub wanted: Option<Want>,
+    /// The ending with which a coordination failed in the present attempt; None if none did (this project's own).
     pub fail: Option<Ending>,
+    /// When the present attempt's first child program was started, in milliseconds since 1970; None if none was (Azure:
+    /// executionInfo.startTime).
     pub started: Option<u64>,
+    /// Its end; None if it is not completed.
     pub closed: Option<Closed>,
 }
 
@@ -96,7 +153,7 @@ impl Duplicate for TaskRow {
         let codes = self.codes.copied()?;
         let ranges = self.ranges.copied()?;
         let spans = self.spans.copied()?;
-        let multi = copy_multi(&self.multi)?;
+        let multi = self.multi.clone()?;
         Ok(TaskRow {
             job,
             id,
@@ -123,21 +180,12 @@ impl Duplicate for TaskRow {
     }
 }
 
-fn copy_multi(multi: &Option<Multi>) -> Result<Option<Multi>, NoMemory>
-    ensures { IfOk result (λ copy. copy ≡ multi.now) }
-{
-    match multi {
-        None => Ok(None),
-        Some(multi) => Ok(Some(Multi {
-            count: multi.count,
-            line: multi.line.copy()?,
-        })),
-    }
-}
-
+/// The key of a task.
 #[derive(Clone, Drop)]
 pub struct TaskKey {
+    /// The id of the job.
     pub job: Id,
+    /// The id of the task.
     pub id: Id,
 }
 
