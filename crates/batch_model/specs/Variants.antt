@@ -4,8 +4,8 @@ pub use Rattle.bt_rows.specs.declared.pool.Alloc.{Alloc}
 pub use Rattle.bt_rows.specs.declared.pool.Alloc.TheVariants.{Steady, Resizing, Stopping}
 pub use Rattle.bt_rows.specs.declared.pool.Fill.{Fill}
 pub use Rattle.bt_rows.specs.declared.pool.Fill.TheVariants.{Spread, Pack}
-pub use Rattle.bt_rows.specs.declared.pool.Dealloc.{Dealloc}
-pub use Rattle.bt_rows.specs.declared.pool.Dealloc.TheVariants.{Requeue as ByRequeue, Terminate as ByTerminate, TaskCompletion, RetainedData}
+pub use Rattle.bt_base.specs.declared.dealloc_option.Dealloc.{Dealloc}
+pub use Rattle.bt_base.specs.declared.dealloc_option.Dealloc.TheVariants.{Requeue as ByRequeue, Terminate as ByTerminate, TaskCompletion, RetainedData}
 pub use Rattle.bt_rows.specs.declared.pool.ResizeError.{ResizeError}
 pub use Rattle.bt_rows.specs.declared.pool.ResizeError.TheVariants.{AllocationTimedOut, ResizeStopped}
 pub use Rattle.bt_rows.specs.declared.pool.StartTask.{StartTask}
@@ -42,7 +42,7 @@ pub use Rattle.bt_rows.specs.declared.prep.PrepState.TheVariants.{Running as Pre
 pub use Rattle.bt_rows.specs.declared.prep.ReleaseState.{ReleaseState}
 pub use Rattle.bt_rows.specs.declared.prep.ReleaseState.TheVariants.{No as NoRelease, Running as ReleaseRunning, Done as ReleaseDone}
 pub use Rattle.bt_rows.specs.declared.prep.PrepRow.{PrepRow}
-pub use Rattle.bt_rows.specs.declared.sample.Metric.{Metric}
-pub use Rattle.bt_rows.specs.declared.sample.Metric.TheVariants.{CpuPercent, ActiveTasks}
+pub use Rattle.bt_base.specs.declared.pool_metric.Metric.{Metric}
+pub use Rattle.bt_base.specs.declared.pool_metric.Metric.TheVariants.{CpuPercent, ActiveTasks}
 pub use Rattle.bt_rows.specs.declared.sample.SampleRow.{SampleRow}
 pub use Rattle.bt_rows.specs.declared.scale.ScaleRow.{ScaleRow}

@@ -1,8 +1,8 @@
 -- Metrics that are the same.
 use Rattle.std.specs.Prelude.{ℕ, Bool, nat_eq}
 use Rattle.std.specs.Cmp.{IsEquivalence, on_equiv, nat_eq_equiv}
-use Rattle.bt_rows.specs.declared.sample.Metric.{Metric}
-use Rattle.bt_rows.specs.declared.sample.Metric.TheVariants.{CpuPercent, ActiveTasks, RunningTasks, PendingTasks, SucceededTasks, FailedTasks, TaskSlotsPerNode, CurrentDedicatedNodes, CurrentLowPriorityNodes, PreemptedNodeCount}
+use Rattle.bt_base.specs.declared.pool_metric.Metric.{Metric}
+use Rattle.bt_base.specs.declared.pool_metric.Metric.TheVariants.{CpuPercent, ActiveTasks, RunningTasks, PendingTasks, SucceededTasks, FailedTasks, TaskSlotsPerNode, CurrentDedicatedNodes, CurrentLowPriorityNodes, PreemptedNodeCount}
 
 -- a number for each metric
 abbrev pub place_of_metric : Metric → ℕ

@@ -34,7 +34,7 @@ pub struct ReleaseTask {
 }
 
 /// A job. Its key is its id.
-#[derive(Clone, Drop)]
+#[derive(Drop)]
 pub struct JobRow {
     /// The id, unique among jobs but for case (Azure: id).
     pub id: Id,
@@ -72,7 +72,27 @@ pub struct JobRow {
 
 impl Duplicate for JobRow {
     fn copy(&self) -> Result<JobRow, NoMemory> {
-        Ok(self.clone()?)
+        let id = self.id.copy()?;
+        let pool = self.pool.copy()?;
+        let prep = self.prep.clone()?;
+        let release = self.release.clone()?;
+        let reason = self.reason.clone()?;
+        Ok(JobRow {
+            id,
+            pool,
+            state: self.state,
+            priority: self.priority,
+            parallel: self.parallel,
+            retries: self.retries,
+            wall: self.wall,
+            deps: self.deps,
+            on_all: self.on_all,
+            on_fail: self.on_fail,
+            prep,
+            release,
+            created: self.created,
+            reason,
+        })
     }
 }
 

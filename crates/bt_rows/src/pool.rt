@@ -2,6 +2,7 @@
 ghost use Rattle.bt_rows.specs.Keys.{pool_has_id, same_pool, same_pool_equiv};
 
 use crate::lists::Row;
+pub use bt_base::Dealloc;
 use bt_base::{CommandLine, Duplicate, Id, NoMemory};
 
 /// Whether a pool is being resized (Azure: allocationState).
@@ -22,14 +23,6 @@ pub enum Fill {
     Spread,
     /// On the node with the most held slots that still has enough free ones (Azure: pack).
     Pack,
-}
-
-#[derive(Clone, Copy, Debug, PartialEq, Eq)]
-pub enum Dealloc {
-    Requeue,
-    Terminate,
-    TaskCompletion,
-    RetainedData,
 }
 
 /// Why a resize ended before the target was reached (Azure: resizeErrors.code).
@@ -54,7 +47,7 @@ pub struct StartTask {
 }
 
 /// A pool. Its key is its id.
-#[derive(Clone, Drop)]
+#[derive(Drop)]
 pub struct PoolRow {
     /// The id, unique among pools but for case (Azure: id).
     pub id: Id,
@@ -96,7 +89,25 @@ impl Duplicate for StartTask {
 
 impl Duplicate for PoolRow {
     fn copy(&self) -> Result<PoolRow, NoMemory> {
-        Ok(self.clone()?)
+        let id = self.id.copy()?;
+        let start = self.start.clone()?;
+        Ok(PoolRow {
+            id,
+            deleting: self.deleting,
+            alloc: self.alloc,
+            slots: self.slots,
+            fill: self.fill,
+            inter: self.inter,
+            start,
+            dedicated: self.dedicated,
+            low: self.low,
+            option: self.option,
+            usual_timeout: self.usual_timeout,
+            timeout: self.timeout,
+            began: self.began,
+            error: self.error,
+            enabled: self.enabled,
+        })
     }
 }
 

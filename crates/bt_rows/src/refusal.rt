@@ -2,6 +2,7 @@
 
 use crate::job::JobState;
 use crate::member::Member;
+pub use bt_base::FormulaFault;
 
 /// A table with a limit on its rows (this project's profile).
 #[derive(Clone, Copy, Debug, PartialEq, Eq)]
@@ -12,20 +13,6 @@ pub enum Table {
     Jobs,
     /// At most 1,000,000 tasks, of all jobs together.
     Tasks,
-}
-
-/// A fault of a formula's text.
-#[derive(Clone, Copy, Debug, PartialEq, Eq)]
-pub enum FormulaFault {
-    BadCharacter,
-    OpenString,
-    NumberTooLarge,
-    UnexpectedToken,
-    UnknownName,
-    TypeMismatch,
-    ReadOnly,
-    WrongArguments,
-    TooDeep,
 }
 
 /// Why a request is refused. Names are those of the error codes of the Azure Batch REST reference where it has one.
@@ -49,8 +36,8 @@ pub enum Refusal {
     PoolDoesNotScale,
     /// Automatic scaling was enabled less than 30 seconds ago: at this moment, in milliseconds since 1970.
     AutoscaleTooSoon(u64),
-    /// The formula has this fault, at this place in bytes from 0.
-    FormulaRefused(FormulaFault, u64),
+    /// The formula has this fault.
+    FormulaRefused(FormulaFault),
     /// No node has the number.
     NodeNotFound,
     /// The pool is not being resized.

@@ -47,7 +47,7 @@ pub enum RunState {
 
 /// A run: one execution of a command line on a node. Its key is its number. All of it is this project's own, but for what
 /// names a property of Azure.
-#[derive(Clone, Drop)]
+#[derive(Drop)]
 pub struct RunRow {
     /// The number, 1 to 10^15, in order of making; it is never used again.
     pub number: u64,
@@ -82,7 +82,26 @@ pub struct RunRow {
 
 impl Duplicate for RunRow {
     fn copy(&self) -> Result<RunRow, NoMemory> {
-        Ok(self.clone()?)
+        let pool = self.pool.copy()?;
+        let job = self.job.clone()?;
+        let task = self.task.clone()?;
+        let line = self.line.copy()?;
+        Ok(RunRow {
+            number: self.number,
+            kind: self.kind,
+            node: self.node,
+            pool,
+            job,
+            task,
+            attempt: self.attempt,
+            line,
+            slots: self.slots,
+            state: self.state,
+            asked: self.asked,
+            made: self.made,
+            taken: self.taken,
+            ended: self.ended,
+        })
     }
 }
 

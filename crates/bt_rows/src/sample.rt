@@ -2,21 +2,8 @@
 ghost use Rattle.bt_rows.specs.Keys.{sample_has_key, same_sample, same_sample_equiv};
 
 use crate::lists::Row;
+pub use bt_base::Metric;
 use bt_base::{Duplicate, Id, NoMemory, Num};
-
-#[derive(Clone, Copy, Debug, PartialEq, Eq)]
-pub enum Metric {
-    CpuPercent,
-    ActiveTasks,
-    RunningTasks,
-    PendingTasks,
-    SucceededTasks,
-    FailedTasks,
-    TaskSlotsPerNode,
-    CurrentDedicatedNodes,
-    CurrentLowPriorityNodes,
-    PreemptedNodeCount,
-}
 
 /// A sample of a pool's metric (Azure: what `GetSample` of autoscale formulas reads). Its key is pool, metric and label.
 #[derive(Clone, Drop)]

@@ -1,4 +1,5 @@
 ghost use Rattle.std.specs.Prelude.{◌≡◌, ℕ, ◌≤◌, [], IfOk, length, count_by};
+ghost use Rattle.bt_samples.specs.KeptSamples.{HoldsTheLastTaken};
 ghost use Rattle.bt_samples.specs.Histories.{kept, newest, oldest, pushed, push_answer, last_values, values_within, is_within, percentage, percent_within};
 
 use bt_base::{NoMemory, Num};
@@ -153,3 +154,9 @@ fn percentage(part: u64, whole: u64) -> Num
         None => unreachable!(),
     }
 }
+
+/// Whatever samples are pushed to an empty history, it holds the last 2,880 of those that are taken: of the samples whose
+/// labels are greater than those of all samples before them. It does nothing at run time.
+pub fn pushes_keep_the_last()
+    ensures { HoldsTheLastTaken }
+{}

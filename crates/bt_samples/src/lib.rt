@@ -3,7 +3,7 @@
 
 mod history;
 
-pub use history::{History, Sample, SampleTooOld};
+pub use history::{History, Sample, SampleTooOld, pushes_keep_the_last};
 
 #[cfg(test)]
 mod tests;

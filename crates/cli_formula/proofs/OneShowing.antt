@@ -1,9 +1,9 @@
 -- Of the same bytes, at the same moment and with the same nodes, one thing is written.
 use Rattle.std.proofs.Common.{◌≡◌, ◌<◌, ℕ, List, None, Result, Ok, Err, IsSome, codes, sym, ap, ◌∙◌, subst, arith}
 use Rattle.formula_trees.specs.Formula.{StatementTree}
-use Rattle.formula_types.specs.declared.fault.FormulaFault.{FormulaFault}
+use Rattle.bt_base.specs.declared.formula_fault.FormulaFault.{FormulaFault}
 use Rattle.formula_types.specs.Compiled.{IsFormula, HasFault}
-use Rattle.formula_types.specs.Faults.{name_of, place_of}
+use Rattle.bt_base.specs.FormulaFaults.{name_of, place_of}
 use Rattle.formula_values.specs.Faults.{fault_name}
 use Rattle.formula_metrics.specs.Parts.{blank_metrics}
 use Rattle.formula_eval.specs.declared.fault.EvalFault.{EvalFault}

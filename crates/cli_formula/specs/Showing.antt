@@ -4,9 +4,9 @@ use Rattle.std.specs.Fmt.{decimal}
 use Rattle.bt_base.specs.Content.{Gains, GainsFront}
 use Rattle.bt_base.specs.Utf8.{utf8_text}
 use Rattle.formula_trees.specs.Formula.{StatementTree}
-use Rattle.formula_types.specs.declared.fault.FormulaFault.{FormulaFault}
+use Rattle.bt_base.specs.declared.formula_fault.FormulaFault.{FormulaFault}
 use Rattle.formula_types.specs.Compiled.{IsFormula, HasFault}
-use Rattle.formula_types.specs.Faults.{name_of, place_of}
+use Rattle.bt_base.specs.FormulaFaults.{name_of, place_of}
 use Rattle.formula_values.specs.Faults.{fault_name}
 use Rattle.formula_metrics.specs.Parts.{blank_metrics}
 use Rattle.cli_formula.specs.declared.end.End.{End}

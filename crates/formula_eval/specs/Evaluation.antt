@@ -10,7 +10,7 @@ use Rattle.formula_names.specs.declared.names.Function.{Function}
 use Rattle.formula_names.specs.declared.names.Function.TheVariants as functions
 use Rattle.formula_names.specs.declared.names.Member.{Member as AMember}
 use Rattle.formula_names.specs.declared.names.Method.{Method as AMethod}
-use Rattle.formula_names.specs.declared.names.Metric.{Metric}
+use Rattle.bt_base.specs.declared.pool_metric.Metric.{Metric}
 use Rattle.formula_names.specs.Names.{metric_named, function_named, method_named, member_named}
 use Rattle.formula_types.specs.Scopes.{part}
 use Rattle.formula_values.specs.declared.fault.ValueFault.{ValueFault}

@@ -1,6 +1,5 @@
 pub mod Evaluation
 pub mod Names
-pub mod Options
 pub mod Outcomes
 pub mod Results
 pub mod Scenes

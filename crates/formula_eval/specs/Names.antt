@@ -1,7 +1,7 @@
 -- The values of names.
 use Rattle.std.specs.Prelude.{ℕ, pos, List, Option, Some, None, Result, Ok}
-use Rattle.bt_rows.specs.declared.pool.Dealloc.{Dealloc}
-use Rattle.formula_names.specs.declared.names.Metric.{Metric}
+use Rattle.bt_base.specs.declared.dealloc_option.Dealloc.{Dealloc}
+use Rattle.bt_base.specs.declared.pool_metric.Metric.{Metric}
 use Rattle.formula_names.specs.declared.names.Setting.{Setting}
 use Rattle.formula_names.specs.declared.names.Setting.TheVariants.{DedicatedNodes, LowPriorityNodes, Deallocation}
 use Rattle.formula_names.specs.Names.{metric_named, interval_named, setting_named}
@@ -13,7 +13,7 @@ use Rattle.formula_metrics.specs.declared.metrics.Metrics.{Metrics}
 use Rattle.formula_metrics.specs.Parts.{part_of}
 use Rattle.formula_metrics.specs.Methods.{current_value}
 use Rattle.formula_eval.specs.declared.outcome.Outcome.{Outcome}
-use Rattle.formula_eval.specs.Options.{option_word, option_named}
+use Rattle.bt_base.specs.DeallocOptions.{option_word, option_named}
 use Rattle.formula_eval.specs.Outcomes.{value_among}
 
 -- what is set so far

@@ -3,8 +3,8 @@ use Rattle.std.specs.Prelude.{ℕ, Bool, List, [], ◌∷◌, Option, Some, None
 use Rattle.std.specs.Str.{bytes_eq}
 use Rattle.bt_base.specs.Utf8.{utf8_text}
 use Rattle.bt_rows.specs.Lists.{put_row}
-use Rattle.bt_rows.specs.declared.pool.Dealloc.{Dealloc}
-use Rattle.bt_rows.specs.declared.pool.Dealloc.TheVariants.{Requeue}
+use Rattle.bt_base.specs.declared.dealloc_option.Dealloc.{Dealloc}
+use Rattle.bt_base.specs.declared.dealloc_option.Dealloc.TheVariants.{Requeue}
 use Rattle.formula_values.specs.declared.value.Value.{Value}
 use Rattle.formula_eval.specs.declared.outcome.Targets.{Targets}
 use Rattle.formula_eval.specs.declared.outcome.Other.{Other}

@@ -4,7 +4,7 @@ use Rattle.std.specs.Fmt.{decimal}
 use Rattle.formula_values.specs.Texts.{value_text}
 use Rattle.formula_eval.specs.declared.outcome.Other.{Other}
 use Rattle.formula_eval.specs.declared.outcome.Outcome.{Outcome}
-use Rattle.formula_eval.specs.Options.{option_word}
+use Rattle.bt_base.specs.DeallocOptions.{option_word}
 
 -- a text begins with `$`
 abbrev pub has_dollar : List ℕ → Bool

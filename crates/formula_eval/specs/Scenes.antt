@@ -3,7 +3,7 @@ use Rattle.std.specs.Prelude.{List, Option, Result}
 use Rattle.formula_lex.specs.declared.token.Span.{Span}
 use Rattle.formula_lex.specs.declared.token.BinaryOperator.{BinaryOperator}
 use Rattle.formula_trees.specs.Tree.{Tree, Trees}
-use Rattle.formula_names.specs.declared.names.Metric.{Metric}
+use Rattle.bt_base.specs.declared.pool_metric.Metric.{Metric}
 use Rattle.formula_names.specs.Names.{method_named}
 use Rattle.formula_types.specs.Scopes.{part}
 use Rattle.formula_values.specs.declared.value.Value.{Value}

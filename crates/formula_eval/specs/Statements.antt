@@ -1,7 +1,7 @@
 -- What statements set.
 use Rattle.std.specs.Prelude.{ℕ, nat_le, ℤ, pos, negsuc, List, [], ◌∷◌, Option, Some, None, Result, Ok, Err, if◌then◌else◌}
 use Rattle.bt_base.specs.Fails.{◌>>=◌}
-use Rattle.bt_rows.specs.declared.pool.Dealloc.{Dealloc}
+use Rattle.bt_base.specs.declared.dealloc_option.Dealloc.{Dealloc}
 use Rattle.formula_lex.specs.declared.token.Span.{Span}
 use Rattle.formula_trees.specs.Tree.{Tree}
 use Rattle.formula_trees.specs.Formula.{StatementTree, Sets, Drops}
@@ -20,7 +20,7 @@ use Rattle.formula_eval.specs.declared.fault.Halt.{Halt}
 use Rattle.formula_eval.specs.declared.fault.Halt.TheVariants.{Stop, Fault}
 use Rattle.formula_eval.specs.declared.outcome.Targets.{Targets}
 use Rattle.formula_eval.specs.declared.outcome.Outcome.{Outcome}
-use Rattle.formula_eval.specs.Options.{option_named}
+use Rattle.bt_base.specs.DeallocOptions.{option_named}
 use Rattle.formula_eval.specs.Outcomes.{text_in, at_start, with_dedicated, with_low, with_option, with_other}
 use Rattle.formula_eval.specs.Evaluation.{value_of}
 

@@ -11,7 +11,7 @@ use Rattle.formula_lex.specs.declared.token.BinaryOperator.{BinaryOperator}
 use Rattle.formula_trees.specs.Tree.{Tree, Trees, Member, Unary, Binary, Ternary}
 use Rattle.formula_trees.specs.Formula.{StatementTree}
 use Rattle.formula_trees.specs.View.{tree_of}
-use Rattle.formula_names.specs.declared.names.Metric.{Metric}
+use Rattle.bt_base.specs.declared.pool_metric.Metric.{Metric}
 use Rattle.formula_names.specs.Names.{function_named, member_named, method_named}
 use Rattle.formula_types.specs.Scopes.{part}
 use Rattle.formula_values.specs.declared.value.Value.{Value}

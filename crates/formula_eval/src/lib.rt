@@ -6,7 +6,6 @@ mod calls;
 mod fault;
 mod formula;
 mod names;
-mod options;
 mod outcome;
 mod results;
 mod scene;
@@ -17,7 +16,6 @@ mod values;
 
 pub use fault::EvalFault;
 pub use formula::evaluate;
-pub use options::{option_named, option_word};
 pub use outcome::{Other, Others, Outcome, Targets};
 pub use results::results_text;
 

@@ -6,10 +6,9 @@ ghost use Rattle.formula_eval.specs.Names.{setting_value, setting_or, variable_o
 ghost use Rattle.formula_eval.specs.Outcomes.{value_among};
 ghost use Rattle.formula_values.specs.Values.{no_value};
 
-use crate::options::{option_named, option_word};
 use crate::outcome::Outcome;
 use crate::strings::copied;
-use bt_base::{Duplicate, Fail, NoMemory};
+use bt_base::{Duplicate, Fail, NoMemory, option_named, option_word};
 use formula_metrics::Metrics;
 use formula_names::{Setting, interval_named, metric_named, setting_named};
 use formula_values::{Value, ValueFault, interval_value, whole};

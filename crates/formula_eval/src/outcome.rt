@@ -4,8 +4,7 @@ ghost use Rattle.std.specs.List.{position};
 ghost use Rattle.name_index.specs.Places.{ArePlaces};
 ghost use Rattle.formula_eval.specs.Outcomes.{is_named, value_among, with_value};
 
-use bt_base::{NoMemory, Text};
-use bt_rows::pool::Dealloc;
+use bt_base::{Dealloc, NoMemory, Text};
 use formula_values::Value;
 use name_index::NameIndex;
 use std::alloc::Global;

@@ -1,11 +1,10 @@
 //! The text of results.
 ghost use Rattle.std.specs.Prelude.{◌≡◌, ◌++◌, IfOk, string_bytes};
 ghost use Rattle.formula_eval.specs.Results.{has_dollar, shown_name, other_text, others_text, settings_text, results_text};
-ghost use Rattle.formula_eval.specs.Options.{option_word};
+ghost use Rattle.bt_base.specs.DeallocOptions.{option_word};
 
-use crate::options::option_word;
 use crate::outcome::{Other, Outcome};
-use bt_base::{NoMemory, Text};
+use bt_base::{NoMemory, Text, option_word};
 use std::alloc::{AllocError, Global};
 
 fn has_dollar(name: &[u8]) -> bool

@@ -5,13 +5,12 @@ ghost use Rattle.formula_names.specs.Names.{setting_named};
 ghost use Rattle.formula_types.specs.Scopes.{part as part_of};
 ghost use Rattle.formula_trees.specs.View.{statement_of};
 ghost use Rattle.formula_eval.specs.Statements.{target_within, target_of, chosen_or, with_setting, with_name, assigned, settled};
-ghost use Rattle.formula_eval.specs.Options.{option_named};
+ghost use Rattle.bt_base.specs.DeallocOptions.{option_named};
 
 use crate::fault::EvalFault;
-use crate::options::option_named;
 use crate::outcome::Outcome;
 use crate::strings::text_in;
-use bt_base::{Fail, Num};
+use bt_base::{Fail, Num, option_named};
 use formula_lex::Span;
 use formula_names::{Setting, setting_named};
 use formula_trees::Statement;

@@ -2,9 +2,8 @@
 use Rattle.std.proofs.Common.{◌≡◌, ℕ, Bool, true, false, cond, List, [], ◌∷◌, Option, Some, None, Result, Ok, Err, is_some, refl, sym, ap, ◌∙◌}
 use Rattle.std.specs.Prelude.{◌||◌, ℤ, pos, codes, option_map, bytes_eq}
 use Rattle.std.specs.Cmp.Lexicographic.{bytes_decides}
-use Rattle.bt_rows.specs.declared.pool.Dealloc.{Dealloc}
-use Rattle.bt_rows.specs.declared.pool.Dealloc.TheVariants.{Requeue, Terminate, TaskCompletion, RetainedData}
-use Rattle.formula_names.specs.declared.names.Metric.{Metric}
+use Rattle.bt_base.specs.declared.dealloc_option.Dealloc.{Dealloc}
+use Rattle.bt_base.specs.declared.pool_metric.Metric.{Metric}
 use Rattle.formula_names.specs.declared.names.Setting.{Setting}
 use Rattle.formula_names.specs.declared.names.Setting.TheVariants.{DedicatedNodes, LowPriorityNodes, Deallocation}
 use Rattle.formula_names.specs.declared.value_types.ValueType.{ValueType}
@@ -23,7 +22,7 @@ use Rattle.formula_metrics.specs.Parts.{part_of}
 use Rattle.formula_eval.specs.declared.outcome.Other.{Other}
 use Rattle.formula_eval.specs.declared.outcome.Outcome.{Outcome}
 use Rattle.formula_eval.specs.Names.{metric_or, interval_or, word_or, setting_or, variable_or, setting_value, name_value}
-use Rattle.formula_eval.specs.Options.{option_named}
+use Rattle.bt_base.specs.DeallocOptions.{option_named}
 use Rattle.formula_eval.specs.Outcomes.{value_among, with_value}
 use Rattle.formula_laws.specs.ValueTypes.{type_of_value, Agree}
 
@@ -72,15 +71,8 @@ module _ (name : List ℕ) (known : Value) where
 
 -- the words of the options are those that name one
 words_named : (name : List ℕ) → is_option_word name ≡ is_some (option_named name)
-unfolding is_option_word option_named
-words_named name = either (bytes_eq name (codes "requeue")) (bytes_eq name (codes "terminate")) (bytes_eq name (codes "taskcompletion")) (bytes_eq name (codes "retaineddata"))
-  where
-    either : (a b c d : Bool) → (((a || b) || c) || d) ≡ is_some (cond a (Some Requeue) (cond b (Some Terminate) (cond c (Some TaskCompletion) (cond d (Some RetainedData) None))))
-    either true b c d = refl
-    either false true c d = refl
-    either false false true d = refl
-    either false false false true = refl
-    either false false false false = refl
+unfolding is_option_word
+words_named name = refl
 
 -- the type of an answer, where there is a value
 type_given : ValueType → Result Value ValueFault → ValueType

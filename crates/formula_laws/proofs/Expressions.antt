@@ -5,7 +5,7 @@ use Rattle.bt_base.specs.Fails.{◌>>=◌}
 use Rattle.formula_lex.specs.declared.token.Span.{Span}
 use Rattle.formula_lex.specs.declared.token.BinaryOperator.{BinaryOperator}
 use Rattle.formula_trees.specs.Tree.{Tree, Numeral, Quoted, Variable, Call, Vector, Member, Method, Unary, Binary, Ternary, Trees, none, more}
-use Rattle.formula_names.specs.declared.names.Metric.{Metric}
+use Rattle.bt_base.specs.declared.pool_metric.Metric.{Metric}
 use Rattle.formula_names.specs.declared.value_types.ValueType.{ValueType}
 use Rattle.formula_names.specs.declared.value_types.ValueType.TheVariants as types
 use Rattle.formula_names.specs.declared.value_types.ExprType.{ExprType}

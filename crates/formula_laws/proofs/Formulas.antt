@@ -23,7 +23,7 @@ use Rattle.formula_metrics.specs.declared.metrics.Metrics.{Metrics}
 use Rattle.formula_eval.specs.declared.outcome.Outcome.{Outcome}
 use Rattle.formula_eval.specs.declared.outcome.Targets.{Targets}
 use Rattle.formula_eval.specs.Evaluation.{value_of}
-use Rattle.formula_eval.specs.Options.{option_named}
+use Rattle.bt_base.specs.DeallocOptions.{option_named}
 use Rattle.formula_eval.specs.Outcomes.{text_in, at_start, with_value, with_dedicated, with_low, with_option, with_other}
 use Rattle.formula_eval.specs.Statements.{target_of, chosen_or, with_setting, placed, with_name, expression_of, settled}
 use Rattle.formula_laws.specs.ValueTypes.{type_of_value, Agree}

@@ -6,7 +6,7 @@ use Rattle.formula_trees.specs.Tree.{Tree, Numeral, Quoted, Variable, Call, Vect
 use Rattle.formula_names.specs.declared.names.Function.{Function}
 use Rattle.formula_names.specs.declared.names.Member.{Member as AMember}
 use Rattle.formula_names.specs.declared.names.Method.{Method as AMethod}
-use Rattle.formula_names.specs.declared.names.Metric.{Metric}
+use Rattle.bt_base.specs.declared.pool_metric.Metric.{Metric}
 use Rattle.formula_names.specs.declared.value_types.ExprType.{ExprType}
 use Rattle.formula_names.specs.declared.value_types.ExprType.TheVariants as exprs
 use Rattle.formula_names.specs.declared.value_types.ValueType.{ValueType}

@@ -1,8 +1,8 @@
 -- What is known of each metric of a pool.
 use Rattle.std.specs.Prelude.{ℕ, ℤ, [], Option, None}
 use Rattle.bt_samples.specs.Histories.{pushed}
-use Rattle.formula_names.specs.declared.names.Metric.{Metric}
-use Rattle.formula_names.specs.declared.names.Metric.TheVariants.{CpuPercent, ActiveTasks, RunningTasks, PendingTasks, SucceededTasks, FailedTasks, TaskSlotsPerNode, CurrentDedicatedNodes, CurrentLowPriorityNodes, PreemptedNodeCount}
+use Rattle.bt_base.specs.declared.pool_metric.Metric.{Metric}
+use Rattle.bt_base.specs.declared.pool_metric.Metric.TheVariants.{CpuPercent, ActiveTasks, RunningTasks, PendingTasks, SucceededTasks, FailedTasks, TaskSlotsPerNode, CurrentDedicatedNodes, CurrentLowPriorityNodes, PreemptedNodeCount}
 use Rattle.formula_metrics.specs.declared.metrics.MetricPart.{MetricPart}
 use Rattle.formula_metrics.specs.declared.metrics.Metrics.{Metrics}
 

@@ -1,8 +1,9 @@
 -- The names that a formula has before it sets one. Bytes are numbers.
 use Rattle.std.specs.Prelude.{ℕ, Bool, ◌||◌, List, Option, Some, None, codes, is_some, option_map, if◌then◌else◌}
 use Rattle.std.specs.Str.{bytes_eq}
-use Rattle.formula_names.specs.declared.names.Metric.{Metric}
-use Rattle.formula_names.specs.declared.names.Metric.TheVariants as metrics
+use Rattle.bt_base.specs.DeallocOptions.{option_named}
+use Rattle.bt_base.specs.declared.pool_metric.Metric.{Metric}
+use Rattle.bt_base.specs.declared.pool_metric.Metric.TheVariants as metrics
 use Rattle.formula_names.specs.declared.names.Setting.{Setting}
 use Rattle.formula_names.specs.declared.names.Setting.TheVariants.{DedicatedNodes, LowPriorityNodes, Deallocation}
 use Rattle.formula_names.specs.declared.names.Function.{Function}
@@ -46,11 +47,7 @@ interval_named name =
 
 -- the words for what becomes of the tasks of a node that leaves: each is a constant, the string of its own name
 unfoldable pub is_option_word : List ℕ → Bool
-is_option_word name =
-    bytes_eq name (codes "requeue")
-    || bytes_eq name (codes "terminate")
-    || bytes_eq name (codes "taskcompletion")
-    || bytes_eq name (codes "retaineddata")
+is_option_word name = is_some (option_named name)
 
 -- what a formula sets of its pool; it is set from the start
 unfoldable pub setting_named : List ℕ → Option Setting

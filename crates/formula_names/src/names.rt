@@ -3,31 +3,7 @@ ghost use Rattle.std.specs.Prelude.{◌≡◌};
 ghost use Rattle.formula_names.specs.Names.{metric_named, interval_named, is_option_word, setting_named, setting_type, function_named, method_named, member_named, fixed_type, is_read_only};
 
 use crate::value_types::ValueType;
-
-/// A metric of a pool.
-#[derive(Clone, Copy, PartialEq, Eq, Debug)]
-pub enum Metric {
-    /// `$CPUPercent`
-    CpuPercent,
-    /// `$ActiveTasks`
-    ActiveTasks,
-    /// `$RunningTasks`
-    RunningTasks,
-    /// `$PendingTasks`
-    PendingTasks,
-    /// `$SucceededTasks`
-    SucceededTasks,
-    /// `$FailedTasks`
-    FailedTasks,
-    /// `$TaskSlotsPerNode`
-    TaskSlotsPerNode,
-    /// `$CurrentDedicatedNodes`
-    CurrentDedicatedNodes,
-    /// `$CurrentLowPriorityNodes`
-    CurrentLowPriorityNodes,
-    /// `$PreemptedNodeCount`
-    PreemptedNodeCount,
-}
+use bt_base::{Metric, option_named};
 
 /// What a formula sets of its pool.
 #[derive(Clone, Copy, PartialEq, Eq, Debug)]
@@ -173,10 +149,7 @@ pub fn interval_named(name: &[u8]) -> Option<u64>
 pub fn is_option_word(name: &[u8]) -> bool
     ensures { result ≡ is_option_word name.now }
 {
-    name == b"requeue".as_slice()
-        || name == b"terminate".as_slice()
-        || name == b"taskcompletion".as_slice()
-        || name == b"retaineddata".as_slice()
+    option_named(name).is_some()
 }
 
 /// The setting of this name.

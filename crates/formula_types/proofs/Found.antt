@@ -5,7 +5,7 @@ use Rattle.formula_lex.specs.declared.token.Span.{Span}
 use Rattle.formula_names.specs.declared.names.Function.{Function}
 use Rattle.formula_names.specs.declared.names.Member.{Member as AMember}
 use Rattle.formula_names.specs.declared.names.Method.{Method as AMethod}
-use Rattle.formula_names.specs.declared.names.Metric.{Metric}
+use Rattle.bt_base.specs.declared.pool_metric.Metric.{Metric}
 use Rattle.formula_names.specs.declared.value_types.ValueType.{ValueType}
 use Rattle.formula_names.specs.declared.value_types.ValueType.TheVariants.{Double, DoubleVec, Text, Timestamp, TimeInterval}
 use Rattle.formula_names.specs.declared.value_types.ExprType.{ExprType}

@@ -8,7 +8,7 @@ use Rattle.formula_trees.specs.Formula.{StatementTree}
 use Rattle.formula_trees.specs.TheFormula.{fault_in}
 use Rattle.formula_syntax.proofs.Main.{one_reading}
 use Rattle.formula_types.specs.declared.fault.TypeFault.{TypeFault}
-use Rattle.formula_types.specs.declared.fault.FormulaFault.{FormulaFault}
+use Rattle.bt_base.specs.declared.formula_fault.FormulaFault.{FormulaFault}
 use Rattle.formula_types.specs.Scopes.{Variables, nothing}
 use Rattle.formula_types.specs.Typing.{typed}
 use Rattle.formula_types.specs.Compiled.{IsRead, IsFormula, HasFault, in_tokens, in_syntax, in_types, of_lexical, of_syntax, of_type}

@@ -5,7 +5,7 @@ use Rattle.bt_base.specs.Fails.{◌>>=◌}
 use Rattle.formula_lex.specs.declared.token.Span.{Span}
 use Rattle.formula_trees.specs.Tree.{Tree, Numeral, Quoted, Variable, Call, Vector, Member, Method, Unary, Binary, Ternary, Trees, none, more}
 use Rattle.formula_names.specs.declared.names.Method.{Method as AMethod}
-use Rattle.formula_names.specs.declared.names.Metric.{Metric}
+use Rattle.bt_base.specs.declared.pool_metric.Metric.{Metric}
 use Rattle.formula_names.specs.declared.value_types.ValueType.TheVariants.{Double, DoubleVec, Timestamp}
 use Rattle.formula_names.specs.declared.value_types.ExprType.{ExprType}
 use Rattle.formula_names.specs.declared.value_types.ExprType.TheVariants.{Value}

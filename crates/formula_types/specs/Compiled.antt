@@ -13,8 +13,8 @@ use Rattle.formula_trees.specs.TheFormula.{IsTheFormula, fault_in}
 use Rattle.formula_types.specs.Scopes.{nothing}
 use Rattle.formula_types.specs.declared.fault.TypeFault.{TypeFault}
 use Rattle.formula_types.specs.declared.fault.TypeFault.TheVariants as types
-use Rattle.formula_types.specs.declared.fault.FormulaFault.{FormulaFault}
-use Rattle.formula_types.specs.declared.fault.FormulaFault.TheVariants.{BadCharacter, OpenString, NumberTooLarge, UnexpectedToken, UnknownName, TypeMismatch, ReadOnly, WrongArguments, TooDeep}
+use Rattle.bt_base.specs.declared.formula_fault.FormulaFault.{FormulaFault}
+use Rattle.bt_base.specs.declared.formula_fault.FormulaFault.TheVariants.{BadCharacter, OpenString, NumberTooLarge, UnexpectedToken, UnknownName, TypeMismatch, ReadOnly, WrongArguments, TooDeep}
 use Rattle.formula_types.specs.Typing.{typed}
 
 abbrev pub of_lexical : LexFault → FormulaFault

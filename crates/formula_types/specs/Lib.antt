@@ -1,5 +1,4 @@
 pub mod Compiled
-pub mod Faults
 pub mod Nodes
 pub mod Rules
 pub mod Scopes

@@ -4,7 +4,7 @@ ghost use Rattle.formula_lex.specs.Lexing.{lexed};
 ghost use Rattle.formula_lex.specs.declared.token.Token.{Token as AToken};
 ghost use Rattle.formula_trees.specs.Formula.{StatementTree};
 ghost use Rattle.formula_trees.specs.View.{statements_of};
-ghost use Rattle.formula_types.specs.declared.fault.FormulaFault.{FormulaFault as AFault};
+ghost use Rattle.bt_base.specs.declared.formula_fault.FormulaFault.{FormulaFault as AFault};
 ghost use Rattle.formula_types.specs.Compiled.{OrFault, IsRead, IsFormula, HasFault, have_types};
 
 use crate::fault::{FormulaFault, of_lexical, of_syntax, of_type};

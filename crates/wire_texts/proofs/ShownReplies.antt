@@ -7,13 +7,13 @@ use Rattle.bt_rows.specs.declared.job.JobState.TheVariants as jobs
 use Rattle.bt_rows.specs.declared.member.Member.TheVariants as members
 use Rattle.bt_rows.specs.declared.refusal.Refusal.{Refusal}
 use Rattle.bt_rows.specs.declared.refusal.Table.TheVariants as limited
-use Rattle.bt_rows.specs.declared.refusal.FormulaFault.TheVariants as faults
+use Rattle.bt_base.specs.declared.formula_fault.FormulaFault.TheVariants as faults
 use Rattle.bt_rows.specs.declared.refusal.Refusal.TheVariants as refusals
 use Rattle.bt_rows.specs.declared.reply.Element.TheVariants.{Added, NotAdded}
 use Rattle.bt_rows.specs.declared.reply.Reply.TheVariants as replies
 use Rattle.wire_texts.specs.Lines.{numbered}
 use Rattle.wire_texts.specs.Words.{job_state_word}
-use Rattle.wire_texts.specs.Refusals.{refusal_number, refusal_name, refusal_text, fault_name, table_word}
+use Rattle.wire_texts.specs.Refusals.{refusal_number, refusal_name, refusal_text, table_word}
 use Rattle.wire_texts.specs.Replies.{reply_text}
 
 -- in the order of their numbers
@@ -28,7 +28,7 @@ all_refusals =
     refusals.PoolScalesAutomatically ∷
     refusals.PoolDoesNotScale ∷
     (refusals.AutoscaleTooSoon 29999) ∷
-    (refusals.FormulaRefused faults.TooDeep 68) ∷
+    (refusals.FormulaRefused (faults.TooDeep 68)) ∷
     refusals.NodeNotFound ∷
     refusals.PoolNotResizing ∷
     refusals.JobNotFound ∷
@@ -92,7 +92,7 @@ their_texts : map refusal_text all_refusals ≡
     codes "409 RunWaiting" ∷
     codes "400 TerminationEngaged" ∷
     []
-unfolding refusal_name member_text fault_name job_state_word table_word digits
+unfolding refusal_name member_text job_state_word table_word digits
 their_texts = refl
 
 created : reply_text (replies.Status 201) ≡ codes "201"

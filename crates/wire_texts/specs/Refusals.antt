@@ -1,11 +1,10 @@
 -- Refusals as they stand in a line: their numbers, statuses, names and values.
 use Rattle.std.specs.Prelude.{ℕ, List, [], ◌∷◌, codes}
 use Rattle.std.specs.Fmt.{decimal}
+use Rattle.bt_base.specs.FormulaFaults.{name_of, place_of}
 use Rattle.bt_rows.specs.Names.{member_text}
 use Rattle.bt_rows.specs.declared.refusal.Table.{Table}
 use Rattle.bt_rows.specs.declared.refusal.Table.TheVariants as limited
-use Rattle.bt_rows.specs.declared.refusal.FormulaFault.{FormulaFault}
-use Rattle.bt_rows.specs.declared.refusal.FormulaFault.TheVariants as faults
 use Rattle.bt_rows.specs.declared.refusal.Refusal.{Refusal}
 use Rattle.bt_rows.specs.declared.refusal.Refusal.TheVariants as refusals
 use Rattle.wire_texts.specs.Lines.{words}
@@ -22,7 +21,7 @@ refusal_number refusals.PoolBeingResized = 6
 refusal_number refusals.PoolScalesAutomatically = 7
 refusal_number refusals.PoolDoesNotScale = 8
 refusal_number (refusals.AutoscaleTooSoon moment) = 9
-refusal_number (refusals.FormulaRefused fault place) = 10
+refusal_number (refusals.FormulaRefused fault) = 10
 refusal_number refusals.NodeNotFound = 11
 refusal_number refusals.PoolNotResizing = 12
 refusal_number refusals.JobNotFound = 13
@@ -58,7 +57,7 @@ refusal_status refusals.PoolBeingResized = 409
 refusal_status refusals.PoolScalesAutomatically = 409
 refusal_status refusals.PoolDoesNotScale = 409
 refusal_status (refusals.AutoscaleTooSoon moment) = 409
-refusal_status (refusals.FormulaRefused fault place) = 400
+refusal_status (refusals.FormulaRefused fault) = 400
 refusal_status refusals.NodeNotFound = 404
 refusal_status refusals.PoolNotResizing = 409
 refusal_status refusals.JobNotFound = 404
@@ -93,7 +92,7 @@ refusal_name refusals.PoolBeingResized = codes "PoolBeingResized"
 refusal_name refusals.PoolScalesAutomatically = codes "PoolScalesAutomatically"
 refusal_name refusals.PoolDoesNotScale = codes "PoolDoesNotScale"
 refusal_name (refusals.AutoscaleTooSoon moment) = codes "AutoscaleTooSoon"
-refusal_name (refusals.FormulaRefused fault place) = codes "FormulaRefused"
+refusal_name (refusals.FormulaRefused fault) = codes "FormulaRefused"
 refusal_name refusals.NodeNotFound = codes "NodeNotFound"
 refusal_name refusals.PoolNotResizing = codes "PoolNotResizing"
 refusal_name refusals.JobNotFound = codes "JobNotFound"
@@ -118,17 +117,6 @@ refusal_name (refusals.TableFull table limit) = codes "TableFull"
 refusal_name (refusals.SampleTooOld label) = codes "SampleTooOld"
 refusal_name refusals.TerminationEngaged = codes "TerminationEngaged"
 
-unfoldable pub fault_name : FormulaFault → List ℕ
-fault_name faults.BadCharacter = codes "BadCharacter"
-fault_name faults.OpenString = codes "OpenString"
-fault_name faults.NumberTooLarge = codes "NumberTooLarge"
-fault_name faults.UnexpectedToken = codes "UnexpectedToken"
-fault_name faults.UnknownName = codes "UnknownName"
-fault_name faults.TypeMismatch = codes "TypeMismatch"
-fault_name faults.ReadOnly = codes "ReadOnly"
-fault_name faults.WrongArguments = codes "WrongArguments"
-fault_name faults.TooDeep = codes "TooDeep"
-
 unfoldable pub table_word : Table → List ℕ
 table_word limited.Pools = codes "pools"
 table_word limited.Jobs = codes "jobs"
@@ -145,7 +133,7 @@ refusal_values refusals.PoolBeingResized = []
 refusal_values refusals.PoolScalesAutomatically = []
 refusal_values refusals.PoolDoesNotScale = []
 refusal_values (refusals.AutoscaleTooSoon moment) = decimal moment ∷ []
-refusal_values (refusals.FormulaRefused fault place) = fault_name fault ∷ decimal place ∷ []
+refusal_values (refusals.FormulaRefused fault) = name_of fault ∷ decimal (place_of fault) ∷ []
 refusal_values refusals.NodeNotFound = []
 refusal_values refusals.PoolNotResizing = []
 refusal_values refusals.JobNotFound = []

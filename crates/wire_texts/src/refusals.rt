@@ -1,9 +1,9 @@
 //! Refusals as they stand in a line.
 ghost use Rattle.std.specs.Prelude.{◌≡◌, ◌++◌, OnOk, string_bytes};
-ghost use Rattle.wire_texts.specs.Refusals.{refusal_number, refusal_status, refusal_name, fault_name, table_word, refusal_text};
+ghost use Rattle.wire_texts.specs.Refusals.{refusal_number, refusal_status, refusal_name, table_word, refusal_text};
 
 use crate::words::job_state_word;
-use bt_rows::refusal::{FormulaFault, Refusal, Table};
+use bt_rows::refusal::{Refusal, Table};
 use std::alloc::AllocError;
 
 /// The refusal's number, from 1.
@@ -20,7 +20,7 @@ pub fn number_of(refusal: &Refusal) -> u8
         Refusal::PoolScalesAutomatically => 7,
         Refusal::PoolDoesNotScale => 8,
         Refusal::AutoscaleTooSoon(_) => 9,
-        Refusal::FormulaRefused(_, _) => 10,
+        Refusal::FormulaRefused(_) => 10,
         Refusal::NodeNotFound => 11,
         Refusal::PoolNotResizing => 12,
         Refusal::JobNotFound => 13,
@@ -54,7 +54,7 @@ pub fn status_of(refusal: &Refusal) -> u16
     match refusal {
         Refusal::UnreadableBody
         | Refusal::InvalidPropertyValue(_)
-        | Refusal::FormulaRefused(_, _)
+        | Refusal::FormulaRefused(_)
         | Refusal::DependenciesOff
         | Refusal::DependencyListTooLong
         | Refusal::JobActionOff
@@ -103,7 +103,7 @@ pub fn name_of(refusal: &Refusal) -> &'static str
         Refusal::PoolScalesAutomatically => "PoolScalesAutomatically",
         Refusal::PoolDoesNotScale => "PoolDoesNotScale",
         Refusal::AutoscaleTooSoon(_) => "AutoscaleTooSoon",
-        Refusal::FormulaRefused(_, _) => "FormulaRefused",
+        Refusal::FormulaRefused(_) => "FormulaRefused",
         Refusal::NodeNotFound => "NodeNotFound",
         Refusal::PoolNotResizing => "PoolNotResizing",
         Refusal::JobNotFound => "JobNotFound",
@@ -130,23 +130,6 @@ pub fn name_of(refusal: &Refusal) -> &'static str
     }
 }
 
-#[tactic(auto, unfolding(crate::specs::Refusals::fault_name))]
-fn fault_name(fault: FormulaFault) -> &'static str
-    ensures { result.now ≡ fault_name fault }
-{
-    match fault {
-        FormulaFault::BadCharacter => "BadCharacter",
-        FormulaFault::OpenString => "OpenString",
-        FormulaFault::NumberTooLarge => "NumberTooLarge",
-        FormulaFault::UnexpectedToken => "UnexpectedToken",
-        FormulaFault::UnknownName => "UnknownName",
-        FormulaFault::TypeMismatch => "TypeMismatch",
-        FormulaFault::ReadOnly => "ReadOnly",
-        FormulaFault::WrongArguments => "WrongArguments",
-        FormulaFault::TooDeep => "TooDeep",
-    }
-}
-
 #[tactic(auto, unfolding(crate::specs::Refusals::table_word))]
 fn table_word(table: Table) -> &'static str
     ensures { result.now ≡ table_word table }
@@ -170,8 +153,9 @@ pub fn push_refusal(out: &mut String, refusal: &Refusal) -> Result<(), AllocErro
             write!(out, "{status} {name} {member}")
         }
         Refusal::AutoscaleTooSoon(moment) => write!(out, "{status} {name} {moment}"),
-        Refusal::FormulaRefused(fault, place) => {
-            let fault = fault_name(*fault);
+        Refusal::FormulaRefused(fault) => {
+            let place = fault.place();
+            let fault = fault.name();
             write!(out, "{status} {name} {fault} {place}")
         }
         Refusal::JobStateRefuses(state) => {

@@ -1,5 +1,5 @@
 use Rattle.std.proofs.Common.{◌∙◌, ap}
-use Rattle.formula_types.specs.Faults.{name_of, place_of}
+use Rattle.bt_base.specs.FormulaFaults.{name_of, place_of}
 use Rattle.std.proofs.lemmas.Result.{IfOk-weaker}
 use Rattle.bt_base.proofs.Utf8Texts.{of_text}
 use Rattle.formula_trees.specs.View.{statements_of}

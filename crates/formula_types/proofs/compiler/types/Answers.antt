@@ -1,7 +1,7 @@
 use Rattle.std.proofs.Common.{◌≡◌, Result, true, sym, ap, ◌∙◌, subst, IfOk, is_ok}
 use Rattle.bt_base.specs.declared.fail.Fail.{Fail}
 use Rattle.formula_trees.specs.View.{statements_of}
-use Rattle.formula_types.specs.declared.fault.FormulaFault.{FormulaFault}
+use Rattle.bt_base.specs.declared.formula_fault.FormulaFault.{FormulaFault}
 use Rattle.formula_types.specs.Scopes.{nothing}
 use Rattle.formula_types.specs.Typing.{typed}
 use Rattle.formula_types.specs.Compiled.{HasFault, OrFault, have_types, in_types}
