@@ -1,7 +1,17 @@
 -- The names and places of the faults of a formula's text.
 use Rattle.std.specs.Prelude.{ℕ, List, codes}
 use Rattle.bt_base.specs.declared.formula_fault.FormulaFault.{FormulaFault}
-use Rattle.bt_base.specs.declared.formula_fault.FormulaFault.TheVariants.{BadCharacter, OpenString, NumberTooLarge, UnexpectedToken, UnknownName, TypeMismatch, ReadOnly, WrongArguments, TooDeep}
+use Rattle.bt_base.specs.declared.formula_fault.FormulaFault.TheVariants.{
+  BadCharacter,
+  OpenString,
+  NumberTooLarge,
+  UnexpectedToken,
+  UnknownName,
+  TypeMismatch,
+  ReadOnly,
+  WrongArguments,
+  TooDeep,
+}
 
 -- in bytes of the text from 0
 abbrev pub place_of : FormulaFault → ℕ

@@ -1,3 +1,4 @@
+//! The last samples of a metric.
 ghost use Rattle.std.specs.Prelude.{◌≡◌, ℕ, ◌≤◌, [], IfOk, length, count_by};
 ghost use Rattle.bt_samples.specs.KeptSamples.{HoldsTheLastTaken};
 ghost use Rattle.bt_samples.specs.Histories.{kept, newest, oldest, pushed, push_answer, last_values, values_within, is_within, percentage, percent_within};
@@ -6,19 +7,27 @@ use bt_base::{NoMemory, Num};
 use std::alloc::Global;
 use std::marker::Model;
 
-/// One value of a metric.
+/// A value of a metric at a moment.
 #[derive(Clone, Copy, Debug, PartialEq, Eq)]
 pub struct Sample {
-    /// When it was taken: a multiple of 30,000 milliseconds since 1970.
+    /// When it was taken, in milliseconds since 1970-01-01T00:00:00Z; a multiple of 30,000.
     pub label: u64,
+    /// The value.
     pub value: Num,
 }
 
-/// A sample's label is not above that of the newest sample, which this carries, in milliseconds since 1970.
+/// A sample's label is not greater than that of the newest sample, which this carries, in milliseconds since
+/// 1970-01-01T00:00:00Z.
 #[derive(Clone, Copy, Debug, PartialEq, Eq)]
 pub struct SampleTooOld(pub u64);
 
-/// The last 2,880 samples of a metric, a day's worth. Contracts see them as a list, oldest first.
+/// The greatest count of samples in a history (this project's profile).
+pub const MAX_SAMPLES: usize = 2880;
+
+/// The time between two samples, in milliseconds (this project's profile).
+pub const SAMPLE_INTERVAL_MS: u64 = 30_000;
+
+/// The last 2,880 samples of a metric: those of a day (this project's profile). Contracts see them as a list, oldest first.
 #[derive(Debug, Drop)]
 pub struct History {
     samples: Vec<Sample>,
@@ -36,24 +45,19 @@ impl Model for History {
     ghost invariant = { HasRoom };
 }
 
-/// How many samples a history keeps.
-const KEPT: usize = 2880;
-
-/// How far apart samples are taken, in milliseconds.
-const APART: u64 = 30_000;
-
 impl History {
-    /// A history without samples. It takes the memory of all that are ever kept.
+    /// A history without samples. It allocates the memory of all samples that it can hold; returns `NoMemory` if it is out of
+    /// memory.
     pub fn new(alloc: Global) -> Result<History, NoMemory>
         ensures { IfOk result (λ history. history ≡ []) }
     {
         Ok(History {
-            samples: Vec::with_capacity(alloc, KEPT)?,
+            samples: Vec::with_capacity(alloc, MAX_SAMPLES)?,
         })
     }
 
-    /// Adds the newest sample; past 2,880 the oldest goes. `SampleTooOld` exactly where the label is not above the newest,
-    /// and then nothing changes. It takes no memory.
+    /// Adds the newest sample. If there are 2,880 already, the oldest is removed. Returns `SampleTooOld` exactly if the label is
+    /// not greater than that of the newest sample; then nothing changes. It does not allocate.
     pub fn push(&mut self, label: u64, value: Num) -> Result<(), SampleTooOld>
         ensures answer { result ≡ push_answer self.old label }
         ensures samples { self.new ≡ pushed self.old (record { label = label; value = value }) }
@@ -63,14 +67,14 @@ impl History {
         {
             return Err(SampleTooOld(newest));
         }
-        if self.samples.len() == KEPT {
+        if self.samples.len() == MAX_SAMPLES {
             self.samples.remove(0);
         }
         self.samples.push_reserved(Sample { label, value });
         Ok(())
     }
 
-    /// The values of the newest samples, at most `n`, newest first.
+    /// The values of the newest samples, at most `n`, newest first. Returns `NoMemory` if it is out of memory.
     pub fn last(&self, n: u32) -> Result<Vec<Num>, NoMemory>
         ensures { IfOk result (λ taken. taken.items ≡ last_values self.now n) }
     {
@@ -84,7 +88,8 @@ impl History {
         )
     }
 
-    /// The values of the samples with labels from `a` to `b`, both included, newest first.
+    /// The values of the samples with labels from `a` to `b`, both included, newest first. Labels are in milliseconds since
+    /// 1970-01-01T00:00:00Z. Returns `NoMemory` if it is out of memory.
     pub fn between(&self, a: u64, b: u64) -> Result<Vec<Num>, NoMemory>
         ensures { IfOk result (λ taken. taken.items ≡ values_within self.now a b) }
     {
@@ -98,12 +103,13 @@ impl History {
         )
     }
 
-    /// 100 times the number of samples with labels from `a` to `b`, both included, over the multiples of 30,000 there, cut
-    /// after six decimals; 0 where there are none. It takes no memory.
+    /// The percentage of labels from `a` to `b`, both included, that have a sample: 100 times the count of samples there, over
+    /// the count of multiples of 30,000 there, cut off after six decimals; 0 if there are no such multiples. It does not
+    /// allocate.
     pub fn percent(&self, a: u64, b: u64) -> Num
         ensures { result ≡ percent_within self.now a b }
     {
-        let labels = (b / APART + 1).saturating_sub(a.div_ceil(APART));
+        let labels = (b / SAMPLE_INTERVAL_MS + 1).saturating_sub(a.div_ceil(SAMPLE_INTERVAL_MS));
         percentage(self.count_within(a, b), labels)
     }
 
@@ -117,7 +123,7 @@ impl History {
             .count() as u64
     }
 
-    /// How many samples there are, at most 2,880. It takes no memory.
+    /// How many samples there are, at most 2,880. It does not allocate.
     pub fn count(&self) -> u32
         ensures number { result ≡ length self.now }
         ensures bound { result ≤ kept }
@@ -125,7 +131,8 @@ impl History {
         self.samples.len() as u32
     }
 
-    /// The label of the oldest sample, in milliseconds since 1970. It takes no memory.
+    /// The label of the oldest sample, in milliseconds since 1970-01-01T00:00:00Z; None if there are no samples. It does not
+    /// allocate.
     pub fn begin(&self) -> Option<u64>
         ensures { result ≡ oldest self.now }
     {

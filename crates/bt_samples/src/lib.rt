@@ -1,9 +1,11 @@
-//! Histories of metrics: the last samples of a metric, and what a formula asks of them.
+//! Histories of metrics: the last samples of a metric, and what autoscale formulas read of them.
 #![tactic(auto)]
 
 mod history;
 
-pub use history::{History, Sample, SampleTooOld, pushes_keep_the_last};
+pub use history::{
+    History, MAX_SAMPLES, SAMPLE_INTERVAL_MS, Sample, SampleTooOld, pushes_keep_the_last,
+};
 
 #[cfg(test)]
 mod tests;

@@ -1,4 +1,4 @@
--- What calendars and clocks in UTC show at an instant, which is given in units of 100 ns since 1970-01-01T00:00:00Z.
+-- The date and time in UTC of an instant, which is given in units of 100 ns since 1970-01-01T00:00:00Z.
 use Rattle.std.specs.Prelude.{ℕ, zero, suc, ◌+◌, ◌-◌, ◌/◌, ◌%◌, ℤ, pos, ◌≤ℤ◌, nat_lt, if◌then◌else◌}
 use Rattle.jiff_core.specs.Calendar.{days_in_year, days_in_month, weekday_number}
 use Rattle.bt_times.specs.declared.parts.Civil.{Civil}
@@ -7,23 +7,23 @@ use Rattle.bt_times.specs.declared.parts.Civil.{Civil}
 abbrev pub IsInstant : ℤ → Type 0
 IsInstant t = (pos 0 ≤ℤ t) × (t ≤ℤ pos 2534023007999999999)
 
--- a year and how many of its days are over, where so many days are over since this year began; years are counted off
--- one by one, at most so many
+-- the year in which the given count of days after the beginning of this year ends, and the days of it that are over; years
+-- are counted off one by one, at most the given number
 unfoldable pub year_after : ℕ → ℕ → ℕ → ℕ × ℕ
 year_after zero year days = (year, days)
 year_after (suc more) year days =
     if nat_lt days (days_in_year (pos year)) then (year, days)
     else year_after more (year + 1) (days - days_in_year (pos year))
 
--- a month and a day of it, both counted from 1, where so many days are over since this month of the year began; months
--- are counted off one by one, at most so many
+-- the month and its day, both counted from 1, the given count of days after the beginning of this month of the year; months
+-- are counted off one by one, at most the given number
 unfoldable pub month_after : ℕ → ℤ → ℕ → ℕ → ℕ × ℕ
 month_after zero year month days = (month, days + 1)
 month_after (suc more) year month days =
     if nat_lt days (days_in_month year month) then (month, days + 1)
     else month_after more year (month + 1) (days - days_in_month year month)
 
--- the parts of a date, where so many days are over since 1970 began, with those of a time of so many seconds; Monday is 1
+-- the date this many days after 1970-01-01, with the time this many seconds after midnight; Monday is 1
 unfoldable pub civil_at : ℕ → ℕ → Civil
 civil_at days seconds =
     let year = year_after 8029 1970 days in
@@ -38,6 +38,6 @@ civil_at days seconds =
       second = seconds % 60;
     }
 
--- the parts of the second in which an instant lies
+-- the date and time of the second in which an instant lies
 abbrev pub civil_of : ℕ → Civil
 civil_of t = civil_at (t / 10000000 / 86400) (t / 10000000 % 86400)

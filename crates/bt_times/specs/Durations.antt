@@ -1,10 +1,11 @@
--- Durations that texts show, in milliseconds.
+-- Durations in texts, in milliseconds.
 use Rattle.std.specs.Prelude.{ℕ, ◌+◌, ◌*◌, ◌/◌, ◌==◌, Bool, false, ◌&&◌, nat_lt, codes, List, [], ◌∷◌, slice_index, Option, Some, None, Result, Ok, Err, if◌then◌else◌}
 use Rattle.std.specs.Str.{bytes_eq}
 use Rattle.std.specs.Result.{result_ok}
 use Rattle.jiff_fmt.specs.Temporal.{parse_span}
 use Rattle.bt_base.specs.declared.fail.Fail.{Fail}
 use Rattle.bt_base.specs.declared.fail.Fail.TheVariants.{Why}
+use Rattle.bt_times.specs.declared.durations.TheConstants.{MAX_DURATION_MS}
 use Rattle.bt_times.specs.declared.fault.TimeFault.{TimeFault}
 use Rattle.bt_times.specs.declared.fault.TimeFault.TheVariants.{BadText, OutOfRange}
 
@@ -17,7 +18,7 @@ abbrev pub begins_with_p : List ℕ → Bool
 begins_with_p [] = false
 begins_with_p (b ∷ text) = b == 80
 
--- what a span's text shows: 1 below zero, and the numbers of its years, months, weeks, days, hours, minutes, seconds,
+-- the parts of a span's text: 1 if it is below zero, else 0, and the numbers of its years, months, weeks, days, hours, minutes, seconds,
 -- milliseconds, microseconds and nanoseconds
 unfoldable pub span_shown : List ℕ → Option (List ℕ)
 span_shown text = if begins_with_p text then result_ok (parse_span text) else None
@@ -34,18 +35,19 @@ span_nanos parts =
     let milliseconds = 1000 * (60 * minutes + slice_index parts 7) + slice_index parts 8 in
     1000 * (1000 * milliseconds + slice_index parts 9) + slice_index parts 10
 
--- the milliseconds of 36,500 days
+-- the longest duration, in milliseconds: 36,500 days
 abbrev pub longest : ℕ
-longest = 3153600000000
+longest = MAX_DURATION_MS
 
 -- whole milliseconds, up to 36,500 days
 abbrev pub within_longest : ℕ → Result (Option ℕ) (Fail TimeFault)
 within_longest ms = if nat_lt longest ms then Err (Why OutOfRange) else Ok (Some ms)
 
+-- the duration of these parts of a span
 abbrev pub duration_of : Option (List ℕ) → Result (Option ℕ) (Fail TimeFault)
 duration_of None = Err (Why BadText)
 duration_of (Some parts) = if is_duration parts then within_longest (span_nanos parts / 1000000) else Err (Why BadText)
 
--- the duration that a text shows, or why it shows none
+-- the duration of a text, or why it has none
 unfoldable pub read_duration : List ℕ → Result (Option ℕ) (Fail TimeFault)
 read_duration text = if bytes_eq text no_limit then Ok None else duration_of (span_shown text)

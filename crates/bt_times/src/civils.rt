@@ -1,10 +1,11 @@
+//! Parts of dates and times in UTC.
 ghost use Rattle.std.specs.Prelude.{◌≡◌, unsigned_abs};
 ghost use Rattle.bt_times.specs.Civils.{IsInstant, civil_of};
 
 use crate::parts::Civil;
 use jiff_core::civil::DateTime;
 
-/// What calendars and clocks in UTC show at an instant, in units of 100 ns since 1970-01-01T00:00:00Z. It takes no memory.
+/// The date and time in UTC of an instant, which is given in units of 100 ns since 1970-01-01T00:00:00Z. It does not allocate.
 pub fn civil(t: i64) -> Civil
     requires { IsInstant t }
     ensures { result ≡ civil_of (unsigned_abs t) }

@@ -1,3 +1,4 @@
+//! Durations of ISO 8601.
 ghost use Rattle.std.specs.Prelude.{◌≡◌, Some, option_map};
 ghost use Rattle.jiff_fmt.specs.Units.{signed_magnitudes};
 ghost use Rattle.bt_times.specs.Durations.{read_duration, duration_of, begins_with_p, span_shown, is_duration, span_nanos, within_longest};
@@ -7,15 +8,15 @@ use bt_base::Fail;
 use jiff::fmt::temporal;
 use jiff_core::Span;
 
-/// The text of the duration that stands for no limit.
+/// The text of the duration that stands for no limit (Azure Batch REST reference).
 const NO_LIMIT: &str = "P10675199DT2H48M5.4775807S";
 
-/// The milliseconds of 36,500 days.
-const LONGEST: u128 = 3_153_600_000_000;
+/// The longest duration, in milliseconds: 36,500 days (this project's profile).
+pub const MAX_DURATION_MS: u128 = 3_153_600_000_000;
 
-/// The milliseconds of a duration of ISO 8601, which begins with `P` and has no years and months; a day has 24 hours, and
-/// parts of a millisecond are cut. None for `P10675199DT2H48M5.4775807S`, which stands for no limit. `BadText` for another
-/// text, `OutOfRange` past 36,500 days. It takes no memory.
+/// The duration of a text of ISO 8601 that begins with `P`, in milliseconds; years and months must be 0 or left out, a day has
+/// 24 hours, and parts of a millisecond are cut off. None for `P10675199DT2H48M5.4775807S`, which stands for no limit.
+/// Returns `BadText` for any other text, and `OutOfRange` for more than 36,500 days. It does not allocate.
 #[tactic(auto, unfolding(crate::specs::Durations::read_duration, crate::specs::Durations::no_limit))]
 pub fn duration_ms(text: &str) -> Result<Option<u64>, Fail<TimeFault>>
     ensures { result ≡ read_duration text.now }
@@ -42,7 +43,7 @@ fn duration_of(span: Span) -> Result<Option<u64>, Fail<TimeFault>>
 fn within_longest(ms: u128) -> Result<Option<u64>, Fail<TimeFault>>
     ensures { result ≡ within_longest ms }
 {
-    if LONGEST < ms {
+    if MAX_DURATION_MS < ms {
         Err(Fail::Why(TimeFault::OutOfRange))
     } else {
         Ok(Some(ms as u64))

@@ -1,8 +1,10 @@
-/// Why a text shows no time.
+//! Faults of texts of times.
+
+/// Why a time or duration cannot be read from a text.
 #[derive(Clone, Copy, Debug, PartialEq, Eq, Drop)]
 pub enum TimeFault {
-    /// The text is not one that is read as such a time.
+    /// The text is not a time or duration of the expected form.
     BadText,
-    /// The time that it shows is not in the range.
+    /// The time or duration is out of its range.
     OutOfRange,
 }

@@ -1,3 +1,4 @@
+//! Instants in texts.
 ghost use Rattle.std.specs.Prelude.{◌≡◌};
 ghost use Rattle.bt_times.specs.Instants.{read_instant, nanos_shown, timestamp_nanos, date_nanos, mail_nanos};
 
@@ -6,25 +7,25 @@ use bt_base::Fail;
 use jiff::fmt::rfc2822::DateTimeParser;
 use jiff::fmt::temporal;
 
-/// The last nanosecond of the year 9999.
-const LAST: i128 = 253_402_300_799_999_999_999;
+/// The last nanosecond of the year 9999, in nanoseconds since 1970-01-01T00:00:00Z (this project's profile).
+pub const LAST_INSTANT_NS: i128 = 253_402_300_799_999_999_999;
 
-/// The instant that a text shows, in units of 100 ns since 1970-01-01T00:00:00Z: a timestamp of ISO 8601, or else a date of
-/// ten bytes, which is its midnight in UTC, or else a date of RFC 2822. `BadText` where it is none of them, `OutOfRange`
-/// before 1970 and after the year 9999. It takes no memory.
+/// The instant of a text, in units of 100 ns since 1970-01-01T00:00:00Z: a timestamp of ISO 8601, or else a date of ten bytes,
+/// which is its midnight in UTC, or else a date of RFC 2822. Returns `BadText` for any other text, and `OutOfRange` before
+/// 1970 and after the year 9999. It does not allocate.
 pub fn instant(text: &str) -> Result<i64, Fail<TimeFault>>
     ensures { result ≡ read_instant text.now }
 {
     let Some(nanos) = nanos_shown(text.as_bytes()) else {
         return Err(Fail::Why(TimeFault::BadText));
     };
-    if nanos < 0 || nanos > LAST {
+    if nanos < 0 || nanos > LAST_INSTANT_NS {
         return Err(Fail::Why(TimeFault::OutOfRange));
     }
     Ok((nanos / 100) as i64)
 }
 
-/// The nanoseconds since 1970 that the first reader that takes the text gives.
+/// The nanoseconds since 1970 of the text, by the first reader that accepts it.
 #[tactic(auto, unfolding(crate::specs::Instants::nanos_shown))]
 fn nanos_shown(text: &[u8]) -> Option<i128>
     ensures { result ≡ nanos_shown text.now }

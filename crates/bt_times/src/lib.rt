@@ -1,4 +1,4 @@
-//! Times that texts show and that calendars show: durations, instants, and the parts of dates in UTC.
+//! Times: durations and instants in texts, and the parts of dates in UTC.
 #![tactic(auto)]
 
 mod civils;
@@ -8,9 +8,9 @@ mod instants;
 mod parts;
 
 pub use civils::civil;
-pub use durations::duration_ms;
+pub use durations::{MAX_DURATION_MS, duration_ms};
 pub use fault::TimeFault;
-pub use instants::instant;
+pub use instants::{LAST_INSTANT_NS, instant};
 pub use parts::Civil;
 
 #[cfg(test)]
