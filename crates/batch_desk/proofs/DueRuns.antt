@@ -8,7 +8,7 @@ use Rattle.batch_model.specs.Dues.{due_step}
 use Rattle.batch_model.specs.Measure.{rank}
 use Rattle.batch_model.specs.Steps.{DueStep}
 use Rattle.batch_model.specs.Variants.{State}
-use Rattle.model_rules.proofs.DueFalls.{falls_by_due}
+use Rattle.model_rules.proofs.DueSound.{falls_by_due}
 use Rattle.batch_desk.specs.History.{due_state, due_list}
 use Rattle.batch_desk.specs.Turns.{MakesDue}
 

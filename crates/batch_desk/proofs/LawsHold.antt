@@ -1,17 +1,13 @@
 -- Laws hold at every moment of a legal history, since its tables are sound.
-use Rattle.std.proofs.Common.{◌≡◌, ℕ, ◌+◌, ◌-◌, ◌≤◌, zero, suc, Bool, true, false, not, ◌||◌, nat_eq, nat_le, List, [], ◌∷◌, ◌++◌, Option, Some, None, refl, sym, subst, arith}
+use Rattle.std.proofs.Common.{◌≡◌, ℕ, ◌≤◌, zero, suc, List, [], ◌∷◌, ◌++◌, Option, Some, None, refl, subst}
 use Rattle.std.specs.Option.{option_map_or}
-use Rattle.std.proofs.lemmas.Bool.Decides.{nat_tests}
 use Rattle.bt_rows.specs.declared.refusal.Refusal.{Refusal}
-use Rattle.batch_model.specs.Rows.{is_pool}
-use Rattle.batch_model.specs.Slots.{held_slots}
 use Rattle.batch_model.specs.Steps.{DueStep}
 use Rattle.batch_model.specs.Dues.{due_step}
-use Rattle.batch_model.specs.Laws.{parts_slots, has_parted_slots, HoldsWithinSlots}
-use Rattle.batch_model.specs.Sound.{IsSound, has_slots_for}
-use Rattle.batch_model.specs.Variants.{State, PoolRow, NodeRow}
-use Rattle.model_lists.proofs.RowLists.{each_weaker}
-use Rattle.model_rules.proofs.DueSound.{sound_by_due}
+use Rattle.batch_model.specs.Laws.{HoldsWithinSlots}
+use Rattle.batch_model.specs.Sound.{IsSound}
+use Rattle.batch_model.specs.Variants.{State}
+use Rattle.model_rules.proofs.DueSound.{sound_by_due, within_slots}
 use Rattle.model_events.proofs.EventSound.{sound_by_event}
 use Rattle.batch_desk.specs.declared.entry.Entry.{Entry}
 use Rattle.batch_desk.specs.declared.entry.Mark.{Mark}
@@ -48,25 +44,10 @@ module _ (seats : ℕ) where
   before_call s [] e rest h l = record { sound = h; call = l.0 }
   before_call s (first ∷ before) e rest h l = before_call (after_call seats s first) before e rest (by_mark s first first.mark refl h l.0) l.1
 
--- free slots
-
--- what is held and what is free
-parted : (b : Bool) (held slots : ℕ) → (not b || nat_le held slots) ≡ true → (not b || nat_eq (slots - held + held) slots) ≡ true
-parted false held slots h = refl
-parted true held slots h = grind (arith, nat_tests)
-
--- sound tables hold slots within those of the pools
-pub within_slots : (seats : ℕ) (s : State) → IsSound seats s → HoldsWithinSlots s
-within_slots seats s h = record {
-  within = h.consistent.slots;
-  parted = each_weaker (has_slots_for s) (has_parted_slots s)
-      (λ node k. each_weaker (λ (pool : PoolRow). not (is_pool node.pool pool) || nat_le (held_slots s node.number) pool.slots) (parts_slots s node)
-      (λ pool p. parted (is_pool node.pool pool) (held_slots s node.number) pool.slots p) s.pools k)
-      s.nodes h.consistent.slots;
-}
+-- slots
 
 -- at each moment of a legal history from sound tables
-reached_within : (seats : ℕ) (opened : State) (entries : List Entry) (s : State) → IsSound seats opened → IsLegal seats opened entries → IsReached seats opened entries s → HoldsWithinSlots s
+reached_within : (seats : ℕ) (opened : State) (entries : List Entry) (s : State) → IsSound seats opened → IsLegal seats opened entries → IsReached seats opened entries s → HoldsWithinSlots seats s
 reached_within seats opened entries s h l at_opening = within_slots seats opened h
 reached_within seats opened entries s h l (in_call before e rest refusal n is made few) =
     let at = before_call seats opened before e rest h (subst (IsLegal seats opened) is l) in

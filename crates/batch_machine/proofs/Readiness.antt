@@ -14,8 +14,7 @@ use Rattle.batch_model.specs.Sound.{IsSound}
 use Rattle.batch_model.specs.WellFormed.{IsWellFormed}
 use Rattle.model_tables.proofs.WellFormedTables.{well_formed}
 use Rattle.model_rules.proofs.DueSound.{sound_by_due}
-use Rattle.model_events.proofs.RefusedEvents.{refused_keeps}
-use Rattle.model_events.proofs.EventSound.{sound_by_event}
+use Rattle.model_events.proofs.EventSound.{sound_by_event, refused_keeps}
 use Rattle.machine_plans.specs.Plans.{IsPlanOf}
 use Rattle.batch_machine.specs.Machines.{IsMade, of_event, of_due}
 

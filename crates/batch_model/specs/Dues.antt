@@ -18,7 +18,7 @@ settle_first s = option_and_then (settle s) (find (is_to_settle s) s.tasks)
 
 -- U11: a resizing pool that has reached its target is steady, and so is one whose timeout is over
 
--- not deleted, resizing, with as many nodes as its target, none of them leaving
+-- not deleted, resizing, with its target's number of nodes, none of them leaving
 abbrev pub has_reached : State → PoolRow → Bool
 has_reached s pool =
     not pool.deleting && is_resizing pool.alloc && not (has_leaving s pool.id) && nat_eq (staying_count s pool.id) pool.dedicated
@@ -61,7 +61,7 @@ end_resize s = option_map (resize_ended s) (find (ends_resize s) s.pools)
 abbrev pub lacks_node : State → PoolRow → Bool
 lacks_node s pool = not pool.deleting && is_resizing pool.alloc && nat_lt (staying_count s pool.id) pool.dedicated
 
--- a node is starting where the start task is waited for, and else usable at once
+-- a node is starting if the start task is waited for, and else usable at once
 abbrev pub first_stage : PoolRow → NodeStage
 first_stage pool = if waits_for_start pool then Starting else Usable
 

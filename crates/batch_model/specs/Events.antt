@@ -1,14 +1,16 @@
--- Events: their refusals in order, their statuses and what they do. What is not built is refused as unreadable.
+-- Events: their refusals in order, their statuses and what they do. The events that are not built stand in NotBuilt.
 use Rattle.std.specs.Prelude.{ℕ, Bool, true, false, not, ◌&&◌, nat_lt, nat_le, max, List, [], ◌∷◌, length, Option, Some, None, is_some, unwrap_or}
 use Rattle.std.specs.Option.{option_map_or}
 use Rattle.bt_rows.specs.declared.event.EventKind.{EventKind}
-use Rattle.bt_rows.specs.declared.event.EventKind.TheVariants.{AddPool, DeletePool, Resize, StopResize, EnableAutoscale, DisableAutoscale, EvaluateAutoscale, AddJob, PatchJob, DisableJob, EnableJob, TerminateJob, DeleteJob, AddTask, AddTasks, DeleteTask, TerminateTask, ReactivateTask, Take, End, Sample, Tick}
+use Rattle.bt_rows.specs.declared.event.EventKind.TheVariants.{AddPool, AddJob, AddTask, AddTasks, Take, End, Tick}
 use Rattle.bt_rows.specs.declared.event.PoolSpec.{PoolSpec}
 use Rattle.bt_rows.specs.declared.event.JobSpec.{JobSpec}
 use Rattle.bt_rows.specs.declared.event.TaskSpec.{TaskSpec}
 use Rattle.bt_rows.specs.declared.refusal.Table.TheVariants.{Pools, Jobs, Tasks}
 use Rattle.bt_rows.specs.declared.refusal.Refusal.{Refusal}
-use Rattle.bt_rows.specs.declared.refusal.Refusal.TheVariants.{UnreadableBody, PoolNotFound, PoolExists, PoolBeingDeleted, JobNotFound, JobExists, JobStateRefuses, TaskExists, DependencyListTooLong, CollectionTooLong, RunNotFound, RunAlreadyEnded, RunAlreadyTaken, RunNotTaken, RunWithdrawn, RunWaiting, TableFull}
+use Rattle.bt_rows.specs.declared.refusal.Refusal.TheVariants.{PoolNotFound, PoolExists, PoolBeingDeleted, JobNotFound, JobExists, JobStateRefuses, TaskExists}
+use Rattle.bt_rows.specs.declared.refusal.Refusal.TheVariants.{DependencyListTooLong, CollectionTooLong, RunNotFound, RunAlreadyEnded, RunAlreadyTaken}
+use Rattle.bt_rows.specs.declared.refusal.Refusal.TheVariants.{RunNotTaken, RunWithdrawn, RunWaiting, TableFull}
 use Rattle.bt_rows.specs.declared.reply.Element.{Element}
 use Rattle.bt_rows.specs.declared.reply.Element.TheVariants.{Added, NotAdded}
 use Rattle.bt_rows.specs.declared.reply.Reply.TheVariants.{Status, Refused, Elements}
@@ -21,8 +23,10 @@ use Rattle.batch_model.specs.Pools.{new_pool}
 use Rattle.batch_model.specs.Starts.{start_ended}
 use Rattle.batch_model.specs.Limits.{pool_limit, job_limit, task_limit, collection_limit, needs_limit}
 use Rattle.batch_model.specs.WellFormed.{needs_length}
+use Rattle.batch_model.specs.NotBuilt.{not_built}
 use Rattle.batch_model.specs.Steps.{Answered, refuse_if}
-use Rattle.batch_model.specs.Variants.{State, PoolRow, JobRow, TaskRow, Ending, RunRow, RunKind, StartRun, PrepRun, TaskRun, CoordinationRun, ReleaseRun, Taken, Ended}
+use Rattle.batch_model.specs.Variants.{State, PoolRow, JobRow, TaskRow, Ending, RunRow, RunKind, StartRun, PrepRun, TaskRun, CoordinationRun, ReleaseRun, Taken}
+use Rattle.batch_model.specs.Variants.{Ended}
 
 -- answers
 
@@ -38,25 +42,33 @@ accept status after = record { reply = Status status; state = after }
 abbrev pub answer : State → List (Option Refusal) → ℕ → State → Answered
 answer s refusals status after = option_map_or (λ refusal. refuse refusal s) (first_of refusals) (accept status after)
 
--- the answer for a row, or the refusal where there is none
+-- the answer for a row, or the refusal if there is none
 abbrev pub for_row : {R : Type 0} → State → Refusal → (R → Answered) → Option R → Answered
 for_row s refusal answer_for None = refuse refusal s
 for_row s refusal answer_for (Some row) = answer_for row
 
--- `add-pool`; a pool that scales automatically is not built
-abbrev pub add_pool : State → PoolSpec → Answered
-add_pool s spec = answer s
-    (refuse_if (is_some spec.scale) UnreadableBody
+-- why a pool is not added, in order; a pool that scales automatically is not built
+abbrev pub add_pool_refusals : State → PoolSpec → List (Option Refusal)
+add_pool_refusals s spec =
+    refuse_if (is_some spec.scale) not_built
     ∷ refuse_if (is_some (pool_of s spec.id)) PoolExists
     ∷ refuse_if (nat_le pool_limit (length s.pools)) (TableFull Pools pool_limit)
-    ∷ []) 201 (add_pool_row (new_pool s.moment spec) s)
+    ∷ []
+
+-- `add-pool`
+abbrev pub add_pool : State → PoolSpec → Answered
+add_pool s spec = answer s (add_pool_refusals s spec) 201 (add_pool_row (new_pool s.moment spec) s)
+
+-- why no job is added in a pool that is there, in order
+abbrev pub add_job_refusals : State → PoolRow → List (Option Refusal)
+add_job_refusals s pool =
+    refuse_if pool.deleting PoolBeingDeleted
+    ∷ refuse_if (nat_le job_limit (length s.jobs)) (TableFull Jobs job_limit)
+    ∷ []
 
 -- in the pool that was found
 abbrev pub add_job_in : State → List ℕ → JobSpec → PoolRow → Answered
-add_job_in s id spec pool = answer s
-    (refuse_if pool.deleting PoolBeingDeleted
-    ∷ refuse_if (nat_le job_limit (length s.jobs)) (TableFull Jobs job_limit)
-    ∷ []) 201 (add_job_row (new_job s.moment id pool.id spec) s)
+add_job_in s id spec pool = answer s (add_job_refusals s pool) 201 (add_job_row (new_job s.moment id pool.id spec) s)
 
 -- `add-job`: a new job has the id of its pool as the pool spells it
 abbrev pub add_job : State → List ℕ → JobSpec → Answered
@@ -116,12 +128,16 @@ add_each s job (spec ∷ specs) =
 abbrev pub accept_all : AddedAll → Answered
 accept_all added = record { reply = Elements added.elements; state = added.state }
 
+-- why no task of a collection is added, in order
+abbrev pub add_tasks_refusals : JobRow → List TaskSpec → List (Option Refusal)
+add_tasks_refusals job specs =
+    refuse_if (is_past job.state) (JobStateRefuses job.state)
+    ∷ refuse_if (nat_lt collection_limit (length specs)) CollectionTooLong
+    ∷ []
+
 -- `add-tasks`
 abbrev pub add_tasks : State → List TaskSpec → JobRow → Answered
-add_tasks s specs job =
-    option_map_or (λ refusal. refuse refusal s)
-    (first_of (refuse_if (is_past job.state) (JobStateRefuses job.state) ∷ refuse_if (nat_lt collection_limit (length specs)) CollectionTooLong ∷ []))
-    (accept_all (add_each s job specs))
+add_tasks s specs job = option_map_or (λ refusal. refuse refusal s) (first_of (add_tasks_refusals job specs)) (accept_all (add_each s job specs))
 
 -- taken now
 abbrev pub taken_run : ℕ → RunRow → RunRow
@@ -141,14 +157,18 @@ run_taken s run =
     change_tasks (is_task_of_run run) (started_task s.moment)
     (change_runs (is_run run.number) (taken_run s.moment) s)
 
--- `take`
-abbrev pub take_run : State → RunRow → Answered
-take_run s run = answer s
-    (refuse_if (is_ended run.state) RunAlreadyEnded
+-- why a run is not taken, in order
+abbrev pub take_refusals : RunRow → List (Option Refusal)
+take_refusals run =
+    refuse_if (is_ended run.state) RunAlreadyEnded
     ∷ refuse_if (is_withdrawn run.state) RunWithdrawn
     ∷ refuse_if (is_taken run.state) RunAlreadyTaken
     ∷ refuse_if (is_waiting run.state) RunWaiting
-    ∷ []) 200 (run_taken s run)
+    ∷ []
+
+-- `take`
+abbrev pub take_run : State → RunRow → Answered
+take_run s run = answer s (take_refusals run) 200 (run_taken s run)
 
 -- ended now
 abbrev pub ended_run : ℕ → Ending → RunRow → RunRow
@@ -166,40 +186,30 @@ ended_by ReleaseRun run ending s = s
 abbrev pub run_ended : State → Ending → RunRow → State
 run_ended s ending run = ended_by run.kind run ending (change_runs (is_run run.number) (ended_run s.moment ending) s)
 
--- `end`
-abbrev pub end_run : State → Ending → RunRow → Answered
-end_run s ending run = answer s
-    (refuse_if (is_ended run.state) RunAlreadyEnded
+-- why a run does not end, in order
+abbrev pub end_refusals : RunRow → List (Option Refusal)
+end_refusals run =
+    refuse_if (is_ended run.state) RunAlreadyEnded
     ∷ refuse_if (is_withdrawn run.state) RunWithdrawn
     ∷ refuse_if (not (is_taken run.state)) RunNotTaken
-    ∷ []) 200 (run_ended s ending run)
+    ∷ []
+
+-- `end`
+abbrev pub end_run : State → Ending → RunRow → Answered
+end_run s ending run = answer s (end_refusals run) 200 (run_ended s ending run)
 
 -- the event at the tables' moment
 abbrev pub event_now : EventKind → State → Answered
 event_now (AddPool spec) s = add_pool s spec
-event_now (DeletePool pool) s = refuse UnreadableBody s
-event_now (Resize pool spec) s = refuse UnreadableBody s
-event_now (StopResize pool) s = refuse UnreadableBody s
-event_now (EnableAutoscale pool spec) s = refuse UnreadableBody s
-event_now (DisableAutoscale pool) s = refuse UnreadableBody s
-event_now (EvaluateAutoscale pool formula) s = refuse UnreadableBody s
 event_now (AddJob job spec) s = add_job s job spec
-event_now (PatchJob job patch) s = refuse UnreadableBody s
-event_now (DisableJob job option) s = refuse UnreadableBody s
-event_now (EnableJob job) s = refuse UnreadableBody s
-event_now (TerminateJob job reason) s = refuse UnreadableBody s
-event_now (DeleteJob job) s = refuse UnreadableBody s
 event_now (AddTask job spec) s = for_row s JobNotFound (add_task s spec) (job_of s job)
 event_now (AddTasks job specs) s = for_row s JobNotFound (add_tasks s specs) (job_of s job)
-event_now (DeleteTask job task) s = refuse UnreadableBody s
-event_now (TerminateTask job task) s = refuse UnreadableBody s
-event_now (ReactivateTask job task) s = refuse UnreadableBody s
 event_now (Take run) s = for_row s RunNotFound (take_run s) (run_of s run)
 event_now (End run ending) s = for_row s RunNotFound (end_run s ending) (run_of s run)
-event_now (Sample pool given) s = refuse UnreadableBody s
 event_now Tick s = accept 200 s
+event_now _ s = refuse not_built s
 
--- the moment first becomes the greater of the last and the handed one
+-- the last moment first becomes the greater of itself and the event's
 abbrev pub at_moment : ℕ → State → State
 at_moment now s = record s { moment = max s.moment now }
 

@@ -1,7 +1,8 @@
 -- Looking for rows, changing them, and choices in order.
-use Rattle.std.specs.Prelude.{◌≡◌, ℕ, ◌^◌, Bool, true, false, nat_eq, nat_le, List, [], ◌∷◌, map, ℤ, pos, negsuc, Option, Some, None, if◌then◌else◌}
+use Rattle.std.specs.Prelude.{◌≡◌, ℕ, Bool, true, false, nat_eq, nat_le, List, [], ◌∷◌, map, ℤ, pos, negsuc, Option, Some, None, if◌then◌else◌}
 use Rattle.std.specs.List.{list_all}
 use Rattle.bt_base.specs.Ids.{same}
+use Rattle.bt_rows.specs.declared.limits.TheConstants.{NUMBER_LIMIT}
 
 module _ {R : Type 0} where
   -- every row passes the test
@@ -26,12 +27,12 @@ module _ {R : Type 0} where
   abbrev pub find_map : {Q : Type 0} → (Q → Option R) → List Q → Option R
   find_map give rows = first_of (map give rows)
 
-  -- a row changes a value; where there is none it stays
+  -- a row changes a value; if there is none it stays
   abbrev pub at_row : {W : Type 0} → (R → W → W) → Option R → W → W
   at_row change None w = w
   at_row change (Some row) w = change row w
 
-  -- the one that comes before the others, and the first of these where several do
+  -- the one that comes before the others, and the first of these if there are several
   abbrev pub best : (R → R → Bool) → List R → Option R
   best precedes [] = None
   best precedes (row ∷ rows) = better (best precedes rows)
@@ -50,14 +51,14 @@ abbrev pub names : Option (List ℕ) → List ℕ → Bool
 names None id = false
 names (Some name) id = same name id
 
--- so many are no more than a limit, where -1 is no limit
+-- n is at most the limit; -1 is no limit
 abbrev pub is_within_limit : ℕ → ℤ → Bool
 is_within_limit n (pos limit) = nat_le n limit
 is_within_limit n (negsuc below) = nat_eq below 0
 
--- the greatest number that a new node or run gets
+-- the greatest number that a new node or run gets: 10^15
 abbrev pub last_number : ℕ
-last_number = 10 ^ 15
+last_number = NUMBER_LIMIT
 
 -- nodes or runs can be made while their next number is not above the last one
 abbrev pub has_number_left : ℕ → Bool

@@ -1,25 +1,41 @@
--- Laws: what holds of the tables at every moment of a history.
-use Rattle.std.specs.Prelude.{ℕ, ◌+◌, ◌-◌, Bool, not, ◌||◌, nat_eq}
-use Rattle.std.specs.List.{list_all}
-use Rattle.batch_model.specs.Finding.{Each}
-use Rattle.batch_model.specs.Rows.{is_pool}
+-- Laws: what holds at every moment of a history.
+use Rattle.std.specs.Prelude.{◌≡◌, ℕ, ◌+◌, ◌-◌, ◌≤◌, true, List, Some}
+use Rattle.bt_rows.specs.declared.due.Due.{Due}
+use Rattle.bt_rows.specs.declared.due.Due.TheVariants.{TaskPlaced}
+use Rattle.batch_model.specs.Rows.{pool_of, node_of, job_of, task_of}
+use Rattle.batch_model.specs.Nodes.{is_in_pool, is_usable}
 use Rattle.batch_model.specs.Slots.{held_slots}
+use Rattle.batch_model.specs.Dues.{due_step}
 use Rattle.batch_model.specs.Sound.{SlotsSuffice}
-use Rattle.batch_model.specs.Variants.{State, PoolRow, NodeRow}
+use Rattle.batch_model.specs.Steps.{DueStep}
+use Rattle.batch_model.specs.Variants.{State, PoolRow, NodeRow, JobRow, TaskRow}
 
--- so many slots of the node are free
+-- the slots of the node that are free: those of its pool but for the held ones
 abbrev pub free_slots : State → PoolRow → NodeRow → ℕ
 free_slots s pool node = pool.slots - held_slots s node.number
 
--- the node's free and held slots together are the pool's, if it is the node's pool
-abbrev pub parts_slots : State → NodeRow → PoolRow → Bool
-parts_slots s node pool = not (is_pool node.pool pool) || nat_eq (free_slots s pool node + held_slots s node.number) pool.slots
+-- the task of the job is placed on a usable node of the job's pool on which at least the slots that the task requires are
+-- free, and on which exactly these are free no more afterwards
+pub record PlacesTask (before after : State) (in_job id : List ℕ) (number : ℕ) : Type 0 where
+  pub job : JobRow
+  pub pool : PoolRow
+  pub node : NodeRow
+  pub task : TaskRow
+  pub job_there : job_of before in_job ≡ Some job
+  pub pool_there : pool_of before job.pool ≡ Some pool
+  pub node_there : node_of before number ≡ Some node
+  pub task_there : task_of before in_job id ≡ Some task
+  pub usable : is_usable node.stage ≡ true
+  pub in_pool : is_in_pool pool.id node ≡ true
+  pub room : task.slots ≤ free_slots before pool node
+  pub taken : free_slots before pool node ≡ free_slots after pool node + task.slots
 
--- the same in its pool
-abbrev pub has_parted_slots : State → NodeRow → Bool
-has_parted_slots s node = list_all (parts_slots s node) s.pools
+-- a due step with this line leads from the tables before to those after: if it places a task, then so
+abbrev pub PlacesWithinSlots : State → Due → State → Type 0
+PlacesWithinSlots before (TaskPlaced job task node run) after = PlacesTask before after job task node
+PlacesWithinSlots before _ after = Unit {0}
 
--- no node holds more slots than its pool has; free and held slots together are the pool's
-pub record HoldsWithinSlots (s : State) : Type 0 where
+-- no node holds more slots than its pool has, and if the next due step places a task, then within the free slots of its node
+pub record HoldsWithinSlots (seats : ℕ) (s : State) : Type 0 where
   pub within : SlotsSuffice s
-  pub parted : Each (has_parted_slots s) s.nodes
+  pub placing : (step : DueStep) → due_step seats s ≡ Some step → PlacesWithinSlots s step.due step.state

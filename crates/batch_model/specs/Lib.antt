@@ -7,6 +7,7 @@ pub mod Laws
 pub mod Limits
 pub mod Measure
 pub mod Nodes
+pub mod NotBuilt
 pub mod Opening
 pub mod Placing
 pub mod Pools

@@ -4,7 +4,7 @@ use Rattle.batch_model.specs.Tasks.{is_active, is_placed, is_completed, is_busy}
 use Rattle.batch_model.specs.Pools.{is_steady, staying_count}
 use Rattle.batch_model.specs.Variants.{State, PoolRow, TaskRow}
 
--- one more where it does not hold
+-- one more if it does not hold
 abbrev pub one_unless : Bool → ℕ
 one_unless true = 0
 one_unless false = 1

@@ -40,21 +40,21 @@ is_ready task = is_active task.stage && is_empty task.needs && is_empty task.spa
 abbrev pub is_placeable : JobRow → TaskRow → Bool
 is_placeable job task = is_in_job job.id task && is_ready task
 
--- a usable node of the pool with so many slots free
+-- a usable node of the pool with the needed slots free
 abbrev pub fits : State → PoolRow → ℕ → NodeRow → Bool
 fits s pool need node = is_usable node.stage && is_in_pool pool.id node && has_free s pool need node
 
--- as many slots are held on both nodes, and the first has the lower number
+-- the same number of slots is held on both nodes, and the first has the lower number
 abbrev pub is_lower : State → NodeRow → NodeRow → Bool
 is_lower s node other = nat_eq (held_slots s node.number) (held_slots s other.number) && nat_lt node.number other.number
 
 -- the fill type prefers the node to the other: `spread` the one with fewer held slots, `pack` the one with more, and of two
--- with as many the one with the lower number
+-- with the same number the one with the lower number
 abbrev pub precedes : State → Fill → NodeRow → NodeRow → Bool
 precedes s Spread node other = nat_lt (held_slots s node.number) (held_slots s other.number) || is_lower s node other
 precedes s Pack node other = nat_lt (held_slots s other.number) (held_slots s node.number) || is_lower s node other
 
--- the node of the pool on which so many slots are to be held
+-- the node of the pool on which the needed slots are to be held
 abbrev pub choice : State → PoolRow → ℕ → Option NodeRow
 choice s pool need = best (precedes s pool.fill) (filter (fits s pool need) s.nodes)
 

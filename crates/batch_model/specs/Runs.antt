@@ -1,7 +1,8 @@
 -- Runs: whose they are, whether they have ended, and new ones.
 use Rattle.std.specs.Prelude.{ℕ, Bool, true, false, ◌&&◌, nat_eq, List, Option, Some, None}
 use Rattle.batch_model.specs.Finding.{names}
-use Rattle.batch_model.specs.Variants.{State, NodeRow, StartTask, TaskRow, Ending, RunRow, RunKind, RunState, StartRun, PrepRun, TaskRun, CoordinationRun, ReleaseRun, Waiting, Queued, Taken, Ended, Withdrawn}
+use Rattle.batch_model.specs.Variants.{State, NodeRow, StartTask, TaskRow, Ending, RunRow, RunKind, RunState, StartRun, PrepRun, TaskRun, CoordinationRun}
+use Rattle.batch_model.specs.Variants.{ReleaseRun, Waiting, Queued, Taken, Ended, Withdrawn}
 
 abbrev pub is_waiting : RunState → Bool
 is_waiting Waiting = true

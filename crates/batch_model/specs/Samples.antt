@@ -4,7 +4,7 @@ use Rattle.bt_base.specs.Ids.{same}
 use Rattle.bt_rows.specs.Metrics.{same_metric}
 use Rattle.batch_model.specs.Variants.{State, Metric, SampleRow}
 
--- so many samples of a pool and metric are kept
+-- the number of samples of a pool and metric that are kept
 abbrev pub sample_limit : ℕ
 sample_limit = 2880
 

@@ -17,6 +17,6 @@ holds_on s node run = nat_eq run.node node && list_any (owns run) s.tasks
 abbrev pub held_slots : State → ℕ → ℕ
 held_slots s node = sum_by (λ (run : RunRow). run.slots) (filter (holds_on s node) s.runs)
 
--- so many slots of the node are free
+-- the needed slots of the node are free
 abbrev pub has_free : State → PoolRow → ℕ → NodeRow → Bool
 has_free s pool need node = nat_le (held_slots s node.number + need) pool.slots

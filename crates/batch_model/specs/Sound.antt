@@ -1,19 +1,21 @@
 -- Sound tables: what holds of the tables before and after every event and every due step. Each part has a name of its
 -- own.
-use Rattle.std.specs.Prelude.{◌≡◌, ℕ, ◌<◌, List, Bool, false, not, ◌&&◌, ◌||◌, nat_eq, nat_lt, nat_le, [], is_some, is_none}
+use Rattle.std.specs.Prelude.{ℕ, ◌<◌, List, Bool, false, not, ◌&&◌, ◌||◌, nat_eq, nat_lt, nat_le, is_some, is_none}
 use Rattle.std.specs.List.{list_any, list_all}
 use Rattle.bt_base.specs.Ids.{same}
 use Rattle.bt_rows.specs.Lists.{AreDistinct}
 use Rattle.bt_rows.specs.Ranges.{is_from_to}
 use Rattle.batch_model.specs.Finding.{Each}
 use Rattle.batch_model.specs.Rows.{is_pool, is_node}
-use Rattle.batch_model.specs.Runs.{is_unended, is_start, is_preparation, is_release, is_main, is_work}
+use Rattle.batch_model.specs.Runs.{is_unended, is_start, is_preparation, is_release, is_work}
 use Rattle.batch_model.specs.Tasks.{is_placed, is_undisturbed, is_busy, main_ending}
-use Rattle.batch_model.specs.Nodes.{is_usable, is_leaving}
+use Rattle.batch_model.specs.Nodes.{is_usable}
 use Rattle.batch_model.specs.Pools.{waits_for_start}
+use Rattle.batch_model.specs.NotBuilt.{OnlyBuiltRows, NothingIsPrepared}
 use Rattle.batch_model.specs.Endings.{is_success}
 use Rattle.batch_model.specs.Slots.{owns, held_slots}
-use Rattle.batch_model.specs.WellFormed.{KeysAreDistinct, RowsAreValid, CountsAreInRange, TasksAreFitting, has_few_tries, has_pool_row, NamedRowsAreThere, QuietJobsPlaceNothing, PoolsAreFitting}
+use Rattle.batch_model.specs.WellFormed.{KeysAreDistinct, RowsAreValid, CountsAreInRange, TasksAreFitting, has_few_tries, has_pool_row, NamedRowsAreThere}
+use Rattle.batch_model.specs.WellFormed.{QuietJobsPlaceNothing, PoolsAreFitting}
 use Rattle.batch_model.specs.Variants.{State, NodeRow, TaskRow, RunRow, RunState, Ended}
 
 -- the later node has no higher number
@@ -88,12 +90,7 @@ has_slots_for s node = list_all (λ pool. not (is_pool node.pool pool) || nat_le
 abbrev pub SlotsSuffice : State → Type 0
 SlotsSuffice s = Each (has_slots_for s) s.nodes
 
--- what is built makes no other rows: unended runs are start runs and main runs of tasks, and no node leaves
-pub record OnlyBuiltRows (s : State) : Type 0 where
-  pub runs : Each (λ run. is_start run.kind || is_main run.kind || not (is_unended run.state)) s.runs
-  pub nodes : Each (λ node. not (is_leaving node.stage)) s.nodes
-
--- the rows fit each other, for so many seats
+-- the rows fit each other, for this number of seats
 pub record IsConsistent (seats : ℕ) (s : State) : Type 0 where
   pub keys : KeysAreDistinct s
   pub numbers : NumbersAreNew s
@@ -105,10 +102,6 @@ pub record IsConsistent (seats : ℕ) (s : State) : Type 0 where
   pub naming : RunsNameTheirs s
   pub slots : SlotsSuffice s
   pub built : OnlyBuiltRows s
-
--- nothing is prepared, since that is not built
-pub record NothingIsPrepared (s : State) : Type 0 where
-  pub preps : s.preps ≡ []
 
 -- the values of the rows are such as the service makes
 pub record IsWithinLimits (s : State) : Type 0 where
@@ -151,7 +144,7 @@ pub record StartsAreSound (s : State) : Type 0 where
   pub usable : Each (has_usable_start s) s.nodes
   pub tries : Each (has_few_tries s) s.nodes
 
--- all of these, for so many seats; such tables are also well formed
+-- all of these, for this number of seats; such tables are also well formed
 pub record IsSound (seats : ℕ) (s : State) : Type 0 where
   pub consistent : IsConsistent seats s
   pub limited : IsWithinLimits s

@@ -7,7 +7,7 @@ use Rattle.batch_model.specs.Runs.{start_run}
 use Rattle.batch_model.specs.Endings.{is_success}
 use Rattle.batch_model.specs.Variants.{State, NodeRow, NodeStage, Starting, Usable, StartFailed, Leaving, StartTask, Ending, RunRow}
 
--- a start task with so many failures is run again: they are within its retries, and run numbers last
+-- a start task with n failures is run again: they are within its retries, and run numbers last
 abbrev pub is_tried_again : State → ℕ → StartTask → Bool
 is_tried_again s failed start = is_within_limit failed start.retries && has_number_left s.next_run
 
@@ -55,7 +55,7 @@ abbrev pub start_ended_at : NodeRow → Ending → State → State
 start_ended_at node ending s =
     if is_success ending then change_node node started_node s else at_row (start_failed node) (start_of s node) s
 
--- nothing where the node is leaving
+-- nothing if the node is leaving
 abbrev pub start_ended_in : NodeStage → NodeRow → Ending → State → State
 start_ended_in (Leaving option) node ending s = s
 start_ended_in _ node ending s = start_ended_at node ending s

@@ -14,7 +14,8 @@ pub use Rattle.bt_rows.specs.declared.node.NodeStage.{NodeStage}
 pub use Rattle.bt_rows.specs.declared.node.NodeStage.TheVariants.{Starting, Usable, StartFailed, Leaving}
 pub use Rattle.bt_rows.specs.declared.node.NodeRow.{NodeRow}
 pub use Rattle.bt_rows.specs.declared.job.JobState.{JobState}
-pub use Rattle.bt_rows.specs.declared.job.JobState.TheVariants.{Active as JobActive, Disabling, Disabled, Enabling, Terminating, Completed as JobCompleted, Deleting}
+pub use Rattle.bt_rows.specs.declared.job.JobState.TheVariants.{Active as JobActive, Disabling, Disabled, Enabling, Terminating, Completed as JobCompleted}
+pub use Rattle.bt_rows.specs.declared.job.JobState.TheVariants.{Deleting}
 pub use Rattle.bt_rows.specs.declared.job.ReleaseTask.{ReleaseTask}
 pub use Rattle.bt_rows.specs.declared.job.JobRow.{JobRow}
 pub use Rattle.bt_rows.specs.declared.task.JobAction.{JobAction}
@@ -33,7 +34,8 @@ pub use Rattle.bt_rows.specs.declared.task.TaskRow.{TaskRow}
 pub use Rattle.bt_rows.specs.declared.run.Ending.{Ending}
 pub use Rattle.bt_rows.specs.declared.run.Ending.TheVariants.{Code, NoCode, NotStarted}
 pub use Rattle.bt_rows.specs.declared.run.RunKind.{RunKind}
-pub use Rattle.bt_rows.specs.declared.run.RunKind.TheVariants.{Start as StartRun, Prep as PrepRun, Task as TaskRun, Coordination as CoordinationRun, Release as ReleaseRun}
+pub use Rattle.bt_rows.specs.declared.run.RunKind.TheVariants.{Start as StartRun, Prep as PrepRun, Task as TaskRun, Coordination as CoordinationRun}
+pub use Rattle.bt_rows.specs.declared.run.RunKind.TheVariants.{Release as ReleaseRun}
 pub use Rattle.bt_rows.specs.declared.run.RunState.{RunState}
 pub use Rattle.bt_rows.specs.declared.run.RunState.TheVariants.{Waiting, Queued, Taken, Ended, Withdrawn}
 pub use Rattle.bt_rows.specs.declared.run.RunRow.{RunRow}

@@ -1,13 +1,17 @@
--- Well-formed tables: what a keeper may hand in, and what every step leaves. Each part has a name of its own.
-use Rattle.std.specs.Prelude.{ℕ, ◌+◌, ◌%◌, ◌≤◌, Bool, true, false, not, ◌&&◌, ◌||◌, nat_eq, nat_lt, nat_le, List, length, count_by, sum_by, Option, is_some, is_none}
+-- Well-formed tables: what a keeper may load, and what every step leaves. Each part has a name of its own.
+use Rattle.std.specs.Prelude.{ℕ, ◌+◌, ◌%◌, ◌≤◌, Bool, true, false, not, ◌&&◌, ◌||◌, nat_eq, nat_lt, nat_le, List, length, count_by, sum_by, Option, is_some}
+use Rattle.std.specs.Prelude.{is_none}
 use Rattle.std.specs.Option.{option_map_or}
 use Rattle.std.specs.List.{list_any, list_all}
 use Rattle.bt_base.specs.Ids.{same}
 use Rattle.bt_base.specs.Moments.{last_moment}
+use Rattle.bt_rows.specs.declared.limits.TheConstants.{DEPENDENCY_RANGE_LIMIT}
 use Rattle.bt_rows.specs.Lists.{AreDistinct}
 use Rattle.bt_rows.specs.Keys.{same_pool, same_node, same_job, same_task, same_run, same_prep, same_sample, same_scale}
 use Rattle.bt_rows.specs.Metrics.{same_metric}
-use Rattle.bt_rows.specs.Ranges.{is_from_to, passes_if_some, is_duration, is_retry_limit, is_resize_timeout, is_target, is_slot_count, is_interval, is_formula_text, is_start_in_range, is_priority, is_parallel, is_release_in_range, is_reason, is_span_in_range, is_multi_in_range, is_percentage}
+use Rattle.bt_rows.specs.Ranges.{is_from_to, passes_if_some, is_duration, is_retry_limit, is_resize_timeout, is_target, is_slot_count, is_interval}
+use Rattle.bt_rows.specs.Ranges.{is_formula_text, is_start_in_range, is_priority, is_parallel, is_release_in_range, is_reason, is_span_in_range}
+use Rattle.bt_rows.specs.Ranges.{is_multi_in_range, is_percentage}
 use Rattle.batch_model.specs.Finding.{Each, names, last_number}
 use Rattle.batch_model.specs.Rows.{is_pool, is_job}
 use Rattle.batch_model.specs.Runs.{is_unended, is_start, is_preparation, is_main, is_run_of_task}
@@ -48,7 +52,7 @@ is_job_in_range job =
     && passes_if_some is_start_in_range job.prep && passes_if_some is_release_in_range job.release
     && (is_none job.release || is_some job.prep) && passes_if_some is_reason job.reason
 
--- the ids that a task depends on have so many characters together
+-- how many characters the ids that a task depends on have together
 abbrev pub needs_length : List (List ℕ) → ℕ
 needs_length needs = sum_by length needs
 
@@ -57,7 +61,7 @@ abbrev pub is_task_in_range : TaskRow → Bool
 is_task_in_range task =
     is_slot_count task.slots && passes_if_some is_retry_limit task.retries && passes_if_some is_duration task.wall
     && passes_if_some is_duration task.retention && passes_if_some is_multi_in_range task.multi
-    && nat_le (needs_length task.needs) needs_limit && nat_le (length task.spans) 64 && list_all is_span_in_range task.spans
+    && nat_le (needs_length task.needs) needs_limit && nat_le (length task.spans) DEPENDENCY_RANGE_LIMIT && list_all is_span_in_range task.spans
 
 -- a placing that begins at the last number may end 63 above it
 abbrev pub is_run_in_range : RunRow → Bool

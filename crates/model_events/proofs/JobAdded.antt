@@ -1,24 +1,75 @@
--- Sound tables stay sound when a job with a new id is added.
-use Rattle.std.proofs.Common.{◌≡◌, ℕ, true, false, List, Option, Some, None, refl}
+-- The event `add-job` keeps sound tables.
+use Rattle.std.proofs.Common.{◌≡◌, ℕ, true, false, List, Option, Some, None, refl, ◌+◌, ◌<◌, ◌≤◌, Bool, not, ◌&&◌, ◌||◌, nat_eq, nat_le, is_none, [], ◌∷◌, ◌++◌}
+use Rattle.std.proofs.Common.{length, ◌∙◌, ap, arith, nat_lt, is_some, inl, inr}
 use Rattle.std.specs.Option.{option_map_or}
-use Rattle.bt_rows.specs.Keys.{same_job}
-use Rattle.batch_model.specs.Rows.{is_job, add_job_row}
-use Rattle.batch_model.specs.Sound.{IsConsistent}
-use Rattle.batch_model.specs.WellFormed.{has_job_row, has_named_job}
-use Rattle.batch_model.specs.Variants.{State, JobRow, TaskRow}
-use Rattle.model_lists.proofs.RowLists.{each_weaker, any_append_old}
+use Rattle.std.proofs.lemmas.Bool.Decides.{nat_tests}
+use Rattle.std.proofs.lemmas.List.{length-append}
+use Rattle.std.specs.List.{find}
+use Rattle.bt_rows.specs.Keys.{same_job, same_run}
+use Rattle.bt_rows.specs.declared.event.PoolSpec.{PoolSpec}
+use Rattle.bt_rows.specs.declared.event.JobSpec.{JobSpec}
+use Rattle.bt_rows.specs.declared.event.TaskSpec.{TaskSpec}
+use Rattle.bt_rows.specs.Ranges.{passes_if_some, is_target, is_slot_count, is_resize_timeout, is_start_in_range, is_scaling_in_range, is_pool_spec_in_range}
+use Rattle.bt_rows.specs.Ranges.{is_job_spec_in_range, is_task_spec_in_range}
+use Rattle.bt_rows.specs.Lists.{AreDistinct}
+use Rattle.bt_rows.specs.declared.event.EventKind.{EventKind}
+use Rattle.bt_rows.specs.declared.event.EventKind.TheVariants.{AddPool, DeletePool, Resize, StopResize, EnableAutoscale, DisableAutoscale, EvaluateAutoscale}
+use Rattle.bt_rows.specs.declared.event.EventKind.TheVariants.{AddJob, PatchJob, DisableJob, EnableJob, TerminateJob, DeleteJob, AddTask, AddTasks, DeleteTask}
+use Rattle.bt_rows.specs.declared.event.EventKind.TheVariants.{TerminateTask, ReactivateTask, Take, End, Sample, Tick}
+use Rattle.bt_rows.specs.declared.refusal.Refusal.{Refusal}
+use Rattle.bt_rows.specs.declared.refusal.Refusal.TheVariants.{PoolNotFound, JobNotFound, RunNotFound, JobStateRefuses, CollectionTooLong, RunAlreadyEnded}
+use Rattle.bt_rows.specs.declared.refusal.Refusal.TheVariants.{RunNotTaken, RunWithdrawn, JobExists, TableFull}
+use Rattle.bt_rows.specs.declared.refusal.Table.TheVariants.{Pools, Jobs, Tasks}
+use Rattle.batch_model.specs.Rows.{is_job, add_job_row, is_pool, add_pool_row, add_task_row, is_run, pool_of, job_of, run_of}
+use Rattle.batch_model.specs.Sound.{IsConsistent, IsWithinLimits, StartsAreSound, IsSound, awaits_no_start}
+use Rattle.batch_model.specs.WellFormed.{has_job_row, has_named_job, is_pool_in_range, is_pool_valid, is_job_valid, is_task_valid, has_pool_row}
+use Rattle.batch_model.specs.WellFormed.{has_no_placed_if_quiet, is_deleting_whole}
+use Rattle.batch_model.specs.Variants.{State, JobRow, TaskRow, SampleRow, ScaleRow, PoolRow, NodeRow, RunRow, RunState, Waiting, Queued, Taken, Ended}
+use Rattle.batch_model.specs.Variants.{Withdrawn, Ending}
+use Rattle.batch_model.specs.Tasks.{is_placed_in, new_task}
+use Rattle.batch_model.specs.Jobs.{is_quiet, new_job, is_past}
+use Rattle.batch_model.specs.Pools.{new_pool, waits_for_start}
+use Rattle.batch_model.specs.Limits.{pool_limit, job_limit, task_limit, collection_limit}
+use Rattle.batch_model.specs.Events.{has_long_needs, refuse, accept, answer, for_row, add_pool, add_job, add_job_in, task_refusals, task_added, add_task}
+use Rattle.batch_model.specs.Events.{after_element, add_each, accept_all, add_tasks, take_run, end_run, run_ended, event_now, event_step, at_moment}
+use Rattle.batch_model.specs.Events.{add_job_refusals}
+use Rattle.batch_model.specs.Finding.{Each, first_of}
+use Rattle.batch_model.specs.Steps.{Answered, refuse_if}
+use Rattle.batch_model.specs.Runs.{is_taken, is_ended, is_withdrawn}
+use Rattle.model_lists.proofs.RowLists.{each_weaker, any_append_old, each_append, any_append_same, find_none, none_found}
 use Rattle.model_lists.proofs.DistinctLists.{distinct_append}
+use Rattle.model_lists.proofs.Tests.{and_true, and_first, and_second, not_false, passes_or_not}
+use Rattle.model_lists.proofs.NextNumbers.{is_not_after_itself}
+use Rattle.model_lists.proofs.Lengths.{takes_one}
+use Rattle.model_tables.proofs.StartsKept.{none_awaited, starts_with_pools}
+use Rattle.model_events.proofs.Keeping.{AreAbsent, passed, through, given_keeps, answer_keeps, for_row_keeps}
 
 -- a job that is named still has a row
-named_job : (s : State) (job : JobRow) (name : Option (List ℕ)) → option_map_or (has_job_row s) name true ≡ true → option_map_or (has_job_row (add_job_row job s)) name true ≡ true
+named_job : (s : State) (job : JobRow) (name : Option (List ℕ)) → option_map_or (has_job_row s) name true ≡ true
+    → option_map_or (has_job_row (add_job_row job s)) name true ≡ true
 named_job s job None h = refl
 named_job s job (Some id) h = any_append_old (is_job id) s.jobs job h
 
 -- a job with a new id
-pub consistent_job_added : (seats : ℕ) (s : State) (job : JobRow) → IsConsistent seats s → has_job_row s job.id ≡ false → IsConsistent seats (add_job_row job s)
+consistent_job_added : (seats : ℕ) (s : State) (job : JobRow) → IsConsistent seats s → has_job_row s job.id ≡ false → IsConsistent seats (add_job_row job s)
 consistent_job_added seats s job h new = record {
-  keys = record { pools = h.keys.pools; nodes = h.keys.nodes; jobs = distinct_append same_job s.jobs job h.keys.jobs new; tasks = h.keys.tasks; runs = h.keys.runs; preps = h.keys.preps; samples = h.keys.samples; scales = h.keys.scales };
-  numbers = record { begun = h.numbers.begun; runs = h.numbers.runs; nodes = h.numbers.nodes; nodes_of_runs = h.numbers.nodes_of_runs; order = h.numbers.order };
+  keys = record {
+    pools = h.keys.pools;
+    nodes = h.keys.nodes;
+    jobs = distinct_append same_job s.jobs job h.keys.jobs new;
+    tasks = h.keys.tasks;
+    runs = h.keys.runs;
+    preps = h.keys.preps;
+    samples = h.keys.samples;
+    scales = h.keys.scales;
+  };
+  numbers = record {
+    begun = h.numbers.begun;
+    runs = h.numbers.runs;
+    nodes = h.numbers.nodes;
+    nodes_of_runs = h.numbers.nodes_of_runs;
+    order = h.numbers.order;
+  };
   fitting = record { marks = h.fitting.marks; closing = h.fitting.closing; attempts = h.fitting.attempts };
   named = record {
     jobs_of_tasks =
@@ -29,10 +80,83 @@ consistent_job_added seats s job h new = record {
     tasks_of_runs = h.named.tasks_of_runs;
     main_runs = h.named.main_runs;
   };
-  seated = record { distinct = h.seated.distinct; in_range = h.seated.in_range; pools_of_nodes = h.seated.pools_of_nodes; nodes_of_runs = h.seated.nodes_of_runs };
+  seated = record {
+    distinct = h.seated.distinct;
+    in_range = h.seated.in_range;
+    pools_of_nodes = h.seated.pools_of_nodes;
+    nodes_of_runs = h.seated.nodes_of_runs;
+  };
   belonging = h.belonging;
   ending = h.ending;
   naming = record { on_nodes = h.naming.on_nodes; of_jobs = h.naming.of_jobs };
   slots = h.slots;
   built = record { runs = h.built.runs; nodes = h.built.nodes };
 }
+
+-- a job whose values are in their ranges; it is active
+limited_job_added : (s : State) (id in_pool : List ℕ) (spec : JobSpec) → IsWithinLimits s → is_job_spec_in_range spec ≡ true
+    → nat_le job_limit (length s.jobs) ≡ false → IsWithinLimits (add_job_row (new_job s.moment id in_pool spec) s)
+limited_job_added s id in_pool spec h in_range room = record {
+  rows = record {
+    moment = h.rows.moment;
+    pools = h.rows.pools;
+    nodes = h.rows.nodes;
+    jobs =
+        each_append (is_job_valid s.moment) s.jobs (new_job s.moment id in_pool spec) h.rows.jobs
+        (and_true (and_true in_range refl) (is_not_after_itself s.moment));
+    tasks = h.rows.tasks;
+    runs = h.rows.runs;
+    samples = h.rows.samples;
+    scales = h.rows.scales;
+  };
+  counts = record {
+    pools = h.counts.pools;
+    jobs = takes_one job_limit s.jobs (new_job s.moment id in_pool spec) room;
+    tasks = h.counts.tasks;
+    first_node = h.counts.first_node;
+    next_node = h.counts.next_node;
+    first_run = h.counts.first_run;
+    next_run = h.counts.next_run;
+  };
+  quiet = each_append (has_no_placed_if_quiet s) s.jobs (new_job s.moment id in_pool spec) h.quiet refl;
+  pools = record {
+    deleting = h.pools.deleting;
+    pools_of_scales = h.pools.pools_of_scales;
+    pools_of_samples = h.pools.pools_of_samples;
+    labels = h.pools.labels;
+    order = h.pools.order;
+    covered = h.pools.covered;
+    kept = h.pools.kept;
+  };
+  built = record { preps = h.built.preps };
+}
+
+-- a job with a new id, whose values are in their ranges
+sound_job_added : (seats : ℕ) (s : State) (id in_pool : List ℕ) (spec : JobSpec) → IsSound seats s → is_job_spec_in_range spec ≡ true → has_job_row s id ≡ false
+    → nat_le job_limit (length s.jobs) ≡ false → IsSound seats (add_job_row (new_job s.moment id in_pool spec) s)
+sound_job_added seats s id in_pool spec h in_range new room = record {
+  consistent = consistent_job_added seats s (new_job s.moment id in_pool spec) h.consistent new;
+  limited = limited_job_added s id in_pool spec h.limited in_range room;
+  unended = h.unended;
+  starts = record { usable = h.starts.usable; tries = h.starts.tries };
+}
+
+-- in the pool that was found
+add_job_in_kept : (seats : ℕ) (s : State) (id : List ℕ) (spec : JobSpec) (pool : PoolRow) → is_job_spec_in_range spec ≡ true → is_some (job_of s id) ≡ false
+    → IsSound seats s → IsSound seats (add_job_in s id spec pool).state
+add_job_in_kept seats s id spec pool in_range new h =
+    answer_keeps (IsSound seats) s h (add_job_refusals s pool) 201 (add_job_row (new_job s.moment id pool.id spec) s)
+    (λ absent.
+    sound_job_added seats s id pool.id spec h in_range
+    (none_found (is_job id) s.jobs new)
+    (passed (nat_le job_limit (length s.jobs)) (TableFull Jobs job_limit) absent.1.0))
+
+-- `add-job`
+pub add_job_kept : (seats : ℕ) (s : State) (id : List ℕ) (spec : JobSpec) → is_job_spec_in_range spec ≡ true → IsSound seats s
+    → IsSound seats (add_job s id spec).state
+add_job_kept seats s id spec in_range h = elim (passes_or_not (is_some (job_of s id))) [
+  | inl e ↦ rw e h
+  | inr new ↦
+      rw new (for_row_keeps (IsSound seats) s h PoolNotFound (add_job_in s id spec) (pool_of s spec.pool)
+      (λ pool found. add_job_in_kept seats s id spec pool in_range new h))
+]

@@ -1,35 +1,91 @@
--- Sound tables stay sound when a pool with a new id is added.
-use Rattle.std.proofs.Common.{◌≡◌, ℕ, true, false, not, ◌||◌, nat_le, List, sym, ◌∙◌}
+-- The event `add-pool` keeps sound tables.
+use Rattle.std.proofs.Common.{◌≡◌, ℕ, true, false, not, ◌||◌, nat_le, List, sym, ◌∙◌, ◌+◌, ◌<◌, ◌≤◌, Bool, ◌&&◌, nat_eq, is_none, [], ◌∷◌, ◌++◌, length, refl}
+use Rattle.std.proofs.Common.{ap, arith, nat_lt, Option, Some, None, is_some, inl, inr}
+use Rattle.std.proofs.lemmas.Bool.Decides.{nat_tests}
+use Rattle.std.proofs.lemmas.List.{length-append}
+use Rattle.std.specs.List.{find}
+use Rattle.std.specs.Option.{option_map_or}
 use Rattle.bt_base.specs.Ids.{same}
 use Rattle.bt_base.proofs.SameIds.{same_equiv}
-use Rattle.bt_rows.specs.Keys.{same_pool}
-use Rattle.batch_model.specs.Rows.{is_pool, add_pool_row}
+use Rattle.bt_rows.specs.Keys.{same_pool, same_run}
+use Rattle.bt_rows.specs.declared.event.PoolSpec.{PoolSpec}
+use Rattle.bt_rows.specs.declared.event.JobSpec.{JobSpec}
+use Rattle.bt_rows.specs.declared.event.TaskSpec.{TaskSpec}
+use Rattle.bt_rows.specs.Ranges.{passes_if_some, is_target, is_slot_count, is_resize_timeout, is_start_in_range, is_scaling_in_range, is_pool_spec_in_range}
+use Rattle.bt_rows.specs.Ranges.{is_job_spec_in_range, is_task_spec_in_range}
+use Rattle.bt_rows.specs.Lists.{AreDistinct}
+use Rattle.bt_rows.specs.declared.event.EventKind.{EventKind}
+use Rattle.bt_rows.specs.declared.event.EventKind.TheVariants.{AddPool, DeletePool, Resize, StopResize, EnableAutoscale, DisableAutoscale, EvaluateAutoscale}
+use Rattle.bt_rows.specs.declared.event.EventKind.TheVariants.{AddJob, PatchJob, DisableJob, EnableJob, TerminateJob, DeleteJob, AddTask, AddTasks, DeleteTask}
+use Rattle.bt_rows.specs.declared.event.EventKind.TheVariants.{TerminateTask, ReactivateTask, Take, End, Sample, Tick}
+use Rattle.bt_rows.specs.declared.refusal.Refusal.{Refusal}
+use Rattle.bt_rows.specs.declared.refusal.Refusal.TheVariants.{PoolNotFound, JobNotFound, RunNotFound, JobStateRefuses, CollectionTooLong, RunAlreadyEnded}
+use Rattle.bt_rows.specs.declared.refusal.Refusal.TheVariants.{RunNotTaken, RunWithdrawn, PoolExists, TableFull}
+use Rattle.bt_rows.specs.declared.refusal.Table.TheVariants.{Pools, Jobs, Tasks}
+use Rattle.batch_model.specs.Rows.{is_pool, add_pool_row, add_job_row, add_task_row, is_run, pool_of, job_of, run_of}
 use Rattle.batch_model.specs.Slots.{held_slots}
-use Rattle.batch_model.specs.Sound.{IsConsistent, has_slots_for}
-use Rattle.batch_model.specs.WellFormed.{has_pool_row}
-use Rattle.batch_model.specs.Variants.{State, PoolRow, NodeRow}
-use Rattle.model_lists.proofs.Tests.{under}
-use Rattle.model_lists.proofs.RowLists.{each_append, each_weaker, each_of_two, any_append_old, any_agree}
+use Rattle.batch_model.specs.Sound.{IsConsistent, has_slots_for, IsWithinLimits, StartsAreSound, IsSound, awaits_no_start}
+use Rattle.batch_model.specs.WellFormed.{has_pool_row, is_pool_in_range, is_pool_valid, is_job_valid, is_task_valid, has_no_placed_if_quiet, is_deleting_whole}
+use Rattle.batch_model.specs.Variants.{State, PoolRow, NodeRow, SampleRow, ScaleRow, JobRow, RunRow, RunState, Waiting, Queued, Taken, Ended, Withdrawn, Ending}
+use Rattle.batch_model.specs.Tasks.{is_placed_in, new_task}
+use Rattle.batch_model.specs.Jobs.{is_quiet, new_job, is_past}
+use Rattle.batch_model.specs.Pools.{new_pool, waits_for_start}
+use Rattle.batch_model.specs.Limits.{pool_limit, job_limit, task_limit, collection_limit}
+use Rattle.batch_model.specs.Events.{has_long_needs, refuse, accept, answer, for_row, add_pool, add_job, add_job_in, task_refusals, task_added, add_task}
+use Rattle.batch_model.specs.Events.{after_element, add_each, accept_all, add_tasks, take_run, end_run, run_ended, event_now, event_step, at_moment}
+use Rattle.batch_model.specs.Events.{add_pool_refusals}
+use Rattle.batch_model.specs.Finding.{Each, first_of}
+use Rattle.batch_model.specs.Steps.{Answered, refuse_if}
+use Rattle.batch_model.specs.Runs.{is_taken, is_ended, is_withdrawn}
+use Rattle.model_lists.proofs.Tests.{under, and_true, and_first, and_second, not_false, passes_or_not}
+use Rattle.model_lists.proofs.RowLists.{each_append, each_weaker, each_of_two, any_append_old, any_agree, any_append_same, find_none, none_found}
 use Rattle.model_lists.proofs.DistinctLists.{distinct_append}
+use Rattle.model_lists.proofs.NextNumbers.{is_not_after_itself}
+use Rattle.model_lists.proofs.Lengths.{takes_one}
+use Rattle.model_tables.proofs.StartsKept.{none_awaited, starts_with_pools}
+use Rattle.model_events.proofs.Keeping.{AreAbsent, passed, through, given_keeps, answer_keeps, for_row_keeps}
 
 -- a pool whose id no pool has is not the pool of a node, which has a row
-pub is_other : (s : State) (pool : PoolRow) (id : List ℕ) → has_pool_row s pool.id ≡ false → has_pool_row s id ≡ true → same pool.id id ≡ true → false ≡ true
+is_other : (s : State) (pool : PoolRow) (id : List ℕ) → has_pool_row s pool.id ≡ false → has_pool_row s id ≡ true → same pool.id id ≡ true → false ≡ true
 is_other s pool id new there e =
-    sym new ∙ any_agree (is_pool pool.id) (is_pool id) (λ other. same_equiv.symm other.id pool.id ∙ same_equiv.congr pool.id id other.id e ∙ same_equiv.symm id other.id) s.pools ∙ there
+    sym new ∙ any_agree (is_pool pool.id) (is_pool id)
+    (λ other. same_equiv.symm other.id pool.id ∙ same_equiv.congr pool.id id other.id e ∙ same_equiv.symm id other.id) s.pools ∙ there
 
 -- the new pool is no node's, so nodes hold no more slots than their pools have
-slots_for : (s : State) (pool : PoolRow) (node : NodeRow) → has_pool_row s pool.id ≡ false → has_slots_for s node ≡ true → has_pool_row s node.pool ≡ true → has_slots_for (add_pool_row pool s) node ≡ true
+slots_for : (s : State) (pool : PoolRow) (node : NodeRow) → has_pool_row s pool.id ≡ false → has_slots_for s node ≡ true → has_pool_row s node.pool ≡ true
+    → has_slots_for (add_pool_row pool s) node ≡ true
 slots_for s pool node new h there =
     each_append (λ other. not (is_pool node.pool other) || nat_le (held_slots s node.number) other.slots) s.pools pool h
     (under (is_pool node.pool pool) (nat_le (held_slots s node.number) pool.slots) (λ e. let f : false ≡ true = is_other s pool node.pool new there e in cc))
 
 -- a pool with a new id
-pub consistent_pool_added : (seats : ℕ) (s : State) (pool : PoolRow) → IsConsistent seats s → has_pool_row s pool.id ≡ false → IsConsistent seats (add_pool_row pool s)
+consistent_pool_added : (seats : ℕ) (s : State) (pool : PoolRow) → IsConsistent seats s → has_pool_row s pool.id ≡ false
+    → IsConsistent seats (add_pool_row pool s)
 consistent_pool_added seats s pool h new = record {
-  keys = record { pools = distinct_append same_pool s.pools pool h.keys.pools new; nodes = h.keys.nodes; jobs = h.keys.jobs; tasks = h.keys.tasks; runs = h.keys.runs; preps = h.keys.preps; samples = h.keys.samples; scales = h.keys.scales };
-  numbers = record { begun = h.numbers.begun; runs = h.numbers.runs; nodes = h.numbers.nodes; nodes_of_runs = h.numbers.nodes_of_runs; order = h.numbers.order };
+  keys = record {
+    pools = distinct_append same_pool s.pools pool h.keys.pools new;
+    nodes = h.keys.nodes;
+    jobs = h.keys.jobs;
+    tasks = h.keys.tasks;
+    runs = h.keys.runs;
+    preps = h.keys.preps;
+    samples = h.keys.samples;
+    scales = h.keys.scales;
+  };
+  numbers = record {
+    begun = h.numbers.begun;
+    runs = h.numbers.runs;
+    nodes = h.numbers.nodes;
+    nodes_of_runs = h.numbers.nodes_of_runs;
+    order = h.numbers.order;
+  };
   fitting = record { marks = h.fitting.marks; closing = h.fitting.closing; attempts = h.fitting.attempts };
-  named = record { jobs_of_tasks = h.named.jobs_of_tasks; jobs_of_runs = h.named.jobs_of_runs; tasks_of_runs = h.named.tasks_of_runs; main_runs = h.named.main_runs };
+  named = record {
+    jobs_of_tasks = h.named.jobs_of_tasks;
+    jobs_of_runs = h.named.jobs_of_runs;
+    tasks_of_runs = h.named.tasks_of_runs;
+    main_runs = h.named.main_runs;
+  };
   seated = record {
     distinct = h.seated.distinct;
     in_range = h.seated.in_range;
@@ -46,3 +102,93 @@ consistent_pool_added seats s pool h new = record {
       (λ node. slots_for s pool node new) s.nodes h.slots h.seated.pools_of_nodes;
   built = record { runs = h.built.runs; nodes = h.built.nodes };
 }
+
+-- its values are those of its event
+new_pool_in_range : (now : ℕ) (spec : PoolSpec) → is_pool_spec_in_range spec ≡ true → is_pool_in_range (new_pool now spec) ≡ true
+new_pool_in_range now spec h =
+    in_order (is_target spec.dedicated) (nat_eq spec.low 0) (is_slot_count spec.slots) (is_resize_timeout spec.timeout)
+    (passes_if_some is_start_in_range spec.start)
+    (and_first _ (passes_if_some is_scaling_in_range spec.scale) (and_first _ (is_none spec.scale || nat_eq spec.dedicated 0) h))
+  where
+    in_order : (target low slots timeout start : Bool) → (target && low && slots && timeout && start) ≡ true
+        → (slots && target && low && timeout && timeout && start) ≡ true
+    in_order false low slots timeout start k = cc
+    in_order true false slots timeout start k = cc
+    in_order true true false timeout start k = cc
+    in_order true true true false start k = cc
+    in_order true true true true start k = k
+
+-- a pool whose values are in their ranges
+limited_pool_added : (s : State) (spec : PoolSpec) → IsWithinLimits s → is_pool_spec_in_range spec ≡ true → nat_le pool_limit (length s.pools) ≡ false
+    → IsWithinLimits (add_pool_row (new_pool s.moment spec) s)
+limited_pool_added s spec h in_range room = record {
+  rows = record {
+    moment = h.rows.moment;
+    pools =
+        each_append (is_pool_valid s.moment) s.pools (new_pool s.moment spec) h.rows.pools
+        (and_true (new_pool_in_range s.moment spec in_range) (and_true (is_not_after_itself s.moment) refl));
+    nodes = h.rows.nodes;
+    jobs = h.rows.jobs;
+    tasks = h.rows.tasks;
+    runs = h.rows.runs;
+    samples = h.rows.samples;
+    scales = h.rows.scales;
+  };
+  counts = record {
+    pools = takes_one pool_limit s.pools (new_pool s.moment spec) room;
+    jobs = h.counts.jobs;
+    tasks = h.counts.tasks;
+    first_node = h.counts.first_node;
+    next_node = h.counts.next_node;
+    first_run = h.counts.first_run;
+    next_run = h.counts.next_run;
+  };
+  quiet = h.quiet;
+  pools = record {
+    deleting = each_append (is_deleting_whole s) s.pools (new_pool s.moment spec) h.pools.deleting refl;
+    pools_of_scales =
+        each_weaker (λ (scale : ScaleRow). has_pool_row s scale.pool) (λ (scale : ScaleRow). has_pool_row (add_pool_row (new_pool s.moment spec) s) scale.pool)
+        (λ scale. any_append_old (is_pool scale.pool) s.pools (new_pool s.moment spec)) s.scales h.pools.pools_of_scales;
+    pools_of_samples =
+        each_weaker (λ (sample : SampleRow). has_pool_row s sample.pool)
+        (λ (sample : SampleRow). has_pool_row (add_pool_row (new_pool s.moment spec) s) sample.pool)
+        (λ sample. any_append_old (is_pool sample.pool) s.pools (new_pool s.moment spec)) s.samples h.pools.pools_of_samples;
+    labels = h.pools.labels;
+    order = h.pools.order;
+    covered = h.pools.covered;
+    kept = h.pools.kept;
+  };
+  built = record { preps = h.built.preps };
+}
+
+-- a pool with a new id is no node's
+starts_pool_added : (s : State) (pool : PoolRow) → has_pool_row s pool.id ≡ false → Each (λ (node : NodeRow). has_pool_row s node.pool) s.nodes
+    → StartsAreSound s → StartsAreSound (add_pool_row pool s)
+starts_pool_added s pool new there h = starts_with_pools s (add_pool_row pool s).pools there still h
+  where
+    still : (id : List ℕ) → has_pool_row s id ≡ true → awaits_no_start s id ≡ true → none_awaited (add_pool_row pool s).pools id ≡ true
+    still id row none =
+        each_append (λ (other : PoolRow). not (is_pool id other && waits_for_start other)) s.pools pool none
+        (elim (passes_or_not (is_pool id pool)) [
+          | inl e ↦ let f : false ≡ true = is_other s pool id new row e in cc
+          | inr e ↦ rw e refl
+        ])
+
+-- a pool with a new id, whose values are in their ranges
+sound_pool_added : (seats : ℕ) (s : State) (spec : PoolSpec) → IsSound seats s → is_pool_spec_in_range spec ≡ true → has_pool_row s spec.id ≡ false
+    → nat_le pool_limit (length s.pools) ≡ false → IsSound seats (add_pool_row (new_pool s.moment spec) s)
+sound_pool_added seats s spec h in_range new room = record {
+  consistent = consistent_pool_added seats s (new_pool s.moment spec) h.consistent new;
+  limited = limited_pool_added s spec h.limited in_range room;
+  unended = h.unended;
+  starts = starts_pool_added s (new_pool s.moment spec) new h.consistent.seated.pools_of_nodes h.starts;
+}
+
+-- `add-pool`
+pub add_pool_kept : (seats : ℕ) (s : State) (spec : PoolSpec) → is_pool_spec_in_range spec ≡ true → IsSound seats s → IsSound seats (add_pool s spec).state
+add_pool_kept seats s spec in_range h =
+    answer_keeps (IsSound seats) s h (add_pool_refusals s spec) 201 (add_pool_row (new_pool s.moment spec) s)
+    (λ absent.
+    sound_pool_added seats s spec h in_range
+    (none_found (is_pool spec.id) s.pools (passed (is_some (pool_of s spec.id)) PoolExists absent.1.0))
+    (passed (nat_le pool_limit (length s.pools)) (TableFull Pools pool_limit) absent.1.1.0))

@@ -1,116 +1,147 @@
--- The event `end` keeps the tables sound: the run ends, and a start run's ending changes its node.
-use Rattle.std.proofs.Common.{◌≡◌, ℕ, Bool, true, false, not, List, [], ◌∷◌, map, Option, Some, cond, refl, sym, ap, subst}
+-- The event `end` keeps sound tables.
+use Rattle.std.proofs.Common.{◌≡◌, ℕ, ◌+◌, Bool, true, not, ◌&&◌, ◌||◌, nat_le, List, Option, Some, None, is_none, refl, ◌∙◌, ap}
 use Rattle.std.specs.List.{find}
-use Rattle.bt_rows.specs.declared.refusal.Refusal.TheVariants.{RunAlreadyEnded, RunNotTaken, RunWithdrawn}
+use Rattle.std.specs.Option.{unwrap_or}
 use Rattle.bt_rows.specs.Keys.{same_run, same_run_equiv}
-use Rattle.batch_model.specs.Rows.{is_run, change_runs}
-use Rattle.batch_model.specs.Runs.{is_taken, is_ended, is_withdrawn}
-use Rattle.batch_model.specs.Events.{accept, answer, ended_run, ended_by, run_ended, end_run}
-use Rattle.batch_model.specs.Steps.{refuse_if}
-use Rattle.batch_model.specs.Sound.{IsConsistent}
-use Rattle.batch_model.specs.Variants.{State, Ending, RunRow, RunKind, StartRun, PrepRun, TaskRun, CoordinationRun, ReleaseRun, RunState, Waiting, Queued, Taken, Ended, Withdrawn}
-use Rattle.model_lists.proofs.MappedRows.{map_found}
-use Rattle.model_tables.proofs.RunsMove.{Moves, moves_same, moves_if, moved, consistent_moved}
-use Rattle.model_events.proofs.StartEnded.{consistent_start_ended}
+use Rattle.bt_rows.specs.Lists.{AreDistinct}
+use Rattle.bt_rows.specs.Ranges.{passes_if_some}
+use Rattle.bt_rows.specs.declared.refusal.Refusal.TheVariants.{RunAlreadyEnded, RunWithdrawn, RunAlreadyTaken, RunWaiting, RunNotTaken}
+use Rattle.batch_model.specs.Finding.{Each}
+use Rattle.batch_model.specs.Rows.{is_node, is_run, change_runs, add_node_row, add_run_row, run_of}
+use Rattle.batch_model.specs.Tasks.{is_placed_in}
+use Rattle.batch_model.specs.Jobs.{is_quiet}
+use Rattle.batch_model.specs.Events.{taken_run, started_task, is_task_of_run, run_taken, ended_run, ended_by, run_ended, end_run, end_refusals}
+use Rattle.batch_model.specs.Starts.{usable_in, failed_in, counted_node, change_node, start_ended}
+use Rattle.batch_model.specs.Limits.{task_limit}
+use Rattle.batch_model.specs.Sound.{IsWithinLimits, has_no_end_yet, UnendedRunsHaveNoEnd, IsSound}
+use Rattle.batch_model.specs.WellFormed.{is_past_if_some, is_ended_in_order, is_task_valid, is_run_valid, has_no_placed_if_quiet}
+use Rattle.batch_model.specs.Variants.{State, NodeRow, TaskRow, Ending, RunRow, RunKind, StartRun, PrepRun, TaskRun, CoordinationRun, ReleaseRun, PoolRow}
+use Rattle.batch_model.specs.Variants.{StartTask, Queued, RunState, Waiting, Taken, Ended, Withdrawn}
+use Rattle.batch_model.specs.Runs.{is_unended, start_run, work_run, is_waiting, is_queued, is_taken, is_ended, is_withdrawn}
+use Rattle.batch_model.specs.Dues.{new_node, begin_start, node_added}
+use Rattle.batch_model.specs.Placing.{placed, place}
+use Rattle.batch_model.specs.Steps.{Answered}
+use Rattle.model_lists.proofs.Tests.{and_true, and_first, and_second, asked, not_false}
+use Rattle.model_lists.proofs.RowLists.{each_weaker, each_and, each_append, each_found}
+use Rattle.model_lists.proofs.ChangedRows.{each_change, each_change_same, any_change_same}
+use Rattle.model_lists.proofs.DistinctLists.{each_with_key}
+use Rattle.model_lists.proofs.NextNumbers.{is_not_after_itself}
+use Rattle.model_lists.proofs.Lengths.{change_keeps_length}
+use Rattle.model_tables.proofs.StartAdded.{limited_start_added, unended_start_added}
+use Rattle.model_tables.proofs.NodeChanged.{limited_node_changed}
+use Rattle.model_tables.proofs.FoundRows.{own_number}
+use Rattle.model_events.proofs.end.StartCases.{StartEnds, nothing, starts, again, fails, start_cases}
+use Rattle.model_events.proofs.Keeping.{AreAbsent, passed, through, given_keeps, answer_keeps, for_row_keeps}
+use Rattle.model_events.proofs.end.Consistent.{consistent_ended}
+use Rattle.model_events.proofs.end.Starts.{starts_ended}
 
--- a taken run ends, and others stay
-abbrev ended_if_taken : Ending → RunState → RunState
-ended_if_taken ending Waiting = Waiting
-ended_if_taken ending Queued = Queued
-ended_if_taken ending Taken = Ended ending
-ended_if_taken ending (Ended earlier) = Ended earlier
-ended_if_taken ending Withdrawn = Withdrawn
+-- within the limits
 
--- so each state moves on
-moves_ended : (ending : Ending) (state : RunState) → Moves state (ended_if_taken ending state)
-moves_ended ending Waiting = moves_same Waiting
-moves_ended ending Queued = moves_same Queued
-moves_ended ending Taken = record { unended = λ h. refl; ends = λ h. refl; stays = λ h. refl }
-moves_ended ending (Ended earlier) = moves_same (Ended earlier)
-moves_ended ending Withdrawn = moves_same Withdrawn
+-- it was made and taken before
+ended_valid : (now : ℕ) (ending : Ending) (run : RunRow) → is_run_valid now run ≡ true → is_run_valid now (ended_run now ending run) ≡ true
+ended_valid now ending run h =
+    let before : (nat_le run.made now && is_past_if_some now run.taken) ≡ true = and_first _ _ (and_second _ _ (and_first _ _ h)) in
+    and_true (and_true (and_first _ _ (and_first _ _ h)) (and_true before (is_not_after_itself now))) (and_true (and_first _ _ (and_second _ _ h)) before)
 
--- a taken run ends
-taken_ends : (ending : Ending) (state : RunState) → is_taken state ≡ true → ended_if_taken ending state ≡ Ended ending
-taken_ends ending Waiting h = cc
-taken_ends ending Queued h = cc
-taken_ends ending Taken h = refl
-taken_ends ending (Ended earlier) h = cc
-taken_ends ending Withdrawn h = cc
+-- a run that ends now
+limited_run : (s : State) (ending : Ending) (run : RunRow) → IsWithinLimits s → IsWithinLimits (change_runs (is_run run.number) (ended_run s.moment ending) s)
+limited_run s ending run h = record {
+  rows = record {
+    moment = h.rows.moment;
+    pools = h.rows.pools;
+    nodes = h.rows.nodes;
+    jobs = h.rows.jobs;
+    tasks = h.rows.tasks;
+    runs =
+        each_change_same (is_run run.number) (ended_run s.moment ending) (is_run_valid s.moment) (λ row t. ended_valid s.moment ending row) s.runs h.rows.runs;
+    samples = h.rows.samples;
+    scales = h.rows.scales;
+  };
+  counts = record {
+    pools = h.counts.pools;
+    jobs = h.counts.jobs;
+    tasks = h.counts.tasks;
+    first_node = h.counts.first_node;
+    next_node = h.counts.next_node;
+    first_run = h.counts.first_run;
+    next_run = h.counts.next_run;
+  };
+  quiet = h.quiet;
+  pools = record {
+    deleting = h.pools.deleting;
+    pools_of_scales = h.pools.pools_of_scales;
+    pools_of_samples = h.pools.pools_of_samples;
+    labels = h.pools.labels;
+    order = h.pools.order;
+    covered = h.pools.covered;
+    kept = h.pools.kept;
+  };
+  built = record { preps = h.built.preps };
+}
 
-module _ (now : ℕ) (ending : Ending) (run : RunRow) where
-  -- the states after the event
-  abbrev into : RunRow → RunState
-  into row = cond (is_run run.number row) (ended_if_taken ending row.state) row.state
-
-  -- the moments at which runs ended
-  abbrev ended_at : RunRow → Option ℕ
-  ended_at row = cond (is_run run.number row) (Some now) row.ended
-
-  -- the run itself
-  alike_here : (row : RunRow) (b : Bool) → ended_if_taken ending row.state ≡ Ended ending → cond b (ended_run now ending row) row ≡ record row { state = cond b (ended_if_taken ending row.state) row.state; ended = cond b (Some now) row.ended }
-  alike_here row true h = ap (λ (state : RunState). record row { state = state; ended = Some now }) (sym h)
-  alike_here row false h = refl
-
-  -- the other runs
-  alike_elsewhere : (row : RunRow) (b : Bool) → b ≡ false → cond b (ended_run now ending row) row ≡ record row { state = cond b (ended_if_taken ending row.state) row.state; ended = cond b (Some now) row.ended }
-  alike_elsewhere row true h = cc
-  alike_elsewhere row false h = refl
-
--- a taken run ends
-consistent_run : (seats : ℕ) (s : State) (ending : Ending) (run : RunRow) → IsConsistent seats s → find (is_run run.number) s.runs ≡ Some run → is_taken run.state ≡ true → IsConsistent seats (change_runs (is_run run.number) (ended_run s.moment ending) s)
-consistent_run seats s ending run h found taken =
-    let runs : map (λ row. cond (is_run run.number row) (ended_run s.moment ending row) row) s.runs ≡ map after s.runs =
-    map_found same_run same_run_equiv (λ row. cond (is_run run.number row) (ended_run s.moment ending row) row) after (is_run run.number) (is_run run.number) run s.runs
-    (λ row k. k)
-    (alike_here s.moment ending run run (is_run run.number run) (taken_ends ending run.state taken))
-    (λ row. alike_elsewhere s.moment ending run row (is_run run.number row))
-    h.keys.runs found
-    in
-    subst (λ (rows : List RunRow). IsConsistent seats (record s { runs = rows })) (sym runs)
-    (consistent_moved (into s.moment ending run) (λ row. row.taken) (ended_at s.moment ending run)
-    (λ row. moves_if (is_run run.number row) row.state (ended_if_taken ending row.state) (moves_ended ending row.state)) seats s h)
-  where
-    after : RunRow → RunRow
-    after = moved (into s.moment ending run) (λ row. row.taken) (ended_at s.moment ending run)
+-- each case of the ending of a start run
+limited_by_start : (s after : State) (run : RunRow) (ending : Ending) → IsWithinLimits s → StartEnds s run ending after → IsWithinLimits after
+limited_by_start s after run ending h nothing = h
+limited_by_start s after run ending h (starts node found well) =
+    limited_node_changed (is_node node.number) (λ (each : NodeRow). usable_in each.stage) (λ (each : NodeRow). each.tries) s h
+limited_by_start s after run ending h (again node start found there failed left) =
+    limited_start_added (change_node node counted_node s) node start
+    (limited_node_changed (is_node node.number) (λ (each : NodeRow). each.stage) (λ (each : NodeRow). each.tries + 1) s h)
+    left
+limited_by_start s after run ending h (fails node start found there failed) =
+    limited_node_changed (is_node node.number) (λ (each : NodeRow). failed_in each.stage) (λ (each : NodeRow). each.tries + 1) s h
 
 -- what else the ending of a run of each kind does
-consistent_by_kind : (seats : ℕ) (s : State) (kind : RunKind) (run : RunRow) (ending : Ending) → IsConsistent seats s → IsConsistent seats (ended_by kind run ending s)
-consistent_by_kind seats s StartRun run ending h = consistent_start_ended seats s run ending h
-consistent_by_kind seats s PrepRun run ending h = h
-consistent_by_kind seats s TaskRun run ending h = h
-consistent_by_kind seats s CoordinationRun run ending h = h
-consistent_by_kind seats s ReleaseRun run ending h = h
+limited_by_kind : (s : State) (kind : RunKind) (run : RunRow) (ending : Ending) → IsWithinLimits s → IsWithinLimits (ended_by kind run ending s)
+limited_by_kind s StartRun run ending h = limited_by_start s (start_ended run ending s) run ending h (start_cases s run ending)
+limited_by_kind s PrepRun run ending h = h
+limited_by_kind s TaskRun run ending h = h
+limited_by_kind s CoordinationRun run ending h = h
+limited_by_kind s ReleaseRun run ending h = h
+
+-- a run ends now, and then its kind decides
+limited_ended : (s : State) (ending : Ending) (run : RunRow) → IsWithinLimits s → IsWithinLimits (run_ended s ending run)
+limited_ended s ending run h =
+    limited_by_kind (change_runs (is_run run.number) (ended_run s.moment ending) s) run.kind run ending (limited_run s ending run h)
+
+-- without ends
+
+-- each case of the ending of a start run
+unended_by_start : (s after : State) (run : RunRow) (ending : Ending) → UnendedRunsHaveNoEnd s → StartEnds s run ending after → UnendedRunsHaveNoEnd after
+unended_by_start s after run ending h nothing = h
+unended_by_start s after run ending h (starts node found well) = h
+unended_by_start s after run ending h (again node start found there failed left) = unended_start_added (change_node node counted_node s) node start h
+unended_by_start s after run ending h (fails node start found there failed) = h
+
+-- what else the ending of a run of each kind does
+unended_by_kind : (s : State) (kind : RunKind) (run : RunRow) (ending : Ending) → UnendedRunsHaveNoEnd s → UnendedRunsHaveNoEnd (ended_by kind run ending s)
+unended_by_kind s StartRun run ending h = unended_by_start s (start_ended run ending s) run ending h (start_cases s run ending)
+unended_by_kind s PrepRun run ending h = h
+unended_by_kind s TaskRun run ending h = h
+unended_by_kind s CoordinationRun run ending h = h
+unended_by_kind s ReleaseRun run ending h = h
+
+-- a run ends, and then its kind decides
+unended_ended : (s : State) (ending : Ending) (run : RunRow) → UnendedRunsHaveNoEnd s → UnendedRunsHaveNoEnd (run_ended s ending run)
+unended_ended s ending run h =
+    unended_by_kind (change_runs (is_run run.number) (ended_run s.moment ending) s) run.kind run ending
+    (each_change_same (is_run run.number) (ended_run s.moment ending) has_no_end_yet (λ row t p. refl) s.runs h)
 
 -- a taken run ends, and then its kind decides
-pub consistent_ended : (seats : ℕ) (s : State) (ending : Ending) (run : RunRow) → IsConsistent seats s → find (is_run run.number) s.runs ≡ Some run → is_taken run.state ≡ true → IsConsistent seats (run_ended s ending run)
-consistent_ended seats s ending run h found taken =
-    consistent_by_kind seats (change_runs (is_run run.number) (ended_run s.moment ending) s) run.kind run ending (consistent_run seats s ending run h found taken)
+sound_ended : (seats : ℕ) (s : State) (ending : Ending) (run : RunRow) → IsSound seats s → find (is_run run.number) s.runs ≡ Some run
+    → is_taken run.state ≡ true → IsSound seats (run_ended s ending run)
+sound_ended seats s ending run h found taken = record {
+  consistent = consistent_ended seats s ending run h.consistent found taken;
+  limited = limited_ended s ending run h.limited;
+  unended = unended_ended s ending run h.unended;
+  starts = starts_ended s ending run h.consistent.keys.runs found taken h.starts;
+}
 
--- the answer to the end of a taken run
-
--- a taken run has not ended
-taken_not_ended : (state : RunState) → is_taken state ≡ true → is_ended state ≡ false
-taken_not_ended Waiting h = refl
-taken_not_ended Queued h = refl
-taken_not_ended Taken h = refl
-taken_not_ended (Ended ending) h = cc
-taken_not_ended Withdrawn h = refl
-
--- nor is it withdrawn
-taken_not_withdrawn : (state : RunState) → is_taken state ≡ true → is_withdrawn state ≡ false
-taken_not_withdrawn Waiting h = refl
-taken_not_withdrawn Queued h = refl
-taken_not_withdrawn Taken h = refl
-taken_not_withdrawn (Ended ending) h = refl
-taken_not_withdrawn Withdrawn h = cc
-
--- so its end is not refused
-pub end_taken : (s : State) (ending : Ending) (run : RunRow) → is_taken run.state ≡ true → end_run s ending run ≡ accept 200 (run_ended s ending run)
-end_taken s ending run taken =
-    accepted (is_ended run.state) (is_withdrawn run.state) (is_taken run.state) (taken_not_ended run.state taken) (taken_not_withdrawn run.state taken) taken (run_ended s ending run)
-  where
-    accepted : (a b c : Bool) → a ≡ false → b ≡ false → c ≡ true → (after : State) → answer s (refuse_if a RunAlreadyEnded ∷ refuse_if b RunWithdrawn ∷ refuse_if (not c) RunNotTaken ∷ []) 200 after ≡ accept 200 after
-    accepted false false true h k m after = refl
-    accepted false false false h k m after = cc
-    accepted false true c h k m after = cc
-    accepted true b c h k m after = cc
+-- `end`
+pub end_kept : (seats : ℕ) (s : State) (number : ℕ) (ending : Ending) (run : RunRow) → IsSound seats s → run_of s number ≡ Some run
+    → IsSound seats (end_run s ending run).state
+end_kept seats s number ending run h found =
+    answer_keeps (IsSound seats) s h (end_refusals run) 200 (run_ended s ending run)
+    (λ absent.
+    sound_ended seats s ending run h (own_number s number run found)
+    (not_false (is_taken run.state) (passed (not (is_taken run.state)) RunNotTaken absent.1.1.0)))

@@ -1,50 +1,140 @@
--- The event `take` keeps the tables sound.
-use Rattle.std.proofs.Common.{◌≡◌, ℕ, Bool, true, false, not, ◌&&◌, ◌||◌, List, [], ◌∷◌, map, Option, Some, None, cond, is_none, inl, inr, refl, sym, ◌∙◌, ap, subst}
-use Rattle.std.specs.List.{list_any, find}
+-- The event `take` keeps sound tables.
+use Rattle.std.proofs.Common.{◌≡◌, ℕ, ◌+◌, Bool, true, not, ◌&&◌, ◌||◌, nat_le, List, Option, Some, None, is_none, refl, ◌∙◌, ap, false}
+use Rattle.std.specs.List.{find}
 use Rattle.std.specs.Option.{unwrap_or}
-use Rattle.bt_base.specs.Ids.{same}
-use Rattle.bt_base.proofs.SameIds.{same_equiv}
-use Rattle.bt_rows.specs.Keys.{same_run, same_run_equiv, same_task, same_task_equiv}
-use Rattle.bt_rows.proofs.DistinctRows.{find-passes}
-use Rattle.batch_model.specs.Finding.{names, change_where}
-use Rattle.batch_model.specs.Rows.{is_run, change_runs}
-use Rattle.batch_model.specs.Runs.{is_queued, is_unended, is_start, is_main, is_work}
-use Rattle.batch_model.specs.Tasks.{is_placed, is_undisturbed}
-use Rattle.batch_model.specs.Slots.{owns}
-use Rattle.batch_model.specs.Events.{taken_run, started_task, is_task_of_run, run_taken}
-use Rattle.batch_model.specs.Sound.{IsConsistent, has_node_while_unended, belongs, can_be_settled, fits_nodes}
-use Rattle.batch_model.specs.WellFormed.{has_fitting_marks, is_closed_if_completed}
-use Rattle.batch_model.specs.Variants.{State, TaskRow, RunKind, StartRun, PrepRun, TaskRun, CoordinationRun, ReleaseRun, RunRow, RunState, Waiting, Queued, Taken, Ended, Withdrawn}
-use Rattle.model_lists.proofs.Tests.{passes_or_not, and_true, and_first, and_second, or_false, asked}
-use Rattle.model_lists.proofs.RowLists.{each_found, each_weaker, find_any}
-use Rattle.model_lists.proofs.MappedRows.{each_map, any_map, map_found}
-use Rattle.model_tables.proofs.RunsMove.{Moves, moves_same, moves_if, moved, consistent_moved, start_names_none}
-use Rattle.model_lists.proofs.ChangedRows.{change_none}
-use Rattle.model_tables.proofs.TasksKept.{Marks, marked, consistent_marked}
+use Rattle.bt_rows.specs.Keys.{same_run, same_run_equiv}
+use Rattle.bt_rows.specs.Lists.{AreDistinct}
+use Rattle.bt_rows.specs.Ranges.{passes_if_some}
+use Rattle.bt_rows.specs.declared.refusal.Refusal.TheVariants.{RunAlreadyEnded, RunWithdrawn, RunAlreadyTaken, RunWaiting, RunNotTaken}
+use Rattle.batch_model.specs.Finding.{Each}
+use Rattle.batch_model.specs.Rows.{is_node, is_run, change_runs, add_node_row, add_run_row, run_of}
+use Rattle.batch_model.specs.Tasks.{is_placed_in}
+use Rattle.batch_model.specs.Jobs.{is_quiet}
+use Rattle.batch_model.specs.Events.{taken_run, started_task, is_task_of_run, run_taken, ended_run, ended_by, run_ended, take_run, take_refusals}
+use Rattle.batch_model.specs.Starts.{usable_in, failed_in, counted_node, change_node, start_ended}
+use Rattle.batch_model.specs.Limits.{task_limit}
+use Rattle.batch_model.specs.Sound.{IsWithinLimits, has_no_end_yet, UnendedRunsHaveNoEnd, IsSound}
+use Rattle.batch_model.specs.WellFormed.{is_past_if_some, is_ended_in_order, is_task_valid, is_run_valid, has_no_placed_if_quiet}
+use Rattle.batch_model.specs.Variants.{State, NodeRow, TaskRow, Ending, RunRow, RunKind, StartRun, PrepRun, TaskRun, CoordinationRun, ReleaseRun, PoolRow}
+use Rattle.batch_model.specs.Variants.{StartTask, Queued, RunState, Waiting, Taken, Ended, Withdrawn}
+use Rattle.batch_model.specs.Runs.{is_unended, start_run, work_run, is_waiting, is_queued, is_taken, is_ended, is_withdrawn}
+use Rattle.batch_model.specs.Dues.{new_node, begin_start, node_added}
+use Rattle.batch_model.specs.Placing.{placed, place}
+use Rattle.batch_model.specs.Steps.{Answered}
+use Rattle.model_lists.proofs.Tests.{and_true, and_first, and_second, asked}
+use Rattle.model_lists.proofs.RowLists.{each_weaker, each_and, each_append, each_found}
+use Rattle.model_lists.proofs.ChangedRows.{each_change, each_change_same, any_change_same}
+use Rattle.model_lists.proofs.DistinctLists.{each_with_key}
+use Rattle.model_lists.proofs.NextNumbers.{is_not_after_itself}
+use Rattle.model_lists.proofs.Lengths.{change_keeps_length}
+use Rattle.model_tables.proofs.StartAdded.{limited_start_added, unended_start_added}
+use Rattle.model_tables.proofs.NodeChanged.{limited_node_changed}
+use Rattle.model_tables.proofs.FoundRows.{own_number}
+use Rattle.model_events.proofs.Keeping.{AreAbsent, passed, through, given_keeps, answer_keeps, for_row_keeps}
+use Rattle.model_events.proofs.take.Consistent.{consistent_taken}
+use Rattle.model_events.proofs.take.Starts.{starts_taken}
 
--- a queued run is taken, and others stay
-abbrev taken_if_queued : RunState → RunState
-taken_if_queued Waiting = Waiting
-taken_if_queued Queued = Taken
-taken_if_queued Taken = Taken
-taken_if_queued (Ended ending) = Ended ending
-taken_if_queued Withdrawn = Withdrawn
+-- within the limits
 
--- so each state moves on
-moves_taken : (state : RunState) → Moves state (taken_if_queued state)
-moves_taken Waiting = moves_same Waiting
-moves_taken Queued = record { unended = λ h. refl; ends = λ h. refl; stays = λ h. h }
-moves_taken Taken = moves_same Taken
-moves_taken (Ended ending) = moves_same (Ended ending)
-moves_taken Withdrawn = moves_same Withdrawn
+-- where there is no value, none is to pass
+none_passes : (test : ℕ → Bool) (o : Option ℕ) → is_none o ≡ true → passes_if_some test o ≡ true
+none_passes test None h = refl
+none_passes test (Some n) h = cc
 
--- a queued run is taken
-queued_taken : (state : RunState) → is_queued state ≡ true → taken_if_queued state ≡ Taken
-queued_taken Waiting h = cc
-queued_taken Queued h = refl
-queued_taken Taken h = cc
-queued_taken (Ended ending) h = cc
-queued_taken Withdrawn h = cc
+-- a run that is taken before it ends was made before
+taken_valid : (now : ℕ) (run : RunRow) → is_run_valid now run ≡ true → is_none run.ended ≡ true → is_run_valid now (taken_run now run) ≡ true
+taken_valid now run h running =
+    let made : nat_le run.made now ≡ true = and_first _ _ (and_first _ _ (and_second _ _ (and_first _ _ h))) in
+    and_true
+    (and_true (and_first _ _ (and_first _ _ h)) (and_true (and_true made (is_not_after_itself now)) (and_second _ _ (and_second _ _ (and_first _ _ h)))))
+    (and_true made (none_passes (is_ended_in_order (taken_run now run)) run.ended running))
+
+-- a task starts not after now
+start_past : (now : ℕ) (started : Option ℕ) → is_past_if_some now started ≡ true → nat_le (unwrap_or started now) now ≡ true
+start_past now None h = is_not_after_itself now
+start_past now (Some moment) h = h
+
+started_valid : (now : ℕ) (task : TaskRow) → is_task_valid now task ≡ true → is_task_valid now (started_task now task) ≡ true
+started_valid now task h =
+    and_true
+    (and_true (and_first _ _ (and_first _ _ h))
+    (and_true (start_past now task.started (and_first _ _ (and_second _ _ (and_first _ _ h)))) (and_second _ _ (and_second _ _ (and_first _ _ h)))))
+    (and_second _ _ h)
+
+-- a row with the key of a run that has no end has none
+each_without_end : (runs : List RunRow) (run : RunRow) → AreDistinct same_run runs → find (is_run run.number) runs ≡ Some run → is_none run.ended ≡ true
+    → Each (λ (row : RunRow). not (is_run run.number row) || is_none row.ended) runs
+each_without_end runs run = each_with_key same_run same_run_equiv (λ (row : RunRow). is_none row.ended) run run runs
+
+-- a run without an end is taken now, and its task starts
+limited_taken : (s : State) (run : RunRow) → IsWithinLimits s → AreDistinct same_run s.runs → find (is_run run.number) s.runs ≡ Some run
+    → is_none run.ended ≡ true → IsWithinLimits (run_taken s run)
+limited_taken s run h keys found running = record {
+  rows = record {
+    moment = h.rows.moment;
+    pools = h.rows.pools;
+    nodes = h.rows.nodes;
+    jobs = h.rows.jobs;
+    tasks = each_change_same (is_task_of_run run) (started_task s.moment) (is_task_valid s.moment) (λ task t. started_valid s.moment task) s.tasks h.rows.tasks;
+    runs =
+        each_change (is_run run.number) (taken_run s.moment) (λ row. is_run_valid s.moment row && (not (is_run run.number row) || is_none row.ended))
+        (is_run_valid s.moment)
+        (λ row t p. taken_valid s.moment row (and_first _ _ p) (asked (is_run run.number row) (is_none row.ended) (and_second _ _ p) t))
+        (λ row t p. and_first _ _ p) s.runs
+        (each_and (is_run_valid s.moment) (λ row. not (is_run run.number row) || is_none row.ended) s.runs h.rows.runs
+        (each_without_end s.runs run keys found running));
+    samples = h.rows.samples;
+    scales = h.rows.scales;
+  };
+  counts = record {
+    pools = h.counts.pools;
+    jobs = h.counts.jobs;
+    tasks = change_keeps_length (is_task_of_run run) (started_task s.moment) task_limit s.tasks h.counts.tasks;
+    first_node = h.counts.first_node;
+    next_node = h.counts.next_node;
+    first_run = h.counts.first_run;
+    next_run = h.counts.next_run;
+  };
+  quiet =
+      each_weaker (has_no_placed_if_quiet s) (has_no_placed_if_quiet (run_taken s run))
+      (λ job k. ap (λ b. not (is_quiet job.state && b))
+      (any_change_same (is_task_of_run run) (started_task s.moment) (is_placed_in job.id) (λ task t. refl) s.tasks) ∙ k)
+      s.jobs h.quiet;
+  pools = record {
+    deleting = h.pools.deleting;
+    pools_of_scales = h.pools.pools_of_scales;
+    pools_of_samples = h.pools.pools_of_samples;
+    labels = h.pools.labels;
+    order = h.pools.order;
+    covered = h.pools.covered;
+    kept = h.pools.kept;
+  };
+  built = record { preps = h.built.preps };
+}
+
+-- a run that is found and has not ended
+found_without_end : (s : State) (test : RunRow → Bool) (run : RunRow) → UnendedRunsHaveNoEnd s → find test s.runs ≡ Some run → is_unended run.state ≡ true
+    → is_none run.ended ≡ true
+found_without_end s test run h found unended =
+    asked (is_unended run.state) (is_none run.ended) (each_found has_no_end_yet test run s.runs found h) unended
+
+-- a run without an end is taken
+unended_taken : (s : State) (run : RunRow) → UnendedRunsHaveNoEnd s → AreDistinct same_run s.runs → find (is_run run.number) s.runs ≡ Some run
+    → is_none run.ended ≡ true → UnendedRunsHaveNoEnd (run_taken s run)
+unended_taken s run h keys found running =
+    each_change (is_run run.number) (taken_run s.moment) (λ row. has_no_end_yet row && (not (is_run run.number row) || is_none row.ended)) has_no_end_yet
+    (λ row t p. asked (is_run run.number row) (is_none row.ended) (and_second _ _ p) t)
+    (λ row t p. and_first _ _ p) s.runs
+    (each_and has_no_end_yet (λ row. not (is_run run.number row) || is_none row.ended) s.runs h (each_without_end s.runs run keys found running))
+
+-- a run that neither has ended or was withdrawn, nor is taken or waits, is queued
+queued_if_left : (state : RunState) → is_ended state ≡ false → is_withdrawn state ≡ false → is_taken state ≡ false → is_waiting state ≡ false
+    → is_queued state ≡ true
+queued_if_left Waiting ended withdrawn taken waiting = cc
+queued_if_left Queued ended withdrawn taken waiting = refl
+queued_if_left Taken ended withdrawn taken waiting = cc
+queued_if_left (Ended ending) ended withdrawn taken waiting = cc
+queued_if_left Withdrawn ended withdrawn taken waiting = cc
 
 -- it has not ended
 queued_unended : (state : RunState) → is_queued state ≡ true → is_unended state ≡ true
@@ -54,163 +144,26 @@ queued_unended Taken h = refl
 queued_unended (Ended ending) h = cc
 queued_unended Withdrawn h = cc
 
-module _ (now : ℕ) (run : RunRow) where
-  -- the states after the event
-  abbrev into : RunRow → RunState
-  into row = cond (is_run run.number row) (taken_if_queued row.state) row.state
+-- a queued run is taken
+sound_taken : (seats : ℕ) (s : State) (run : RunRow) → IsSound seats s → find (is_run run.number) s.runs ≡ Some run → is_queued run.state ≡ true
+    → IsSound seats (run_taken s run)
+sound_taken seats s run h found queued =
+    let running : is_none run.ended ≡ true = found_without_end s (is_run run.number) run h.unended found (queued_unended run.state queued) in
+    record {
+      consistent = consistent_taken seats s run h.consistent found queued;
+      limited = limited_taken s run h.limited h.consistent.keys.runs found running;
+      unended = unended_taken s run h.unended h.consistent.keys.runs found running;
+      starts = starts_taken s run h.consistent.keys.runs found queued h.starts;
+    }
 
-  -- the moments at which runs were taken
-  abbrev taken_at : RunRow → Option ℕ
-  taken_at row = cond (is_run run.number row) (Some now) row.taken
-
-  -- the run itself
-  alike_here : (row : RunRow) (b : Bool) → taken_if_queued row.state ≡ Taken → cond b (taken_run now row) row ≡ record row { state = cond b (taken_if_queued row.state) row.state; taken = cond b (Some now) row.taken }
-  alike_here row true h = ap (λ (state : RunState). record row { state = state; taken = Some now }) (sym h)
-  alike_here row false h = refl
-
-  -- the other runs
-  alike_elsewhere : (row : RunRow) (b : Bool) → b ≡ false → cond b (taken_run now row) row ≡ record row { state = cond b (taken_if_queued row.state) row.state; taken = cond b (Some now) row.taken }
-  alike_elsewhere row true h = cc
-  alike_elsewhere row false h = refl
-
--- the run is taken, and its task has not started yet
-consistent_queued : (seats : ℕ) (s : State) (run : RunRow) → IsConsistent seats s → find (is_run run.number) s.runs ≡ Some run → is_queued run.state ≡ true → IsConsistent seats (change_runs (is_run run.number) (taken_run s.moment) s)
-consistent_queued seats s run h found queued =
-    let runs : map (λ row. cond (is_run run.number row) (taken_run s.moment row) row) s.runs ≡ map after s.runs =
-    map_found same_run same_run_equiv (λ row. cond (is_run run.number row) (taken_run s.moment row) row) after (is_run run.number) (is_run run.number) run s.runs
-    (λ row k. k)
-    (alike_here s.moment run run (is_run run.number run) (queued_taken run.state queued))
-    (λ row. alike_elsewhere s.moment run row (is_run run.number row))
-    h.keys.runs found
-    in
-    subst (λ (rows : List RunRow). IsConsistent seats (record s { runs = rows })) (sym runs)
-    (consistent_moved (into s.moment run) (taken_at s.moment run) (λ row. row.ended)
-    (λ row. moves_if (is_run run.number row) row.state (taken_if_queued row.state) (moves_taken row.state)) seats s h)
-  where
-    after : RunRow → RunRow
-    after = moved (into s.moment run) (taken_at s.moment run) (λ row. row.ended)
-
--- the task of the run starts
-
--- both ids are those that an option names
-same_named : (a : Option (List ℕ)) (one other : List ℕ) → names a one ≡ true → names a other ≡ true → same one other ≡ true
-same_named None one other h k = cc
-same_named (Some a) one other h k = sym (same_equiv.congr a one other h) ∙ k
-
--- tasks that a run names have one key
-same_of_run : (run : RunRow) (task other : TaskRow) → is_task_of_run run task ≡ true → is_task_of_run run other ≡ true → same_task task other ≡ true
-same_of_run run task other h k =
-    and_true
-    (same_named run.job task.job other.job (and_first _ (names run.task task.id) h) (and_first _ (names run.task other.id) k))
-    (same_named run.task task.id other.id (and_second (names run.job task.job) _ h) (and_second (names run.job other.job) _ k))
-
--- a task that owns the run is one that it names
-named_by_owner : (run : RunRow) (task : TaskRow) → owns run task ≡ true → is_task_of_run run task ≡ true
-named_by_owner run task h = and_first _ _ (and_second (is_placed task.stage) _ h)
-
-module _ (now : ℕ) (run : RunRow) where
-  -- a placed task that the run names gets a start
-  abbrev started_at : TaskRow → Option ℕ
-  started_at task = cond (is_task_of_run run task && is_placed task.stage) (Some (unwrap_or task.started now)) task.started
-
-  -- the other marks stay
-  abbrev with_start : TaskRow → Marks
-  with_start task = record { stage = task.stage; wanted = task.wanted; fail = task.fail; started = started_at task; closed = task.closed }
-
-  -- the placed task itself
-  start_here : (task : TaskRow) (b p : Bool) → p ≡ true → cond b (started_task now task) task ≡ record task { started = cond (b && p) (Some (unwrap_or task.started now)) task.started }
-  start_here task b false h = cc
-  start_here task true true h = refl
-  start_here task false true h = refl
-
-  -- the other tasks
-  start_elsewhere : (task : TaskRow) (b p : Bool) → b ≡ false → cond b (started_task now task) task ≡ record task { started = cond (b && p) (Some (unwrap_or task.started now)) task.started }
-  start_elsewhere task true p h = cc
-  start_elsewhere task false p h = refl
-
-  -- only a placed task has a start
-  marks_after : (b p u : Bool) (start : ℕ) (started : Option ℕ) → (p || (u && is_none started)) ≡ true → (p || (u && is_none (cond (b && p) (Some start) started))) ≡ true
-  marks_after b true u start started h = refl
-  marks_after true false u start started h = h
-  marks_after false false u start started h = h
-
--- the task of a queued run starts
-consistent_started : (seats : ℕ) (s : State) (now : ℕ) (run : RunRow) (owner : TaskRow) → IsConsistent seats s → find (owns run) s.tasks ≡ Some owner → IsConsistent seats (record s { tasks = map (λ task. cond (is_task_of_run run task) (started_task now task) task) s.tasks })
-consistent_started seats s now run owner h found =
-    let owned : owns run owner ≡ true = find-passes (owns run) owner s.tasks found in
-    let tasks : map (λ task. cond (is_task_of_run run task) (started_task now task) task) s.tasks ≡ map after s.tasks =
-    map_found same_task same_task_equiv (λ task. cond (is_task_of_run run task) (started_task now task) task) after (is_task_of_run run) (owns run) owner s.tasks
-    (λ task k. same_of_run run task owner k (named_by_owner run owner owned))
-    (start_here now run owner (is_task_of_run run owner) (is_placed owner.stage) (and_first _ _ owned))
-    (λ task. start_elsewhere now run task (is_task_of_run run task) (is_placed task.stage))
-    h.keys.tasks found
-    in
-    subst (λ (rows : List TaskRow). IsConsistent seats (record s { tasks = rows })) (sym tasks)
-    (consistent_marked (with_start now run) (λ task k. k) seats s h
-    (each_map after has_fitting_marks has_fitting_marks
-    (λ task e. marks_after now run (is_task_of_run run task) (is_placed task.stage) (is_undisturbed task) (unwrap_or task.started now) task.started e) s.tasks h.fitting.marks)
-    (each_map after is_closed_if_completed is_closed_if_completed (λ task e. e) s.tasks h.fitting.closing)
-    (each_weaker (belongs s) (belongs (record s { tasks = map after s.tasks })) (λ row e. belongs_after row e) s.runs h.belonging)
-    (each_map after (can_be_settled s) (can_be_settled (record s { tasks = map after s.tasks })) (λ task e. e) s.tasks h.ending))
-  where
-    after : TaskRow → TaskRow
-    after = marked (with_start now run)
-
-    belongs_after : (row : RunRow) → belongs s row ≡ true → belongs (record s { tasks = map after s.tasks }) row ≡ true
-    belongs_after row e = ap (λ b. not (is_work row.kind && is_unended row.state) || b) (any_map after (owns row) s.tasks) ∙ e
-
--- a main run is a task's
-main_works : (kind : RunKind) → is_main kind ≡ true → is_work kind ≡ true
-main_works StartRun h = cc
-main_works PrepRun h = cc
-main_works TaskRun h = refl
-main_works CoordinationRun h = refl
-main_works ReleaseRun h = cc
-
--- a run that has not ended and is no start run is a main run
-other_main : (start main unended : Bool) → (start || main || not unended) ≡ true → start ≡ false → unended ≡ true → main ≡ true
-other_main true main unended h n u = cc
-other_main false true unended h n u = refl
-other_main false false true h n u = cc
-other_main false false false h n u = cc
-
--- a placed task owns a queued run that is no start run
-owned_while_queued : (seats : ℕ) (s : State) (run : RunRow) → IsConsistent seats s → find (is_run run.number) s.runs ≡ Some run → is_queued run.state ≡ true → is_start run.kind ≡ false → list_any (owns run) s.tasks ≡ true
-owned_while_queued seats s run h found queued other =
-    let unended : is_unended run.state ≡ true = queued_unended run.state queued in
-    let main : is_main run.kind ≡ true =
-    other_main (is_start run.kind) (is_main run.kind) (is_unended run.state)
-    (each_found (λ (row : RunRow). is_start row.kind || is_main row.kind || not (is_unended row.state)) (is_run run.number) run s.runs found h.built.runs) other unended
-    in
-    asked (is_work run.kind && is_unended run.state) (list_any (owns run) s.tasks)
-    (each_found (belongs s) (is_run run.number) run s.runs found h.belonging)
-    (and_true (main_works run.kind main) unended)
-
--- no task is a run's that names no job
-no_task_of_run : (run : RunRow) → is_none run.job ≡ true → (tasks : List TaskRow) → list_any (is_task_of_run run) tasks ≡ false
-no_task_of_run run h [] = refl
-no_task_of_run run h (task ∷ tasks) = or_false (unnamed run.job task.job (names run.task task.id) h) (no_task_of_run run h tasks)
-  where
-    unnamed : (name : Option (List ℕ)) (id : List ℕ) (b : Bool) → is_none name ≡ true → (names name id && b) ≡ false
-    unnamed None id b k = refl
-    unnamed (Some other) id b k = cc
-
--- no task starts with a queued start run
-no_task_starts : (seats : ℕ) (s : State) (run : RunRow) → IsConsistent seats s → find (is_run run.number) s.runs ≡ Some run → is_queued run.state ≡ true → is_start run.kind ≡ true → change_where (is_task_of_run run) (started_task s.moment) s.tasks ≡ s.tasks
-no_task_starts seats s run h found queued start =
-    let none : (is_none run.job && is_none run.task) ≡ true =
-    start_names_none s run start (queued_unended run.state queued)
-    (each_found (has_node_while_unended s) (is_run run.number) run s.runs found h.seated.nodes_of_runs)
-    (each_found (fits_nodes s) (is_run run.number) run s.runs found h.naming.on_nodes)
-    in
-    change_none (is_task_of_run run) (started_task s.moment) s.tasks (no_task_of_run run (and_first (is_none run.job) (is_none run.task) none) s.tasks)
-
--- a queued run is taken, and its task starts, if it is a task's
-pub consistent_taken : (seats : ℕ) (s : State) (run : RunRow) → IsConsistent seats s → find (is_run run.number) s.runs ≡ Some run → is_queued run.state ≡ true → IsConsistent seats (run_taken s run)
-consistent_taken seats s run h found queued = elim (passes_or_not (is_start run.kind)) [
-  | inl start ↦
-      subst (λ (rows : List TaskRow). IsConsistent seats (record (change_runs (is_run run.number) (taken_run s.moment) s) { tasks = rows })) (sym (no_task_starts seats s run h found queued start)) (consistent_queued seats s run h found queued)
-  | inr other ↦
-      let owner : (task : TaskRow) × (find (owns run) s.tasks ≡ Some task) = find_any (owns run) s.tasks (owned_while_queued seats s run h found queued other) in
-      consistent_started seats (change_runs (is_run run.number) (taken_run s.moment) s) s.moment run owner.0 (consistent_queued seats s run h found queued) owner.1
-]
+-- `take`
+pub take_kept : (seats : ℕ) (s : State) (number : ℕ) (run : RunRow) → IsSound seats s → run_of s number ≡ Some run → IsSound seats (take_run s run).state
+take_kept seats s number run h found =
+    answer_keeps (IsSound seats) s h (take_refusals run) 200 (run_taken s run)
+    (λ absent.
+    sound_taken seats s run h (own_number s number run found)
+    (queued_if_left run.state
+    (passed (is_ended run.state) RunAlreadyEnded absent.0)
+    (passed (is_withdrawn run.state) RunWithdrawn absent.1.0)
+    (passed (is_taken run.state) RunAlreadyTaken absent.1.1.0)
+    (passed (is_waiting run.state) RunWaiting absent.1.1.1.0)))

@@ -9,7 +9,8 @@ use Rattle.batch_model.specs.Finding.{Each, change_where}
 use Rattle.model_lists.proofs.Putting.{put_row-found}
 use Rattle.model_lists.proofs.RowLists.{find_agree}
 
-module _ {R : Type 0} (same : R → R → Bool) (e : IsEquivalence same) (a : R) (xs : List R) (d : AreDistinct same xs) (h : find (λ y. same y a) xs ≡ Some a) where
+module _ {R : Type 0} (same : R → R → Bool) (e : IsEquivalence same) (a : R) (xs : List R) (d : AreDistinct same xs)
+    (h : find (λ y. same y a) xs ≡ Some a) where
   -- a row put in the place of the one with its key is that one changed
   pub put_is_change : (g : R → R) → ((x : R) → same x (g a) ≡ same x a) → change_where (λ y. same y a) (λ y. g a) xs ≡ change_where (λ y. same y a) g xs
   put_is_change g keeps =
@@ -17,13 +18,16 @@ module _ {R : Type 0} (same : R → R → Bool) (e : IsEquivalence same) (a : R)
       ∙ put_row-found same e (λ y. same y a) g a (λ x. refl) keeps xs d h
 
   -- a sum loses what the row before gave, and gains what the new one gives
-  pub sum_by-put_row : (f : R → ℕ) (row : R) → ((x : R) → same x row ≡ same x a) → sum_by f (change_where (λ y. same y a) (λ y. row) xs) + f a ≡ sum_by f xs + f row
+  pub sum_by-put_row : (f : R → ℕ) (row : R) → ((x : R) → same x row ≡ same x a)
+      → sum_by f (change_where (λ y. same y a) (λ y. row) xs) + f a ≡ sum_by f xs + f row
   sum_by-put_row f row keeps =
       rw (← put_row-found same e (λ y. same y a) (λ y. row) a (λ x. refl) keeps xs d h)
       (sum_by-put f (λ y. same y row) row a xs (find_agree (λ y. same y row) (λ y. same y a) keeps xs ∙ h))
 
 module _ {R : Type 0} (f : R → ℕ) (p q : R → Bool) where
-  fewer_cons : (x : R) (rest : List R) (b c : Bool) → ((not b || c) && list_all (λ y. not (p y) || q y) rest) ≡ true → (Each (λ y. not (p y) || q y) rest → sum_by f (filter p rest) ≤ sum_by f (filter q rest)) → sum_by f (cond b (x ∷ filter p rest) (filter p rest)) ≤ sum_by f (cond c (x ∷ filter q rest) (filter q rest))
+  fewer_cons : (x : R) (rest : List R) (b c : Bool) → ((not b || c) && list_all (λ y. not (p y) || q y) rest) ≡ true
+      → (Each (λ y. not (p y) || q y) rest → sum_by f (filter p rest) ≤ sum_by f (filter q rest))
+      → sum_by f (cond b (x ∷ filter p rest) (filter p rest)) ≤ sum_by f (cond c (x ∷ filter q rest) (filter q rest))
   fewer_cons x rest true true h ih =
       let k : sum_by f (filter p rest) ≤ sum_by f (filter q rest) = ih h in
       rw (sum_by-cons f x (filter p rest), sum_by-cons f x (filter q rest)) (omega arith)

@@ -7,3 +7,4 @@ pub mod DistinctLists
 pub mod Putting
 pub mod KeyedLists
 pub mod RowSums
+pub mod Lengths

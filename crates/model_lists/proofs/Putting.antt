@@ -6,7 +6,8 @@ use Rattle.bt_rows.specs.Lists.{put_row, AreDistinct}
 use Rattle.batch_model.specs.Finding.{change_where}
 
 module _ {R : Type 0} where
-  new_cons : (t : R → Bool) (row old : R) (rest : List R) (b : Bool) → (b || list_any t rest) ≡ false → (list_any t rest ≡ false → put_row t row rest ≡ rest ++ row ∷ []) → cond b (row ∷ rest) (old ∷ put_row t row rest) ≡ old ∷ (rest ++ row ∷ [])
+  new_cons : (t : R → Bool) (row old : R) (rest : List R) (b : Bool) → (b || list_any t rest) ≡ false
+      → (list_any t rest ≡ false → put_row t row rest ≡ rest ++ row ∷ []) → cond b (row ∷ rest) (old ∷ put_row t row rest) ≡ old ∷ (rest ++ row ∷ [])
   new_cons t row old rest true h ih = cc
   new_cons t row old rest false h ih = ap (λ rows. old ∷ rows) (ih h)
 
@@ -15,7 +16,8 @@ module _ {R : Type 0} where
   put_row-new t row [] h = refl
   put_row-new t row (old ∷ rest) h = new_cons t row old rest (t old) h (put_row-new t row rest)
 
-  none_cons : (t : R → Bool) (x : R) (rest : List R) (b : Bool) → t x ≡ b → cond b (Some x) (find t rest) ≡ None → (find t rest ≡ None → list_any t rest ≡ false) → (b || list_any t rest) ≡ false
+  none_cons : (t : R → Bool) (x : R) (rest : List R) (b : Bool) → t x ≡ b → cond b (Some x) (find t rest) ≡ None
+      → (find t rest ≡ None → list_any t rest ≡ false) → (b || list_any t rest) ≡ false
   none_cons t x rest true e h ih = cc
   none_cons t x rest false e h ih = ih h
 
@@ -24,7 +26,8 @@ module _ {R : Type 0} where
   any-not_found t [] h = refl
   any-not_found t (x ∷ xs) h = none_cons t x xs (t x) refl h (any-not_found t xs)
 
-  unchanged_cons : (t : R → Bool) (f : R → R) (x : R) (rest : List R) (b : Bool) → (b || list_any t rest) ≡ false → (list_any t rest ≡ false → change_where t f rest ≡ rest) → cond b (f x) x ∷ change_where t f rest ≡ x ∷ rest
+  unchanged_cons : (t : R → Bool) (f : R → R) (x : R) (rest : List R) (b : Bool) → (b || list_any t rest) ≡ false
+      → (list_any t rest ≡ false → change_where t f rest ≡ rest) → cond b (f x) x ∷ change_where t f rest ≡ x ∷ rest
   unchanged_cons t f x rest true h ih = cc
   unchanged_cons t f x rest false h ih = ap (λ rows. x ∷ rows) (ih h)
 
@@ -37,8 +40,11 @@ module _ {R : Type 0} where
   any_agree p q agree [] = refl
   any_agree p q agree (x ∷ xs) = rw (agree x, any_agree p q agree xs)
 
-module _ {R : Type 0} (same : R → R → Bool) (e : IsEquivalence same) (t : R → Bool) (f : R → R) (r : R) (tests : (x : R) → t x ≡ same x r) (keeps : (x : R) → same x (f r) ≡ same x r) where
-  found_cons : (x : R) (rest : List R) (b : Bool) → t x ≡ b → list_any (same x) rest ≡ false → cond b (Some x) (find t rest) ≡ Some r → (find t rest ≡ Some r → put_row (λ y. same y (f r)) (f r) rest ≡ change_where t f rest) → cond b (f r ∷ rest) (x ∷ put_row (λ y. same y (f r)) (f r) rest) ≡ cond b (f x) x ∷ change_where t f rest
+module _ {R : Type 0} (same : R → R → Bool) (e : IsEquivalence same) (t : R → Bool) (f : R → R) (r : R) (tests : (x : R) → t x ≡ same x r)
+    (keeps : (x : R) → same x (f r) ≡ same x r) where
+  found_cons : (x : R) (rest : List R) (b : Bool) → t x ≡ b → list_any (same x) rest ≡ false → cond b (Some x) (find t rest) ≡ Some r
+      → (find t rest ≡ Some r → put_row (λ y. same y (f r)) (f r) rest ≡ change_where t f rest)
+      → cond b (f r ∷ rest) (x ∷ put_row (λ y. same y (f r)) (f r) rest) ≡ cond b (f x) x ∷ change_where t f rest
   found_cons x rest true s d h ih =
       let i : x ≡ r = cc in
       let none : list_any t rest ≡ false = any_agree t (same x) (λ y. tests y ∙ e.symm y r ∙ ap (λ z. same z y) (sym i)) rest ∙ d in

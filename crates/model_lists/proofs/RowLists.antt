@@ -1,6 +1,6 @@
 -- Tests of lists of rows: each row passes, some row passes, the first that passes; where a row is added, and where rows
 -- change in place.
-use Rattle.std.proofs.Common.{◌≡◌, Bool, true, false, not, ◌&&◌, ◌||◌, List, [], ◌∷◌, ◌++◌, Option, Some, None, cond, refl, ◌∙◌, ap, subst}
+use Rattle.std.proofs.Common.{◌≡◌, Bool, true, false, not, ◌&&◌, ◌||◌, List, [], ◌∷◌, ◌++◌, Option, Some, None, cond, refl, ◌∙◌, ap, subst, is_some}
 use Rattle.std.specs.List.{list_any, list_all, find, filter}
 use Rattle.batch_model.specs.Finding.{Each}
 use Rattle.model_lists.proofs.Tests.{and_true, and_first, and_second, or_first, or_second, or_false, or_false_first, or_false_second, not_true, true_not}
@@ -42,7 +42,8 @@ module _ {R : Type 0} where
       each_cons r x xs (give x (each_head p x xs h) (each_head q x xs k)) (each_of_two p q r give xs (each_tail p x xs h) (each_tail q x xs k))
 
   -- a test that follows from three others
-  pub each_of_three : (p q u r : R → Bool) → ((x : R) → p x ≡ true → q x ≡ true → u x ≡ true → r x ≡ true) → (xs : List R) → Each p xs → Each q xs → Each u xs → Each r xs
+  pub each_of_three : (p q u r : R → Bool) → ((x : R) → p x ≡ true → q x ≡ true → u x ≡ true → r x ≡ true) → (xs : List R) → Each p xs → Each q xs → Each u xs
+      → Each r xs
   each_of_three p q u r give xs h k m =
       each_of_two (λ x. p x && q x) u r (λ x e. give x (and_first (p x) (q x) e) (and_second (p x) (q x) e)) xs
       (each_of_two p q (λ x. p x && q x) (λ x. and_true) xs h k) m
@@ -62,7 +63,8 @@ module _ {R : Type 0} where
       found_passes p y x (find test ys) (test y) (each_head p y ys h) e (λ k. each_found p test x ys k (each_tail p y ys h))
 
   -- what a search finds passes its test
-  found_test : (test : R → Bool) (y x : R) (rest : Option R) (b : Bool) → test y ≡ b → cond b (Some y) rest ≡ Some x → (rest ≡ Some x → test x ≡ true) → test x ≡ true
+  found_test : (test : R → Bool) (y x : R) (rest : Option R) (b : Bool) → test y ≡ b → cond b (Some y) rest ≡ Some x → (rest ≡ Some x → test x ≡ true)
+      → test x ≡ true
   found_test test y x rest true h e ih = let i : y ≡ x = cc in subst (λ z. test z ≡ true) i h
   found_test test y x rest false h e ih = ih e
 
@@ -109,7 +111,8 @@ module _ {R : Type 0} where
   any_agree_where a p q agree (x ∷ xs) h = rw (agree x (each_head a x xs h), any_agree_where a p q agree xs (each_tail a x xs h)) refl
 
   -- a test that follows from another
-  any_later : (p q : R → Bool) (x : R) (xs : List R) (b : Bool) → p x ≡ b → (b || list_any p xs) ≡ true → (p x ≡ true → q x ≡ true) → (list_any p xs ≡ true → list_any q xs ≡ true) → list_any q (x ∷ xs) ≡ true
+  any_later : (p q : R → Bool) (x : R) (xs : List R) (b : Bool) → p x ≡ b → (b || list_any p xs) ≡ true → (p x ≡ true → q x ≡ true)
+      → (list_any p xs ≡ true → list_any q xs ≡ true) → list_any q (x ∷ xs) ≡ true
   any_later p q x xs true e h give ih = or_first (list_any q xs) (give e)
   any_later p q x xs false e h give ih = or_second (q x) (ih h)
 
@@ -118,7 +121,8 @@ module _ {R : Type 0} where
   any_weaker p q give (x ∷ xs) h = any_later p q x xs (p x) refl h (give x) (any_weaker p q give xs)
 
   -- a test that follows from another and from what each row passes
-  pub any_weaker_where : (a p q : R → Bool) → ((x : R) → a x ≡ true → p x ≡ true → q x ≡ true) → (xs : List R) → Each a xs → list_any p xs ≡ true → list_any q xs ≡ true
+  pub any_weaker_where : (a p q : R → Bool) → ((x : R) → a x ≡ true → p x ≡ true → q x ≡ true) → (xs : List R) → Each a xs → list_any p xs ≡ true
+      → list_any q xs ≡ true
   any_weaker_where a p q give [] k h = cc
   any_weaker_where a p q give (x ∷ xs) k h =
       any_later p q x xs (p x) refl h (give x (each_head a x xs k)) (any_weaker_where a p q give xs (each_tail a x xs k))
@@ -132,7 +136,8 @@ module _ {R : Type 0} where
   pub none_any : (p : R → Bool) (xs : List R) → Each (λ x. not (p x)) xs → list_any p xs ≡ false
   none_any p [] h = refl
   none_any p (x ∷ xs) h =
-      or_false (not_true (p x) (and_first (not (p x)) (list_all (λ y. not (p y)) xs) h)) (none_any p xs (and_second (not (p x)) (list_all (λ y. not (p y)) xs) h))
+      or_false (not_true (p x) (and_first (not (p x)) (list_all (λ y. not (p y)) xs) h))
+      (none_any p xs (and_second (not (p x)) (list_all (λ y. not (p y)) xs) h))
 
   -- no row passes a test from which one follows that no row passes
   pub none_weaker : (p q : R → Bool) → ((x : R) → q x ≡ true → p x ≡ true) → (xs : List R) → list_any p xs ≡ false → list_any q xs ≡ false
@@ -152,7 +157,8 @@ module _ {R : Type 0} where
       from_false false k = let n : not (p x) ≡ true = each_found (λ y. not (p y)) test x xs e (any_none p xs k) in let m : p x ≡ false = not_true (p x) n in cc
 
   -- a search finds nothing: no row passes
-  none_first : (test : R → Bool) (y : R) (rest : Option R) (any : Bool) (b : Bool) → cond b (Some y) rest ≡ None → (rest ≡ None → any ≡ false) → (b || any) ≡ false
+  none_first : (test : R → Bool) (y : R) (rest : Option R) (any : Bool) (b : Bool) → cond b (Some y) rest ≡ None → (rest ≡ None → any ≡ false)
+      → (b || any) ≡ false
   none_first test y rest any true e ih = cc
   none_first test y rest any false e ih = ih e
 
@@ -161,7 +167,8 @@ module _ {R : Type 0} where
   find_none test (y ∷ ys) e = none_first test y (find test ys) (list_any test ys) (test y) e (find_none test ys)
 
   -- some row passes: a search finds it
-  any_first : (test : R → Bool) (y : R) (rest : List R) (b : Bool) → (b || list_any test rest) ≡ true → (list_any test rest ≡ true → (x : R) × (find test rest ≡ Some x)) → (x : R) × (cond b (Some y) (find test rest) ≡ Some x)
+  any_first : (test : R → Bool) (y : R) (rest : List R) (b : Bool) → (b || list_any test rest) ≡ true
+      → (list_any test rest ≡ true → (x : R) × (find test rest ≡ Some x)) → (x : R) × (cond b (Some y) (find test rest) ≡ Some x)
   any_first test y rest true h ih = (y, refl)
   any_first test y rest false h ih = ih h
 
@@ -180,7 +187,8 @@ module _ {R : Type 0} where
   find_agree_where a p q agree (x ∷ xs) h = rw (agree x (each_head a x xs h), find_agree_where a p q agree xs (each_tail a x xs h)) refl
 
   -- what was found is still the first after a row was added
-  found_still : (test : R → Bool) (y x : R) (rest later : Option R) (b : Bool) → cond b (Some y) rest ≡ Some x → (rest ≡ Some x → later ≡ Some x) → cond b (Some y) later ≡ Some x
+  found_still : (test : R → Bool) (y x : R) (rest later : Option R) (b : Bool) → cond b (Some y) rest ≡ Some x → (rest ≡ Some x → later ≡ Some x)
+      → cond b (Some y) later ≡ Some x
   found_still test y x rest later true e ih = e
   found_still test y x rest later false e ih = ih e
 
@@ -202,3 +210,11 @@ module _ {R : Type 0} where
   pub filter_agree_where : (a p q : R → Bool) → ((x : R) → a x ≡ true → p x ≡ q x) → (xs : List R) → Each a xs → filter p xs ≡ filter q xs
   filter_agree_where a p q agree [] h = refl
   filter_agree_where a p q agree (x ∷ xs) h = rw (agree x (each_head a x xs h), filter_agree_where a p q agree xs (each_tail a x xs h)) refl
+
+-- no row passes, if a search finds none
+pub none_found : {R : Type 0} (test : R → Bool) (rows : List R) → is_some (find test rows) ≡ false → list_any test rows ≡ false
+none_found test rows h = find_none test rows (is_nothing (find test rows) h)
+  where
+    is_nothing : {A : Type 0} (o : Option A) → is_some o ≡ false → o ≡ None
+    is_nothing None e = refl
+    is_nothing (Some x) e = cc

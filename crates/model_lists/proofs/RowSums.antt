@@ -1,5 +1,6 @@
 -- Sums and counts over rows, where a row is added and where rows change in place.
-use Rattle.std.proofs.Common.{◌≡◌, ℕ, ◌+◌, ◌≤◌, ◌<◌, Bool, true, false, not, List, [], ◌∷◌, ◌++◌, Option, Some, cond, sum_by, count_by, refl, sym, ◌∙◌, subst, arith}
+use Rattle.std.proofs.Common.{◌≡◌, ℕ, ◌+◌, ◌≤◌, ◌<◌, Bool, true, false, not, List, [], ◌∷◌, ◌++◌, Option, Some, cond, sum_by, count_by, refl, sym, ◌∙◌, subst}
+use Rattle.std.proofs.Common.{arith}
 use Rattle.std.specs.List.{filter, find}
 use Rattle.std.proofs.lemmas.List.Sums.{sum_by-cons, sum_by_push}
 use Rattle.batch_model.specs.Finding.{Each, change_where}
@@ -51,18 +52,25 @@ module _ {R : Type 0} where
       rw (sum_by-cons (λ y. cond {A = ℕ} (p y) 1 0) x xs, first, others) refl
 
   -- changes in place: the sum of the parts of changed rows
-  pub sum_change : (test : R → Bool) (change : R → R) (f : R → ℕ) (xs : List R) → sum_by f (change_where test change xs) ≡ sum_by (λ x. f (changed test change x)) xs
+  pub sum_change : (test : R → Bool) (change : R → R) (f : R → ℕ) (xs : List R)
+      → sum_by f (change_where test change xs) ≡ sum_by (λ x. f (changed test change x)) xs
   sum_change test change f [] = refl
   sum_change test change f (x ∷ xs) =
-      rw (sum_by-cons f (changed test change x) (change_where test change xs), sum_by-cons (λ y. f (changed test change y)) x xs, sum_change test change f xs) refl
+      rw (
+        sum_by-cons f (changed test change x) (change_where test change xs),
+        sum_by-cons (λ y. f (changed test change y)) x xs,
+        sum_change test change f xs,
+      ) refl
 
   -- changes in place that keep each part
-  pub sum_change_same : (test : R → Bool) (change : R → R) (f : R → ℕ) → ((x : R) → test x ≡ true → f (change x) ≡ f x) → (xs : List R) → sum_by f (change_where test change xs) ≡ sum_by f xs
+  pub sum_change_same : (test : R → Bool) (change : R → R) (f : R → ℕ) → ((x : R) → test x ≡ true → f (change x) ≡ f x) → (xs : List R)
+      → sum_by f (change_where test change xs) ≡ sum_by f xs
   sum_change_same test change f keep xs =
       sum_change test change f xs ∙ sum_agree (λ x. f (changed test change x)) f (λ x. same_changed test change f x (keep x)) xs
 
   -- changes in place that raise no part
-  pub sum_change_at_most : (test : R → Bool) (change : R → R) (f g : R → ℕ) → ((x : R) → test x ≡ true → f (change x) ≤ g x) → ((x : R) → test x ≡ false → f x ≤ g x) → (xs : List R) → sum_by f (change_where test change xs) ≤ sum_by g xs
+  pub sum_change_at_most : (test : R → Bool) (change : R → R) (f g : R → ℕ) → ((x : R) → test x ≡ true → f (change x) ≤ g x)
+      → ((x : R) → test x ≡ false → f x ≤ g x) → (xs : List R) → sum_by f (change_where test change xs) ≤ sum_by g xs
   sum_change_at_most test change f g less keep [] = omega arith
   sum_change_at_most test change f g less keep (x ∷ xs) =
       let k : f (changed test change x) ≤ g x = either (test x) (less x) (keep x) in
@@ -74,7 +82,8 @@ module _ {R : Type 0} where
       either false h n = n refl
 
   -- what is counted of a row after the change
-  counts_changed : (test : R → Bool) (change : R → R) (p : R → Bool) (x : R) → (test x ≡ true → p (change x) ≡ true → p x ≡ true) → cond {A = ℕ} (p (changed test change x)) 1 0 ≤ cond (p x) 1 0
+  counts_changed : (test : R → Bool) (change : R → R) (p : R → Bool) (x : R) → (test x ≡ true → p (change x) ≡ true → p x ≡ true)
+      → cond {A = ℕ} (p (changed test change x)) 1 0 ≤ cond (p x) 1 0
   counts_changed test change p x give = counts_at_most (p (changed test change x)) (p x) (either (test x) give)
     where
       either : (b : Bool) → (b ≡ true → p (change x) ≡ true → p x ≡ true) → p (cond b (change x) x) ≡ true → p x ≡ true
@@ -82,11 +91,14 @@ module _ {R : Type 0} where
       either false h = λ k. k
 
   -- changes in place after which no row passes that didn't
-  pub count_change_at_most : (test : R → Bool) (change : R → R) (a p : R → Bool) → ((x : R) → a x ≡ true → test x ≡ true → p (change x) ≡ true → p x ≡ true) → (xs : List R) → Each a xs → count_by p (change_where test change xs) ≤ count_by p xs
+  pub count_change_at_most : (test : R → Bool) (change : R → R) (a p : R → Bool) → ((x : R) → a x ≡ true → test x ≡ true → p (change x) ≡ true → p x ≡ true)
+      → (xs : List R) → Each a xs → count_by p (change_where test change xs) ≤ count_by p xs
   count_change_at_most test change a p give xs h =
-      let k : count_by p (change_where test change xs) ≡ sum_by (λ x. cond {A = ℕ} (p (changed test change x)) 1 0) xs = sum_change test change (λ x. cond {A = ℕ} (p x) 1 0) xs in
+      let k : count_by p (change_where test change xs) ≡ sum_by (λ x. cond {A = ℕ} (p (changed test change x)) 1 0) xs =
+      sum_change test change (λ x. cond {A = ℕ} (p x) 1 0) xs in
       let m : sum_by (λ x. cond {A = ℕ} (p (changed test change x)) 1 0) xs ≤ count_by p xs =
-      sum_at_most_where a (λ x. cond {A = ℕ} (p (changed test change x)) 1 0) (λ x. cond {A = ℕ} (p x) 1 0) (λ x e. counts_changed test change p x (give x e)) xs h
+      sum_at_most_where a (λ x. cond {A = ℕ} (p (changed test change x)) 1 0) (λ x. cond {A = ℕ} (p x) 1 0)
+      (λ x e. counts_changed test change p x (give x e)) xs h
       in
       rw k m
 
@@ -95,12 +107,14 @@ module _ {R : Type 0} where
   sum_filter p f [] = refl
   sum_filter p f (x ∷ xs) = rw (sum_by-cons (λ y. cond (p y) (f y) 0) x xs) (either (p x) (sum_filter p f xs))
     where
-      either : (b : Bool) → sum_by f (filter p xs) ≡ sum_by (λ y. cond (p y) (f y) 0) xs → sum_by f (cond b (x ∷ filter p xs) (filter p xs)) ≡ cond b (f x) 0 + sum_by (λ y. cond (p y) (f y) 0) xs
+      either : (b : Bool) → sum_by f (filter p xs) ≡ sum_by (λ y. cond (p y) (f y) 0) xs
+          → sum_by f (cond b (x ∷ filter p xs) (filter p xs)) ≡ cond b (f x) 0 + sum_by (λ y. cond (p y) (f y) 0) xs
       either true h = rw (sum_by-cons f x (filter p xs), h) refl
       either false h = rw h (omega arith)
 
   -- a part that is less at the row that a search finds, and more nowhere
-  less_found : (f g : R → ℕ) (y x : R) (ys : List R) (rest : Option R) (b : Bool) → cond b (Some y) rest ≡ Some x → f y ≤ g y → f x < g x → sum_by f ys ≤ sum_by g ys → (rest ≡ Some x → sum_by f ys < sum_by g ys) → sum_by f (y ∷ ys) < sum_by g (y ∷ ys)
+  less_found : (f g : R → ℕ) (y x : R) (ys : List R) (rest : Option R) (b : Bool) → cond b (Some y) rest ≡ Some x → f y ≤ g y → f x < g x
+      → sum_by f ys ≤ sum_by g ys → (rest ≡ Some x → sum_by f ys < sum_by g ys) → sum_by f (y ∷ ys) < sum_by g (y ∷ ys)
   less_found f g y x ys rest true e some less all ih =
       let i : y ≡ x = cc in
       let k : f y < g y = subst (λ z. f z < g z) (sym i) less in
@@ -109,7 +123,8 @@ module _ {R : Type 0} where
       let k : sum_by f ys < sum_by g ys = ih e in
       rw (sum_by-cons f y ys, sum_by-cons g y ys) (omega arith)
 
-  pub sum_less_where : (a : R → Bool) (f g : R → ℕ) → ((x : R) → a x ≡ true → f x ≤ g x) → (test : R → Bool) (x : R) (xs : List R) → Each a xs → find test xs ≡ Some x → f x < g x → sum_by f xs < sum_by g xs
+  pub sum_less_where : (a : R → Bool) (f g : R → ℕ) → ((x : R) → a x ≡ true → f x ≤ g x) → (test : R → Bool) (x : R) (xs : List R) → Each a xs
+      → find test xs ≡ Some x → f x < g x → sum_by f xs < sum_by g xs
   sum_less_where a f g at_most test x [] h e less = cc
   sum_less_where a f g at_most test x (y ∷ ys) h e less =
       less_found f g y x ys (find test ys) (test y) e (at_most y (each_head a y ys h)) less
@@ -117,11 +132,15 @@ module _ {R : Type 0} where
       (λ k. sum_less_where a f g at_most test x ys (each_tail a y ys h) k less)
 
   -- changes in place after which a row that was found doesn't pass any more, and no row passes that didn't
-  pub count_change_less : (test : R → Bool) (change : R → R) (p : R → Bool) → ((x : R) → test x ≡ true → p (change x) ≡ true → p x ≡ true) → (x : R) (xs : List R) → find test xs ≡ Some x → test x ≡ true → p x ≡ true → p (change x) ≡ false → count_by p (change_where test change xs) < count_by p xs
+  pub count_change_less : (test : R → Bool) (change : R → R) (p : R → Bool) → ((x : R) → test x ≡ true → p (change x) ≡ true → p x ≡ true)
+      → (x : R) (xs : List R) → find test xs ≡ Some x → test x ≡ true → p x ≡ true → p (change x) ≡ false
+      → count_by p (change_where test change xs) < count_by p xs
   count_change_less test change p give x xs found here before after =
-      let k : count_by p (change_where test change xs) ≡ sum_by (λ y. cond {A = ℕ} (p (changed test change y)) 1 0) xs = sum_change test change (λ y. cond {A = ℕ} (p y) 1 0) xs in
+      let k : count_by p (change_where test change xs) ≡ sum_by (λ y. cond {A = ℕ} (p (changed test change y)) 1 0) xs =
+      sum_change test change (λ y. cond {A = ℕ} (p y) 1 0) xs in
       let m : sum_by (λ y. cond {A = ℕ} (p (changed test change y)) 1 0) xs < count_by p xs =
-      sum_less_where (λ y. true) (λ y. cond {A = ℕ} (p (changed test change y)) 1 0) (λ y. cond {A = ℕ} (p y) 1 0) (λ y e. counts_changed test change p y (give y)) test x xs
+      sum_less_where (λ y. true) (λ y. cond {A = ℕ} (p (changed test change y)) 1 0) (λ y. cond {A = ℕ} (p y) 1 0)
+      (λ y e. counts_changed test change p y (give y)) test x xs
       (each_any (λ y. true) (λ y. refl) xs) found (rw (here, after, before) (omega arith))
       in
       rw k m

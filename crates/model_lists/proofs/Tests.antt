@@ -73,3 +73,8 @@ alike true true h k = refl
 alike true false h k = let e : false ≡ true = h refl in cc
 alike false true h k = let e : false ≡ true = k refl in cc
 alike false false h k = refl
+
+-- what is not asked for the opposite of is so
+pub not_false : (a : Bool) → not a ≡ false → a ≡ true
+not_false true h = refl
+not_false false h = cc

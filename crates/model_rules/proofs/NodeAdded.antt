@@ -1,27 +1,52 @@
--- Tables stay sound when a pool gets a node, and its start task begins there.
-use Rattle.std.proofs.Common.{◌≡◌, ℕ, zero, suc, ◌+◌, ◌≤◌, Bool, true, false, not, ◌&&◌, ◌||◌, nat_eq, nat_lt, nat_le, List, [], ◌∷◌, Option, Some, None, find, filter, sum_by, cond, refl, ap, arith}
-use Rattle.std.specs.List.{list_any, list_all, range_with_len}
-use Rattle.std.proofs.lemmas.Bool.Decides.{nat_tests}
+-- The rule that adds a node keeps sound tables, and lowers the rank.
+use Rattle.std.proofs.Common.{◌≡◌, ℕ, zero, suc, ◌+◌, ◌≤◌, Bool, true, false, not, ◌&&◌, ◌||◌, nat_eq, nat_lt, nat_le, List, [], ◌∷◌, Option, Some, None, find}
+use Rattle.std.proofs.Common.{filter, sum_by, cond, refl, ap, arith, is_none, ◌<◌, inl, inr, is_some, option_map, option_and_then, ◌⊎◌, subst}
+use Rattle.std.specs.List.{list_any, list_all, range_with_len, find}
+use Rattle.std.proofs.lemmas.Bool.Decides.{nat_tests, Decides-ltb, Decides-eqb}
+use Rattle.std.proofs.lemmas.List.Sums.{sum_by_push, sum_by-le-sum_by}
 use Rattle.bt_base.specs.Ids.{same}
 use Rattle.bt_base.proofs.SameIds.{same_equiv}
-use Rattle.bt_rows.specs.Keys.{same_node}
+use Rattle.bt_base.proofs.Turns.{lex_lt, lex_first, lex_next}
+use Rattle.bt_rows.specs.Keys.{same_node, same_run, same_pool, same_pool_equiv, same_task, same_task_equiv}
 use Rattle.bt_rows.specs.Ranges.{is_from_to}
-use Rattle.batch_model.specs.Finding.{Each}
-use Rattle.batch_model.specs.Rows.{is_pool, is_node, add_node_row}
-use Rattle.batch_model.specs.Nodes.{is_leaving}
-use Rattle.batch_model.specs.Runs.{is_unended}
-use Rattle.batch_model.specs.Pools.{free_seat, waits_for_start}
+use Rattle.bt_rows.specs.Lists.{AreDistinct}
+use Rattle.bt_rows.proofs.DistinctRows.{found_first, find-passes, sum_by-less}
+use Rattle.batch_model.specs.Finding.{Each, last_number, has_number_left, or_else, first_of, find_map, only_if}
+use Rattle.batch_model.specs.Rows.{is_pool, is_node, add_node_row, add_run_row, is_run, change_runs, put_pool, put_task, pool_of}
+use Rattle.batch_model.specs.Nodes.{is_leaving, stays}
+use Rattle.batch_model.specs.Runs.{is_unended, start_run, work_run, is_start, is_busy_for}
+use Rattle.batch_model.specs.Pools.{free_seat, waits_for_start, is_resizing, is_steady, staying_count}
 use Rattle.batch_model.specs.Slots.{holds_on, held_slots}
-use Rattle.batch_model.specs.Dues.{lacks_node, first_stage, new_node, begin_start, node_added}
+use Rattle.batch_model.specs.Dues.{lacks_node, first_stage, new_node, begin_start, node_added, steady, timed_out, ends_resize, due_step, has_reached}
+use Rattle.batch_model.specs.Dues.{has_timed_out, settle_first, pool_steady, pool_timed_out, resize_ended, end_resize, add_on, add_node}
 use Rattle.batch_model.specs.Sound.{IsConsistent, are_out_of_order, has_node_row, share_seat, has_node_while_unended, is_of_pool, fits_nodes, has_slots_for}
-use Rattle.batch_model.specs.WellFormed.{has_pool_row}
-use Rattle.batch_model.specs.Variants.{State, PoolRow, StartTask, NodeRow, Starting, Usable, RunRow}
-use Rattle.model_lists.proofs.Tests.{or_first, or_second, and_true, not_true, true_not}
-use Rattle.model_lists.proofs.RowLists.{each_append, each_any, each_weaker, each_of_two, each_found, find_test, any_append_old, any_append_new, any_found, none_any}
-use Rattle.model_lists.proofs.DistinctLists.{distinct_append}
-use Rattle.model_lists.proofs.NextNumbers.{below_other, below_other_back, below_not_above, below_next, below_own_next}
-use Rattle.model_lists.proofs.NextNumbers.{is_itself}
-use Rattle.model_tables.proofs.StartAdded.{HasNode, consistent_start_added}
+use Rattle.batch_model.specs.Sound.{IsWithinLimits, has_no_end_yet, UnendedRunsHaveNoEnd, StartsAreSound, IsSound, awaits_no_start, has_usable_start}
+use Rattle.batch_model.specs.WellFormed.{has_pool_row, is_node_in_range, is_run_valid, is_unended_start_on, has_few_tries}
+use Rattle.batch_model.specs.Variants.{State, PoolRow, StartTask, NodeRow, Starting, Usable, RunRow, TaskRow, Ending, RunKind, StartRun, PrepRun, TaskRun}
+use Rattle.batch_model.specs.Variants.{CoordinationRun, ReleaseRun, Queued, NodeStage, JobRow, Alloc, Steady, Resizing, Stopping, ResizeError}
+use Rattle.batch_model.specs.Variants.{AllocationTimedOut, TaskStage, Active, Placed, Completed}
+use Rattle.batch_model.specs.Events.{taken_run, run_taken, ended_run, ended_by, run_ended}
+use Rattle.batch_model.specs.Starts.{counted_node, change_node, start_ended}
+use Rattle.batch_model.specs.Placing.{placed, place, is_ready, is_placeable, places_tasks, choice, place_task, place_in, place_of_job, place_first}
+use Rattle.batch_model.specs.Steps.{DueStep}
+use Rattle.batch_model.specs.Tasks.{is_active, is_in_job, is_placed, is_completed, is_busy, completed, main_ending}
+use Rattle.batch_model.specs.Endings.{closed_by}
+use Rattle.batch_model.specs.Settling.{is_over, complete, is_to_settle, active_again, requeue, is_to_requeue, complete_as_ended, settle}
+use Rattle.batch_model.specs.Measure.{one_unless, steps_of_pool, pools_left, steps_of_task, rank}
+use Rattle.model_lists.proofs.Tests.{or_first, or_second, and_true, not_true, true_not, and_first, and_second, asked, passes_or_not, or_cases}
+use Rattle.model_lists.proofs.RowLists.{each_append, each_any, each_weaker, each_of_two, each_found, find_test, any_append_old, any_append_new, any_found}
+use Rattle.model_lists.proofs.RowLists.{none_any, each_and, any_append}
+use Rattle.model_lists.proofs.DistinctLists.{distinct_append, each_with_key}
+use Rattle.model_lists.proofs.NextNumbers.{below_other, below_other_back, below_not_above, below_next, below_own_next, is_itself, is_not_after_itself, tested}
+use Rattle.model_lists.proofs.NextNumbers.{ordered}
+use Rattle.model_lists.proofs.ChangedRows.{each_change, each_change_same}
+use Rattle.model_lists.proofs.RowSums.{count_none}
+use Rattle.model_lists.proofs.KeyedLists.{sum_by-put_row}
+use Rattle.model_tables.proofs.StartAdded.{HasNode, consistent_start_added, limited_start_added, left_in_range, unended_start_added}
+use Rattle.model_tables.proofs.StartsKept.{starts_on, none_awaited, starts_with_pools, starts_node_added, starts_run_added}
+use Rattle.model_rules.proofs.Rules.{IsDueKept, from_map, from_then, from_only_if}
+
+-- consistent
 
 -- each number of a range is in it
 range_within : (low high a n : ℕ) → low ≤ a → a + n ≤ high + 1 → Each (is_from_to low high) (range_with_len a n)
@@ -33,11 +58,12 @@ range_within low high a (suc n) h k =
     reaches b c m = grind (arith, nat_tests)
 
 -- where no row passes, none is kept
-pub filter_none : {R : Type 0} (p : R → Bool) (xs : List R) → Each (λ x. not (p x)) xs → filter p xs ≡ []
+filter_none : {R : Type 0} (p : R → Bool) (xs : List R) → Each (λ x. not (p x)) xs → filter p xs ≡ []
 filter_none p [] h = refl
 filter_none p (x ∷ xs) h = kept (p x) h (filter_none p xs)
   where
-    kept : (b : Bool) → (not b && list_all (λ y. not (p y)) xs) ≡ true → (Each (λ y. not (p y)) xs → filter p xs ≡ []) → cond b (x ∷ filter p xs) (filter p xs) ≡ []
+    kept : (b : Bool) → (not b && list_all (λ y. not (p y)) xs) ≡ true → (Each (λ y. not (p y)) xs → filter p xs ≡ [])
+        → cond b (x ∷ filter p xs) (filter p xs) ≡ []
     kept true k ih = cc
     kept false k ih = ih k
 
@@ -99,7 +125,8 @@ module _ (seats : ℕ) (s : State) (pool : PoolRow) (seat : ℕ) (h : IsConsiste
       either false m = any_append_old (is_node run.node) s.nodes (new_node s pool seat) m
 
 -- a node that is added keeps tables sound
-consistent_row : (seats : ℕ) (s : State) (pool : PoolRow) (seat : ℕ) → IsConsistent seats s → free_seat seats s ≡ Some seat → find (lacks_node s) s.pools ≡ Some pool → IsConsistent seats (with_row s pool seat)
+consistent_row : (seats : ℕ) (s : State) (pool : PoolRow) (seat : ℕ) → IsConsistent seats s → free_seat seats s ≡ Some seat
+    → find (lacks_node s) s.pools ≡ Some pool → IsConsistent seats (with_row s pool seat)
 consistent_row seats s pool seat h free f = record {
   keys = record {
     pools = h.keys.pools;
@@ -173,11 +200,200 @@ has_row seats s pool seat h = record {
 }
 
 -- a start task that begins on a node that is there keeps tables sound
-consistent_begun : (seats : ℕ) (s : State) (node : NodeRow) (start : Option StartTask) → IsConsistent seats s → HasNode s node → IsConsistent seats (begin_start start node s)
+consistent_begun : (seats : ℕ) (s : State) (node : NodeRow) (start : Option StartTask) → IsConsistent seats s → HasNode s node
+    → IsConsistent seats (begin_start start node s)
 consistent_begun seats s node None h has = h
 consistent_begun seats s node (Some start) h has = consistent_start_added seats s node start h has
 
 -- a pool that gets a node, on which its start task begins, keeps tables sound
-pub consistent_node_added : (seats : ℕ) (s : State) (pool : PoolRow) (seat : ℕ) → IsConsistent seats s → free_seat seats s ≡ Some seat → find (lacks_node s) s.pools ≡ Some pool → IsConsistent seats (node_added s seat pool).state
+consistent_node_added : (seats : ℕ) (s : State) (pool : PoolRow) (seat : ℕ) → IsConsistent seats s → free_seat seats s ≡ Some seat
+    → find (lacks_node s) s.pools ≡ Some pool → IsConsistent seats (node_added s seat pool).state
 consistent_node_added seats s pool seat h free f =
     consistent_begun seats (with_row s pool seat) (new_node s pool seat) pool.start (consistent_row seats s pool seat h free f) (has_row seats s pool seat h)
+
+-- within the limits
+
+-- while node numbers last
+limited_row : (s : State) (pool : PoolRow) (seat : ℕ) → IsWithinLimits s → has_number_left s.next_node ≡ true
+    → IsWithinLimits (add_node_row (new_node s pool seat) s)
+limited_row s pool seat h left =
+    let most : s.next_node ≤ last_number = ordered s.next_node last_number left in
+    record {
+      rows = record {
+        moment = h.rows.moment;
+        pools = h.rows.pools;
+        nodes = each_append is_node_in_range s.nodes (new_node s pool seat) h.rows.nodes (and_true (tested 1 s.next_node h.counts.first_node) left);
+        jobs = h.rows.jobs;
+        tasks = h.rows.tasks;
+        runs = h.rows.runs;
+        samples = h.rows.samples;
+        scales = h.rows.scales;
+      };
+      counts = record {
+        pools = h.counts.pools;
+        jobs = h.counts.jobs;
+        tasks = h.counts.tasks;
+        first_node = omega arith;
+        next_node = omega (arith, most);
+        first_run = h.counts.first_run;
+        next_run = h.counts.next_run;
+      };
+      quiet = h.quiet;
+      pools = record {
+        deleting = h.pools.deleting;
+        pools_of_scales = h.pools.pools_of_scales;
+        pools_of_samples = h.pools.pools_of_samples;
+        labels = h.pools.labels;
+        order = h.pools.order;
+        covered = h.pools.covered;
+        kept = h.pools.kept;
+      };
+      built = record { preps = h.built.preps };
+    }
+
+-- a start task that begins, while run numbers last
+limited_begun : (s : State) (node : NodeRow) (start : Option StartTask) → IsWithinLimits s → has_number_left s.next_run ≡ true
+    → IsWithinLimits (begin_start start node s)
+limited_begun s node None h left = h
+limited_begun s node (Some start) h left = limited_start_added s node start h left
+
+-- a pool gets a node, on which its start task begins, while numbers last
+limited_node_added : (s : State) (pool : PoolRow) (seat : ℕ) → IsWithinLimits s → has_number_left s.next_node ≡ true → has_number_left s.next_run ≡ true
+    → IsWithinLimits (node_added s seat pool).state
+limited_node_added s pool seat h nodes_left runs_left =
+    limited_begun (add_node_row (new_node s pool seat) s) (new_node s pool seat) pool.start (limited_row s pool seat h nodes_left) runs_left
+
+-- without ends
+
+-- a start task that begins
+unended_begun : (s : State) (node : NodeRow) (start : Option StartTask) → UnendedRunsHaveNoEnd s → UnendedRunsHaveNoEnd (begin_start start node s)
+unended_begun s node None h = h
+unended_begun s node (Some start) h = unended_start_added s node start h
+
+-- a pool gets a node, on which its start task begins
+unended_node_added : (s : State) (pool : PoolRow) (seat : ℕ) → UnendedRunsHaveNoEnd s → UnendedRunsHaveNoEnd (node_added s seat pool).state
+unended_node_added s pool seat h = unended_begun (add_node_row (new_node s pool seat) s) (new_node s pool seat) pool.start h
+
+-- start tasks
+
+-- no failures and no runs are fewer than a number above 0
+none_is_few : (count next : ℕ) → count ≡ 0 → 0 < next → nat_lt (0 + count) next ≡ true
+none_is_few count next h k = grind (arith, nat_tests)
+
+-- a test beside another that fails
+not_and : (a b : Bool) → b ≡ false → not (a && b) ≡ true
+not_and true b h = rw h refl
+not_and false b h = refl
+
+-- not one of two, where the other isn't so if the one is
+not_both : (a b : Bool) → (not a || not b) ≡ true → not (a && b) ≡ true
+not_both true b h = h
+not_both false b h = refl
+
+module _ (seats : ℕ) (s : State) (pool : PoolRow) (seat : ℕ) (c : IsConsistent seats s) (found : find (lacks_node s) s.pools ≡ Some pool) where
+  -- a pool with the id of one without a start task that is waited for has none either
+  awaits_none : waits_for_start pool ≡ false → awaits_no_start s pool.id ≡ true
+  awaits_none none =
+      each_weaker (λ (other : PoolRow). not (same_pool other pool) || not (waits_for_start other))
+      (λ other. not (is_pool pool.id other && waits_for_start other))
+      (λ other. not_both (is_pool pool.id other) (waits_for_start other)) s.pools
+      (each_with_key same_pool same_pool_equiv (λ other. not (waits_for_start other)) pool pool s.pools c.keys.pools
+      (found_first same_pool same_pool_equiv (lacks_node s) pool s.pools c.keys.pools found) (rw none refl))
+
+  -- the new node is usable only where no start task is waited for
+  new_usable : has_usable_start s (new_node s pool seat) ≡ true
+  new_usable = elim (passes_or_not (waits_for_start pool)) [
+    | inl waits ↦ rw waits refl
+    | inr none ↦ rw (none, awaits_none none) refl
+  ]
+
+  -- no run is on it, and its start task has not failed
+  new_few : has_few_tries s (new_node s pool seat) ≡ true
+  new_few =
+      none_is_few (starts_on s.runs s.next_node) s.next_run
+      (count_none (is_unended_start_on s.next_node) s.runs
+      (each_weaker (λ (run : RunRow). nat_lt run.node s.next_node) (λ run. not (is_unended_start_on s.next_node run))
+      (λ run e. not_and (is_start run.kind && is_unended run.state) (nat_eq run.node s.next_node) (below_other run.node s.next_node e))
+      s.runs c.numbers.nodes_of_runs))
+      c.numbers.begun
+
+  -- its start task is begun, if there is one
+  begun : (begins : Option StartTask) (node : NodeRow) (t : State) → StartsAreSound t → StartsAreSound (begin_start begins node t)
+  begun None node t h = h
+  begun (Some begin) node t h = starts_run_added t (start_run t node begin) h
+
+  starts_new_node : StartsAreSound s → StartsAreSound (node_added s seat pool).state
+  starts_new_node h =
+      begun pool.start (new_node s pool seat) (add_node_row (new_node s pool seat) s) (starts_node_added s (new_node s pool seat) new_usable new_few h)
+
+-- the rank
+
+-- a pool that lacks a node has fewer than its target
+lacks_less : (s : State) (pool : PoolRow) → lacks_node s pool ≡ true → staying_count s pool.id < pool.dedicated
+lacks_less s pool h = (Decides-ltb (staying_count s pool.id) pool.dedicated).0 (and_second _ _ h)
+
+-- a new node isn't leaving
+not_leaving : (waits : Bool) → not (is_leaving (cond {A = NodeStage} waits Starting Usable)) ≡ true
+not_leaving true = refl
+not_leaving false = refl
+
+-- the new node stays in its pool
+stays_new : (s : State) (pool : PoolRow) (seat : ℕ) → stays pool.id (new_node s pool seat) ≡ true
+stays_new s pool seat = and_true (same_equiv.refl pool.id) (not_leaving (waits_for_start pool))
+
+-- a row that passes counts one
+counts_one : {b : Bool} → b ≡ true → cond {A = ℕ} b 1 0 ≡ 1
+counts_one h = rw h refl
+
+-- the tables with the new node, before its start task is begun
+abbrev with_new : State → PoolRow → ℕ → State
+with_new s pool seat = add_node_row (new_node s pool seat) s
+
+-- with one more node a pool has at most one more
+one_more : (s : State) (pool : PoolRow) (seat : ℕ) (id : List ℕ)
+    → staying_count (with_new s pool seat) id ≡ staying_count s id + cond {A = ℕ} (stays id (new_node s pool seat)) 1 0
+one_more s pool seat id = sum_by_push (λ (node : NodeRow). cond (stays id node) 1 0) s.nodes (new_node s pool seat)
+
+-- that pool has a node less to get, and no pool has more
+fewer_to_add : (s : State) (pool : PoolRow) (seat : ℕ) → find (lacks_node s) s.pools ≡ Some pool → pools_left (with_new s pool seat) < pools_left s
+fewer_to_add s pool seat f =
+    let one : cond {A = ℕ} (stays pool.id (new_node s pool seat)) 1 0 ≡ 1 = counts_one (stays_new s pool seat) in
+    let less : staying_count s pool.id < pool.dedicated = lacks_less s pool (find-passes (lacks_node s) pool s.pools f) in
+    sum_by-less (steps_of_pool (with_new s pool seat)) (steps_of_pool s) (lacks_node s) pool s.pools f
+    (λ other. omega (arith, one_more s pool seat other.id))
+    (omega (arith, one_more s pool seat pool.id, less, one))
+
+-- so it is, too, where a start run is queued
+node_falls : (s : State) (pool : PoolRow) (seat : ℕ) → find (lacks_node s) s.pools ≡ Some pool → lex_lt (rank (node_added s seat pool).state) (rank s) ≡ true
+node_falls s pool seat f = begun pool.start
+  where
+    begun : (start : Option StartTask) → lex_lt (rank (begin_start start (new_node s pool seat) (with_new s pool seat))) (rank s) ≡ true
+    begun None = lex_first _ _ _ _ (fewer_to_add s pool seat f) refl
+    begun (Some start) = lex_first _ _ _ _ (fewer_to_add s pool seat f) refl
+
+-- the rule
+
+module _ (seats : ℕ) (s : State) (h : IsSound seats s) where
+  -- a pool gets a node
+  node_added_kept : (seat : ℕ) (pool : PoolRow) → has_number_left s.next_run ≡ true → has_number_left s.next_node ≡ true → free_seat seats s ≡ Some seat
+      → find (lacks_node s) s.pools ≡ Some pool → IsDueKept seats s (node_added s seat pool)
+  node_added_kept seat pool runs_left nodes_left free found = record {
+    sound = record {
+      consistent = consistent_node_added seats s pool seat h.consistent free found;
+      limited = limited_node_added s pool seat h.limited nodes_left runs_left;
+      unended = unended_node_added s pool seat h.unended;
+      starts = starts_new_node seats s pool seat h.consistent found h.starts;
+    };
+    falls = node_falls s pool seat found;
+    places = tt;
+  }
+
+  -- U15
+  pub add_node_kept : (step : DueStep) → add_node seats s ≡ Some step → IsDueKept seats s step
+  add_node_kept step e =
+      let left = from_only_if (has_number_left s.next_run && has_number_left s.next_node) (option_and_then (add_on s) (free_seat seats s)) step e in
+      let seated = from_then (add_on s) (free_seat seats s) step left.1 in
+      let found = from_map (node_added s seated.0) (find (lacks_node s) s.pools) step seated.1 in
+      subst (IsDueKept seats s) found.1
+      (node_added_kept seated.0 found.0 (and_first (has_number_left s.next_run) (has_number_left s.next_node) left.0)
+      (and_second (has_number_left s.next_run) (has_number_left s.next_node) left.0) seated.2 found.2)

@@ -1,5 +1,6 @@
 -- The opening makes well-formed tables sound.
-use Rattle.std.proofs.Common.{◌≡◌, ℕ, Bool, true, false, not, ◌&&◌, ◌||◌, nat_eq, nat_lt, nat_le, List, Option, Some, None, is_some, is_none, refl, ◌∙◌, ap, arith}
+use Rattle.std.proofs.Common.{◌≡◌, ℕ, Bool, true, false, not, ◌&&◌, ◌||◌, nat_eq, nat_lt, nat_le, List, Option, Some, None, is_some, is_none, refl, ◌∙◌, ap}
+use Rattle.std.proofs.Common.{arith}
 use Rattle.std.specs.List.{list_any, find}
 use Rattle.std.specs.Option.{option_map, option_and_then}
 use Rattle.std.proofs.lemmas.Bool.Decides.{nat_tests}
@@ -14,9 +15,14 @@ use Rattle.batch_model.specs.Jobs.{is_quiet}
 use Rattle.batch_model.specs.Pools.{is_stopping, is_resizing}
 use Rattle.batch_model.specs.Slots.{owns}
 use Rattle.batch_model.specs.Opening.{opening, is_refilled, refilled, is_emptied, emptied, is_cut_short, requeued, withdrawn}
-use Rattle.batch_model.specs.Sound.{IsConsistent, IsWithinLimits, IsSound, has_node_row, has_node_while_unended, belongs, can_be_settled, fits_nodes, names_no_task, has_no_end_yet}
-use Rattle.batch_model.specs.WellFormed.{KeysAreDistinct, RowsAreValid, CountsAreInRange, TasksAreFitting, NamedRowsAreThere, PoolsAreFitting, IsWellFormed, is_pool_valid, is_task_valid, is_run_valid, is_run_in_range, is_past_if_some, is_ended_in_order, has_fitting_marks, is_closed_if_completed, has_pool_row, has_job_row, has_named_job, has_named_task, is_task_of_attempt, are_one_attempt, has_no_placed_if_quiet, is_deleting_whole, scales}
-use Rattle.batch_model.specs.Variants.{State, PoolRow, Alloc, Steady, Resizing, Stopping, JobRow, TaskRow, RunRow, RunState, Waiting, Queued, Taken, Ended, Withdrawn, SampleRow, ScaleRow}
+use Rattle.batch_model.specs.Sound.{IsConsistent, IsWithinLimits, IsSound, has_node_row, has_node_while_unended, belongs, can_be_settled, fits_nodes}
+use Rattle.batch_model.specs.Sound.{names_no_task, has_no_end_yet}
+use Rattle.batch_model.specs.WellFormed.{KeysAreDistinct, RowsAreValid, CountsAreInRange, TasksAreFitting, NamedRowsAreThere, PoolsAreFitting, IsWellFormed}
+use Rattle.batch_model.specs.WellFormed.{is_pool_valid, is_task_valid, is_run_valid, is_run_in_range, is_past_if_some, is_ended_in_order, has_fitting_marks}
+use Rattle.batch_model.specs.WellFormed.{is_closed_if_completed, has_pool_row, has_job_row, has_named_job, has_named_task, is_task_of_attempt, are_one_attempt}
+use Rattle.batch_model.specs.WellFormed.{has_no_placed_if_quiet, is_deleting_whole, scales}
+use Rattle.batch_model.specs.Variants.{State, PoolRow, Alloc, Steady, Resizing, Stopping, JobRow, TaskRow, RunRow, RunState, Waiting, Queued, Taken, Ended}
+use Rattle.batch_model.specs.Variants.{Withdrawn, SampleRow, ScaleRow}
 use Rattle.model_lists.proofs.Tests.{and_first, or_first, or_second, true_not}
 use Rattle.model_lists.proofs.RowLists.{each_any, each_weaker}
 use Rattle.model_lists.proofs.ChangedRows.{changed, passes_changed, each_change, each_change_same, any_change_same, find_change}
@@ -49,7 +55,8 @@ not_both true false c h = refl
 not_both false false c h = refl
 
 -- tests of a run's values, moments and order, once it has ended at the last moment
-run_ends : (value made taken ended to last now : Bool) → now ≡ true → (value && (made && taken && ended) && (to && last)) ≡ true → (value && (made && taken && now) && (to && (made && taken))) ≡ true
+run_ends : (value made taken ended to last now : Bool) → now ≡ true → (value && (made && taken && ended) && (to && last)) ≡ true
+    → (value && (made && taken && now) && (to && (made && taken))) ≡ true
 run_ends true true true true true last now n h = rw n refl
 run_ends true true true true false last now n h = cc
 run_ends true true true false to last now n h = cc
@@ -73,7 +80,8 @@ timeout_again true false timeout start h = cc
 timeout_again false usual timeout start h = cc
 
 -- beside them, its moments
-pool_begins : (before usual timeout start began enabled now : Bool) → now ≡ true → ((before && usual && timeout && start) && (began && enabled)) ≡ true → ((before && usual && usual && start) && (now && enabled)) ≡ true
+pool_begins : (before usual timeout start began enabled now : Bool) → now ≡ true → ((before && usual && timeout && start) && (began && enabled)) ≡ true
+    → ((before && usual && usual && start) && (now && enabled)) ≡ true
 pool_begins true true true true true enabled now n h = rw n h
 pool_begins true true true true false enabled now n h = cc
 pool_begins true true true false began enabled now n h = cc
@@ -84,7 +92,8 @@ pool_begins false usual timeout start began enabled now n h = cc
 -- values and moments of a pool that resizes again
 pool_valid : (now : ℕ) (pool : PoolRow) → is_pool_valid now pool ≡ true → is_pool_valid now (refilled now pool) ≡ true
 pool_valid now pool h =
-    pool_begins (is_slot_count pool.slots && is_target pool.dedicated && nat_eq pool.low 0) (is_resize_timeout pool.usual_timeout) (is_resize_timeout pool.timeout)
+    pool_begins (is_slot_count pool.slots && is_target pool.dedicated && nat_eq pool.low 0) (is_resize_timeout pool.usual_timeout)
+    (is_resize_timeout pool.timeout)
     (passes_if_some is_start_in_range pool.start) (nat_le pool.began now) (is_past_if_some now pool.enabled) (nat_le now now) (past_itself now) h
 
 -- a stopping pool doesn't resize
@@ -94,7 +103,8 @@ stopping_not_resizing Resizing h = cc
 stopping_not_resizing Stopping h = refl
 
 -- a pool that is being deleted resizes
-not_deleting : (deleting resizing dedicated low scaling : Bool) → resizing ≡ false → (not deleting || (resizing && dedicated && low && scaling)) ≡ true → not deleting ≡ true
+not_deleting : (deleting resizing dedicated low scaling : Bool) → resizing ≡ false → (not deleting || (resizing && dedicated && low && scaling)) ≡ true
+    → not deleting ≡ true
 not_deleting false resizing dedicated low scaling r h = refl
 not_deleting true true dedicated low scaling r h = cc
 not_deleting true false dedicated low scaling r h = cc
@@ -138,7 +148,8 @@ ending_kept now run h =
     passes_changed is_going (withdrawn now) has_ending run (λ t. cc) (λ t. h)
 
 -- the same of a run that a search finds
-found_ending_kept : (now : ℕ) (found : Option RunRow) → is_some (option_and_then (λ (run : RunRow). ending_of run.state) found) ≡ true → is_some (option_and_then (λ (run : RunRow). ending_of run.state) (option_map (changed is_going (withdrawn now)) found)) ≡ true
+found_ending_kept : (now : ℕ) (found : Option RunRow) → is_some (option_and_then (λ (run : RunRow). ending_of run.state) found) ≡ true
+    → is_some (option_and_then (λ (run : RunRow). ending_of run.state) (option_map (changed is_going (withdrawn now)) found)) ≡ true
 found_ending_kept now None h = h
 found_ending_kept now (Some run) h = ending_kept now run h
 
@@ -149,7 +160,8 @@ main_ending_kept s task h =
     (found_ending_kept s.moment (find (λ run. is_present task run && is_main run.kind) s.runs) h)
 
 -- tests of a task that is not cut short: whether it is placed, busy, undisturbed, and its main run ended, before and after
-not_cut_short : (placed busy undisturbed ends after : Bool) → (placed && undisturbed && not ends) ≡ false → (ends ≡ true → after ≡ true) → (not placed || busy || not undisturbed || after) ≡ true
+not_cut_short : (placed busy undisturbed ends after : Bool) → (placed && undisturbed && not ends) ≡ false → (ends ≡ true → after ≡ true)
+    → (not placed || busy || not undisturbed || after) ≡ true
 not_cut_short true true u e a h k = refl
 not_cut_short true false false e a h k = refl
 not_cut_short true false true true a h k = k refl
@@ -193,7 +205,8 @@ module _ (s : State) (h : IsWellFormed s) where
   -- marks and closing
   opening_fitting : TasksAreFitting (opening s)
   opening_fitting = record {
-    marks = each_change (is_cut_short s) requeued has_fitting_marks has_fitting_marks (λ task t e. marks_requeued s task t) (λ task t e. e) s.tasks h.fitting.marks;
+    marks =
+        each_change (is_cut_short s) requeued has_fitting_marks has_fitting_marks (λ task t e. marks_requeued s task t) (λ task t e. e) s.tasks h.fitting.marks;
     closing = each_change_same (is_cut_short s) requeued is_closed_if_completed (λ task t e. e) s.tasks h.fitting.closing;
     attempts = each_change_same (is_cut_short s) requeued (λ task. nat_lt task.attempt s.next_run) (λ task t e. e) s.tasks h.fitting.attempts;
   }
@@ -203,7 +216,9 @@ module _ (s : State) (h : IsWellFormed s) where
   opening_named = record {
     jobs_of_tasks = each_change_same (is_cut_short s) requeued (λ task. has_job_row s task.job) (λ task t e. e) s.tasks h.named.jobs_of_tasks;
     jobs_of_runs = each_change_same is_going (withdrawn s.moment) (has_named_job s) (λ run t e. e) s.runs h.named.jobs_of_runs;
-    tasks_of_runs = each_change is_going (withdrawn s.moment) (has_named_task s) (has_named_task (opening s)) (λ run t. named_kept run) (λ run t. named_kept run) s.runs h.named.tasks_of_runs;
+    tasks_of_runs =
+        each_change is_going (withdrawn s.moment) (has_named_task s) (has_named_task (opening s)) (λ run t. named_kept run)
+        (λ run t. named_kept run) s.runs h.named.tasks_of_runs;
     main_runs = distinct_change is_going (withdrawn s.moment) are_one_attempt (λ x y t. refl) (λ x y t. refl) s.runs h.named.main_runs;
   }
 
@@ -226,18 +241,26 @@ module _ (s : State) (h : IsWellFormed s) where
       pools_of_nodes = refl;
       nodes_of_runs = each_weaker is_over (has_node_while_unended (opening s)) (λ run. or_first (has_node_row (opening s) run.node)) (opening s).runs over;
     };
-    belonging = each_weaker is_over (belongs (opening s)) (λ run. not_both (is_work run.kind) (is_unended run.state) (list_any (owns run) (opening s).tasks)) (opening s).runs over;
+    belonging =
+        each_weaker is_over (belongs (opening s)) (λ run. not_both (is_work run.kind) (is_unended run.state) (list_any (owns run) (opening s).tasks))
+        (opening s).runs over;
     ending = each_change (is_cut_short s) requeued (λ task. true) (can_be_settled (opening s))
-        (λ task t e. or_first (is_some (main_ending (opening s) (requeued task))) (or_second (not (is_placed task.stage) || is_busy (opening s) (requeued task)) refl))
-        (λ task t e. not_cut_short (is_placed task.stage) (is_busy (opening s) task) (is_undisturbed task) (is_some (main_ending s task)) (is_some (main_ending (opening s) task)) t (main_ending_kept s task))
+        (λ task t e. or_first (is_some (main_ending (opening s) (requeued task)))
+        (or_second (not (is_placed task.stage) || is_busy (opening s) (requeued task)) refl))
+        (λ task t e. not_cut_short (is_placed task.stage) (is_busy (opening s) task) (is_undisturbed task) (is_some (main_ending s task))
+        (is_some (main_ending (opening s) task)) t (main_ending_kept s task))
         s.tasks (each_any (λ task. true) (λ task. refl) s.tasks);
     naming = record {
       on_nodes = each_any (fits_nodes (opening s)) (λ run. refl) (opening s).runs;
-      of_jobs = each_weaker is_over names_no_task (λ run. not_both (is_preparation run.kind || is_release run.kind) (is_unended run.state) (is_none run.task)) (opening s).runs over;
+      of_jobs =
+          each_weaker is_over names_no_task (λ run. not_both (is_preparation run.kind || is_release run.kind) (is_unended run.state) (is_none run.task))
+          (opening s).runs over;
     };
     slots = refl;
     built = record {
-      runs = each_weaker is_over (λ run. is_start run.kind || is_main run.kind || not (is_unended run.state)) (λ run. or_second (is_start run.kind || is_main run.kind)) (opening s).runs over;
+      runs =
+          each_weaker is_over (λ run. is_start run.kind || is_main run.kind || not (is_unended run.state))
+          (λ run. or_second (is_start run.kind || is_main run.kind)) (opening s).runs over;
       nodes = refl;
     };
   }
@@ -259,7 +282,7 @@ module _ (s : State) (h : IsWellFormed s) where
     scales = h.rows.scales;
   }
 
-  -- as many rows as before
+  -- the same number of rows as before
   opening_counts : CountsAreInRange (opening s)
   opening_counts = record {
     pools = simp length-map h.counts.pools;
@@ -274,10 +297,15 @@ module _ (s : State) (h : IsWellFormed s) where
   -- pools, formulas and samples
   opening_pools : PoolsAreFitting (opening s)
   opening_pools = record {
-    deleting = each_change_same is_emptied emptied (is_deleting_whole s) (λ pool. deleting_emptied s pool) (change_where is_refilled (refilled s.moment) s.pools)
+    deleting =
+        each_change_same is_emptied emptied (is_deleting_whole s) (λ pool. deleting_emptied s pool) (change_where is_refilled (refilled s.moment) s.pools)
         (each_change_same is_refilled (refilled s.moment) (is_deleting_whole s) (λ pool t e. deleting_refilled s pool t) s.pools h.pools.deleting);
-    pools_of_scales = each_weaker (λ (scale : ScaleRow). has_pool_row s scale.pool) (λ (scale : ScaleRow). has_pool_row (opening s) scale.pool) (λ scale. pool_row_kept scale.pool) s.scales h.pools.pools_of_scales;
-    pools_of_samples = each_weaker (λ (sample : SampleRow). has_pool_row s sample.pool) (λ (sample : SampleRow). has_pool_row (opening s) sample.pool) (λ sample. pool_row_kept sample.pool) s.samples h.pools.pools_of_samples;
+    pools_of_scales =
+        each_weaker (λ (scale : ScaleRow). has_pool_row s scale.pool) (λ (scale : ScaleRow). has_pool_row (opening s) scale.pool)
+        (λ scale. pool_row_kept scale.pool) s.scales h.pools.pools_of_scales;
+    pools_of_samples =
+        each_weaker (λ (sample : SampleRow). has_pool_row s sample.pool) (λ (sample : SampleRow). has_pool_row (opening s) sample.pool)
+        (λ sample. pool_row_kept sample.pool) s.samples h.pools.pools_of_samples;
     labels = h.pools.labels;
     order = h.pools.order;
     covered = h.pools.covered;

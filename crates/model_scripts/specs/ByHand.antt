@@ -10,7 +10,10 @@ use Rattle.bt_rows.specs.declared.due.Outcome.TheVariants.{Success, Again}
 use Rattle.bt_rows.specs.declared.due.ResizeEnd.TheVariants.{Reached, TimedOut}
 use Rattle.bt_rows.specs.declared.due.Due.{Due}
 use Rattle.bt_rows.specs.declared.due.Due.TheVariants.{TaskSettled, PoolResized, NodeAdded, TaskPlaced}
-use Rattle.batch_model.specs.Variants.{State, empty_state, Alloc, Steady, Resizing, Stopping, ByRequeue, PoolRow, NodeStage, Starting, StartFailed, Leaving, NodeRow, JobState, JobActive, Disabling, Disabled, Enabling, Terminating, JobCompleted, Deleting, JobRow, Want, WantRequeue, WantTerminate, WantWall, WantDelete, TaskRow, Code, RunState, Waiting, Queued, Taken, Ended, Withdrawn, RunRow}
+use Rattle.batch_model.specs.Variants.{State, empty_state, Alloc, Steady, Resizing, Stopping, ByRequeue, PoolRow, NodeStage, Starting, StartFailed, Leaving}
+use Rattle.batch_model.specs.Variants.{NodeRow, JobState, JobActive, Disabling, Disabled, Enabling, Terminating, JobCompleted, Deleting, JobRow, Want}
+use Rattle.batch_model.specs.Variants.{WantRequeue, WantTerminate, WantWall, WantDelete, TaskRow, Code, RunState, Waiting, Queued, Taken, Ended, Withdrawn}
+use Rattle.batch_model.specs.Variants.{RunRow}
 use Rattle.batch_model.specs.Steps.{DueStep}
 use Rattle.batch_model.specs.Dues.{due_step}
 use Rattle.batch_model.specs.Events.{event_step}

@@ -149,7 +149,8 @@ is_good_step s step = is_sound step.state && lex_lt (rank step.state) (rank s)
 -- due steps to rest, in less than so many
 abbrev pub tested_rest : ℕ → State → Tested
 tested_rest zero s = record { good = false; state = s }
-tested_rest (suc most) s = elim (due_step seat_count s) [ None ↦ record { good = true; state = s } | Some step ↦ with_test (is_good_step s step) (tested_rest most step.state) ]
+tested_rest (suc most) s =
+    elim (due_step seat_count s) [ None ↦ record { good = true; state = s } | Some step ↦ with_test (is_good_step s step) (tested_rest most step.state) ]
 
 -- each event of the calls leaves sound tables, and good steps to rest follow
 abbrev pub are_good_from : State → List Call → Bool

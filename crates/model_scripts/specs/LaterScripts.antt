@@ -1,7 +1,8 @@
 -- What is not built yet.
 use Rattle.std.specs.Prelude.{List, [], ◌∷◌, map, replicate, Some, None, pos, negsuc, codes, true, false}
 use Rattle.bt_rows.specs.declared.event.EventKind.{EventKind}
-use Rattle.bt_rows.specs.declared.event.EventKind.TheVariants.{AddPool, DeletePool, StopResize, DisableAutoscale, EnableJob, TerminateJob, DeleteJob, AddJob, AddTask, DeleteTask, TerminateTask, ReactivateTask, Take, End}
+use Rattle.bt_rows.specs.declared.event.EventKind.TheVariants.{AddPool, DeletePool, DisableAutoscale, AddJob}
+use Rattle.bt_rows.specs.declared.event.EventKind.TheVariants.{AddTask, DeleteTask, Take, End}
 use Rattle.bt_rows.specs.declared.reply.Reply.{Reply}
 use Rattle.bt_rows.specs.declared.reply.Reply.TheVariants.{Status, Refused}
 use Rattle.bt_rows.specs.declared.refusal.Refusal.TheVariants as refusal
@@ -177,22 +178,12 @@ unsettled_tasks_rows = record {
   moment = 2;
 }
 
--- events that are not read yet
+-- events that are not built yet: one of pools, one of formulas and one of tasks
 abbrev pub unbuilt : List EventKind
-unbuilt =
-    DeletePool (codes "p")
-    ∷ StopResize (codes "p")
-    ∷ DisableAutoscale (codes "p")
-    ∷ EnableJob (codes "j")
-    ∷ TerminateJob (codes "j") None
-    ∷ DeleteJob (codes "j")
-    ∷ DeleteTask (codes "j") (codes "t")
-    ∷ TerminateTask (codes "j") (codes "t")
-    ∷ ReactivateTask (codes "j") (codes "t")
-    ∷ []
+unbuilt = DeletePool (codes "p") ∷ DisableAutoscale (codes "p") ∷ DeleteTask (codes "j") (codes "t") ∷ []
 
 abbrev pub replies_to_unbuilt : List Reply
 replies_to_unbuilt = map (λ event. (event_step 0 event empty_state).reply) unbuilt
 
 abbrev pub all_unreadable : List Reply
-all_unreadable = replicate 9 (Refused refusal.UnreadableBody)
+all_unreadable = replicate 3 (Refused refusal.UnreadableBody)

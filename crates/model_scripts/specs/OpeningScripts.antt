@@ -6,7 +6,8 @@ use Rattle.bt_rows.specs.declared.refusal.Refusal.TheVariants as refusal
 use Rattle.bt_rows.specs.declared.due.Outcome.TheVariants.{Success, Again}
 use Rattle.bt_rows.specs.declared.due.ResizeEnd.TheVariants.{Reached}
 use Rattle.bt_rows.specs.declared.due.Due.TheVariants.{TaskSettled, PoolResized, NodeAdded, TaskPlaced}
-use Rattle.batch_model.specs.Variants.{State, empty_state, Alloc, Steady, Resizing, Stopping, ResizeError, AllocationTimedOut, ResizeStopped, PoolRow, Starting, Usable, JobActive, Placed, Code, Want, WantRequeue, WantTerminate, TaskRow, StartRun, TaskRun, Queued, Ended, Withdrawn}
+use Rattle.batch_model.specs.Variants.{State, empty_state, Alloc, Steady, Resizing, Stopping, ResizeError, AllocationTimedOut, ResizeStopped, PoolRow, Starting}
+use Rattle.batch_model.specs.Variants.{Usable, JobActive, Placed, Code, Want, WantRequeue, WantTerminate, TaskRow, StartRun, TaskRun, Queued, Ended, Withdrawn}
 use Rattle.batch_model.specs.Pools.{new_pool}
 use Rattle.batch_model.specs.Events.{event_step}
 use Rattle.batch_model.specs.Opening.{opening}

@@ -4,7 +4,8 @@ use Rattle.std.specs.Option.{option_map}
 use Rattle.bt_rows.specs.declared.event.EventKind.{EventKind}
 use Rattle.bt_rows.specs.declared.reply.Reply.{Reply}
 use Rattle.bt_rows.specs.declared.due.Due.{Due}
-use Rattle.batch_model.specs.Variants.{State, empty_state, Alloc, PoolRow, NodeStage, NodeRow, JobState, JobRow, TaskStage, How, Closed, TaskRow, RunKind, RunState, RunRow}
+use Rattle.batch_model.specs.Variants.{State, empty_state, Alloc, PoolRow, NodeStage, NodeRow, JobState, JobRow, TaskStage, How, Closed, TaskRow, RunKind}
+use Rattle.batch_model.specs.Variants.{RunState, RunRow}
 use Rattle.batch_model.specs.Slots.{held_slots}
 use Rattle.batch_model.specs.Steps.{Answered, DueStep}
 use Rattle.batch_model.specs.Dues.{due_step}

@@ -11,7 +11,8 @@ use Rattle.bt_rows.specs.declared.due.Outcome.TheVariants.{Success}
 use Rattle.bt_rows.specs.declared.due.ResizeEnd.TheVariants.{Reached}
 use Rattle.bt_rows.specs.declared.due.Due.{Due}
 use Rattle.bt_rows.specs.declared.due.Due.TheVariants.{TaskSettled, PoolResized, NodeAdded, TaskPlaced}
-use Rattle.batch_model.specs.Variants.{State, Steady, Usable, JobActive, TaskStage, Active, Placed, Completed, TaskRow, ByEnding, Code, TaskRun, Queued, Ended, Pack}
+use Rattle.batch_model.specs.Variants.{State, Steady, Usable, JobActive, TaskStage, Active, Placed, Completed, TaskRow, ByEnding, Code, TaskRun, Queued, Ended}
+use Rattle.batch_model.specs.Variants.{Pack}
 use Rattle.batch_model.specs.Slots.{held_slots}
 use Rattle.model_scripts.specs.Scripts.{Call, at, Line, line, Sheet}
 use Rattle.model_scripts.specs.ByHand.{placed_task, with_runs_in, run_states}

@@ -6,7 +6,8 @@ use Rattle.bt_rows.specs.declared.reply.Reply.TheVariants.{Status, Refused}
 use Rattle.bt_rows.specs.declared.refusal.Refusal.TheVariants as refusal
 use Rattle.bt_rows.specs.declared.due.ResizeEnd.TheVariants.{Reached}
 use Rattle.bt_rows.specs.declared.due.Due.TheVariants.{PoolResized, NodeAdded, TaskPlaced}
-use Rattle.batch_model.specs.Variants.{Steady, Starting, Usable, StartFailed, JobActive, Active, Placed, Code, NoCode, NotStarted, StartRun, TaskRun, Queued, Ended}
+use Rattle.batch_model.specs.Variants.{Steady, Starting, Usable, StartFailed, JobActive, Active, Placed, Code, NoCode, NotStarted, StartRun, TaskRun, Queued}
+use Rattle.batch_model.specs.Variants.{Ended}
 use Rattle.model_scripts.specs.Scripts.{Call, at, Line, line, Sheet}
 use Rattle.model_scripts.specs.Bodies.{pool_body, job_body, task_body}
 

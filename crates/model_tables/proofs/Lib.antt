@@ -1,3 +1,6 @@
+pub mod FoundRows
+pub mod StartRuns
+pub mod NotBuilt
 pub mod RunsMove
 pub mod TasksKept
 pub mod NodeChanged

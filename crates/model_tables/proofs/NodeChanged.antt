@@ -29,7 +29,8 @@ module _ (test : NodeRow → Bool) (stage_of : NodeRow → NodeStage) (tries_of 
   node_there run h = ap (λ b. not (is_unended run.state) || b) (any_change_same test change (is_node run.node) (λ node t. refl) s.nodes) ∙ h
 
   -- nodes that do not leave still do not
-  pub consistent_node_changed : (seats : ℕ) → ((node : NodeRow) → not (is_leaving node.stage) ≡ true → not (is_leaving (stage_of node)) ≡ true) → IsConsistent seats s → IsConsistent seats (change_nodes test (restaged stage_of tries_of) s)
+  pub consistent_node_changed : (seats : ℕ) → ((node : NodeRow) → not (is_leaving node.stage) ≡ true → not (is_leaving (stage_of node)) ≡ true)
+      → IsConsistent seats s → IsConsistent seats (change_nodes test (restaged stage_of tries_of) s)
   consistent_node_changed seats stays h = record {
     keys = record {
       pools = h.keys.pools;

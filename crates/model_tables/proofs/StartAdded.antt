@@ -1,5 +1,5 @@
 -- Tables stay sound when a start run is queued on a node.
-use Rattle.std.proofs.Common.{◌≡◌, ℕ, ◌+◌, ◌<◌, Bool, true, false, not, ◌&&◌, ◌||◌, nat_eq, nat_lt, List, [], ◌∷◌, ◌++◌, filter, sum_by, refl, ap, arith, ◌≤◌, nat_le}
+use Rattle.std.proofs.Common.{◌≡◌, ℕ, ◌+◌, ◌<◌, Bool, true, false, not, ◌&&◌, ◌||◌, nat_eq, nat_lt, List, [], ◌∷◌, ◌++◌, filter, sum_by, refl, ap, arith, ◌≤◌}
 use Rattle.std.specs.List.{list_any}
 use Rattle.bt_base.specs.Ids.{same}
 use Rattle.bt_rows.specs.Keys.{same_run}
@@ -8,7 +8,8 @@ use Rattle.batch_model.specs.Rows.{is_node, add_run_row}
 use Rattle.batch_model.specs.Runs.{is_start, is_main, is_unended, is_present, is_busy_for, start_run}
 use Rattle.batch_model.specs.Tasks.{is_placed}
 use Rattle.batch_model.specs.Slots.{owns, holds_on, held_slots}
-use Rattle.batch_model.specs.Sound.{IsConsistent, has_node_row, has_node_while_unended, belongs, can_be_settled, is_of_pool, fits_nodes, names_no_task, has_slots_for}
+use Rattle.batch_model.specs.Sound.{IsConsistent, has_node_row, has_node_while_unended, belongs, can_be_settled, is_of_pool, fits_nodes, names_no_task}
+use Rattle.batch_model.specs.Sound.{has_slots_for}
 use Rattle.batch_model.specs.WellFormed.{has_named_job, has_named_task, are_one_attempt}
 use Rattle.batch_model.specs.Variants.{State, StartTask, NodeRow, TaskRow, RunRow}
 use Rattle.model_lists.proofs.Tests.{and_true, true_not}
@@ -33,7 +34,8 @@ and_none true = refl
 and_none false = refl
 
 -- a number that some row has is below the next one
-row_below : (s : State) (number : ℕ) → has_node_row s number ≡ true → Each (λ (node : NodeRow). nat_lt node.number s.next_node) s.nodes → nat_lt number s.next_node ≡ true
+row_below : (s : State) (number : ℕ) → has_node_row s number ≡ true → Each (λ (node : NodeRow). nat_lt node.number s.next_node) s.nodes
+    → nat_lt number s.next_node ≡ true
 row_below s number there below =
     let row = find_any (is_node number) s.nodes there in
     equal_below row.0.number number s.next_node (find_test (is_node number) row.0 s.nodes row.1)
@@ -83,7 +85,9 @@ module _ (s : State) (node : NodeRow) (start : StartTask) where
 
   -- the run fits the nodes
   run_fits : Each (λ (other : NodeRow). not (is_node node.number other) || same other.pool node.pool) s.nodes → fits_nodes s run ≡ true
-  run_fits = each_weaker (λ (other : NodeRow). not (is_node node.number other) || same other.pool node.pool) (is_of_pool run) (λ other k. beside (is_node node.number other) (same other.pool node.pool) k) s.nodes
+  run_fits =
+      each_weaker (λ (other : NodeRow). not (is_node node.number other) || same other.pool node.pool) (is_of_pool run)
+      (λ other k. beside (is_node node.number other) (same other.pool node.pool) k) s.nodes
     where
       beside : (a b : Bool) → (not a || b) ≡ true → (not a || (b && true)) ≡ true
       beside true b k = and_true k refl
@@ -95,7 +99,8 @@ module _ (s : State) (node : NodeRow) (start : StartTask) where
       rw (any_append_same (is_busy_for task) s.runs run refl, find_append_same (λ (each : RunRow). is_present task each && is_main each.kind) s.runs run refl) h
 
 -- a start run on a node that is there keeps tables sound
-pub consistent_start_added : (seats : ℕ) (s : State) (node : NodeRow) (start : StartTask) → IsConsistent seats s → HasNode s node → IsConsistent seats (add_run_row (start_run s node start) s)
+pub consistent_start_added : (seats : ℕ) (s : State) (node : NodeRow) (start : StartTask) → IsConsistent seats s → HasNode s node
+    → IsConsistent seats (add_run_row (start_run s node start) s)
 consistent_start_added seats s node start h has = record {
   keys = record {
     pools = h.keys.pools;
@@ -148,7 +153,9 @@ consistent_start_added seats s node start h has = record {
   };
   slots = each_weaker (has_slots_for s) (has_slots_for (add_run_row (start_run s node start) s)) (slots_still s node start) s.nodes h.slots;
   built = record {
-    runs = each_append (λ (each : RunRow). is_start each.kind || is_main each.kind || not (is_unended each.state)) s.runs (start_run s node start) h.built.runs refl;
+    runs =
+        each_append (λ (each : RunRow). is_start each.kind || is_main each.kind || not (is_unended each.state)) s.runs
+        (start_run s node start) h.built.runs refl;
     nodes = h.built.nodes;
   };
 }
@@ -164,7 +171,8 @@ left_in_range next more first left =
 -- a start run
 
 -- the new run is valid
-start_valid : (s : State) (node : NodeRow) (start : StartTask) → 1 ≤ s.next_run → has_number_left s.next_run ≡ true → is_run_valid s.moment (start_run s node start) ≡ true
+start_valid : (s : State) (node : NodeRow) (start : StartTask) → 1 ≤ s.next_run → has_number_left s.next_run ≡ true
+    → is_run_valid s.moment (start_run s node start) ≡ true
 start_valid s node start first left =
     and_true
     (and_true
@@ -173,7 +181,8 @@ start_valid s node start first left =
     refl
 
 -- while run numbers last
-pub limited_start_added : (s : State) (node : NodeRow) (start : StartTask) → IsWithinLimits s → has_number_left s.next_run ≡ true → IsWithinLimits (add_run_row (start_run s node start) s)
+pub limited_start_added : (s : State) (node : NodeRow) (start : StartTask) → IsWithinLimits s → has_number_left s.next_run ≡ true
+    → IsWithinLimits (add_run_row (start_run s node start) s)
 limited_start_added s node start h left =
     let most : s.next_run ≤ last_number = ordered s.next_run last_number left in
     record {
@@ -187,12 +196,29 @@ limited_start_added s node start h left =
         samples = h.rows.samples;
         scales = h.rows.scales;
       };
-      counts = record { pools = h.counts.pools; jobs = h.counts.jobs; tasks = h.counts.tasks; first_node = h.counts.first_node; next_node = h.counts.next_node; first_run = omega arith; next_run = omega (arith, most) };
+      counts = record {
+        pools = h.counts.pools;
+        jobs = h.counts.jobs;
+        tasks = h.counts.tasks;
+        first_node = h.counts.first_node;
+        next_node = h.counts.next_node;
+        first_run = omega arith;
+        next_run = omega (arith, most);
+      };
       quiet = h.quiet;
-      pools = record { deleting = h.pools.deleting; pools_of_scales = h.pools.pools_of_scales; pools_of_samples = h.pools.pools_of_samples; labels = h.pools.labels; order = h.pools.order; covered = h.pools.covered; kept = h.pools.kept };
+      pools = record {
+        deleting = h.pools.deleting;
+        pools_of_scales = h.pools.pools_of_scales;
+        pools_of_samples = h.pools.pools_of_samples;
+        labels = h.pools.labels;
+        order = h.pools.order;
+        covered = h.pools.covered;
+        kept = h.pools.kept;
+      };
       built = record { preps = h.built.preps };
     }
 
 -- a new start run has no end
-pub unended_start_added : (s : State) (node : NodeRow) (start : StartTask) → UnendedRunsHaveNoEnd s → UnendedRunsHaveNoEnd (add_run_row (start_run s node start) s)
+pub unended_start_added : (s : State) (node : NodeRow) (start : StartTask) → UnendedRunsHaveNoEnd s
+    → UnendedRunsHaveNoEnd (add_run_row (start_run s node start) s)
 unended_start_added s node start h = each_append has_no_end_yet s.runs (start_run s node start) h refl

@@ -13,7 +13,7 @@ use Rattle.batch_model.specs.Variants.{State, PoolRow, NodeRow, RunRow}
 use Rattle.model_lists.proofs.RowLists.{each_append, each_weaker, each_of_two, any_append_old}
 use Rattle.model_lists.proofs.RowSums.{count_append}
 
--- so many of these runs are unended start runs on the node
+-- the number of these runs that are unended start runs on the node
 abbrev pub starts_on : List RunRow → ℕ → ℕ
 starts_on runs node = count_by (is_unended_start_on node) runs
 
@@ -37,7 +37,7 @@ or_later_second false true c d give h = rw (give refl) refl
 or_later_second false false true d give h = refl
 or_later_second false false false d give h = h
 
--- fewer together with as many
+-- fewer together with the same number
 few_still : (tries more less next : ℕ) → less ≤ more → nat_lt (tries + more) next ≡ true → nat_lt (tries + less) next ≡ true
 few_still tries more less next h k = grind (arith, nat_tests)
 
@@ -47,11 +47,13 @@ few_next tries count after next true h k = grind (arith, nat_tests)
 few_next tries count after next false h k = grind (arith, nat_tests)
 
 -- runs change: no node has more unended start runs, and a start run that ended with code 0 stays such
-pub starts_with_runs : (s : State) (runs : List RunRow) → ((node : ℕ) → starts_on runs node ≤ starts_on s.runs node) → ((node : ℕ) → started_among s.runs node ≡ true → started_among runs node ≡ true) → StartsAreSound s → StartsAreSound (record s { runs = runs })
+pub starts_with_runs : (s : State) (runs : List RunRow) → ((node : ℕ) → starts_on runs node ≤ starts_on s.runs node)
+    → ((node : ℕ) → started_among s.runs node ≡ true → started_among runs node ≡ true) → StartsAreSound s → StartsAreSound (record s { runs = runs })
 starts_with_runs s runs fewer still h = record {
   usable =
       each_weaker (has_usable_start s) (has_usable_start (record s { runs = runs }))
-      (λ node. or_later (not (is_usable node.stage) || awaits_no_start s node.pool) (started_among s.runs node.number) (started_among runs node.number) (still node.number))
+      (λ node. or_later (not (is_usable node.stage) || awaits_no_start s node.pool) (started_among s.runs node.number) (started_among runs node.number)
+      (still node.number))
       s.nodes h.usable;
   tries =
       each_weaker (has_few_tries s) (has_few_tries (record s { runs = runs }))
@@ -64,7 +66,8 @@ pub starts_run_added : (s : State) (run : RunRow) → StartsAreSound s → Start
 starts_run_added s run h = record {
   usable =
       each_weaker (has_usable_start s) (has_usable_start (add_run_row run s))
-      (λ node. or_later (not (is_usable node.stage) || awaits_no_start s node.pool) (started_among s.runs node.number) (started_among (s.runs ++ run ∷ []) node.number)
+      (λ node. or_later (not (is_usable node.stage) || awaits_no_start s node.pool) (started_among s.runs node.number)
+      (started_among (s.runs ++ run ∷ []) node.number)
       (any_append_old (is_good_start node.number) s.runs run))
       s.nodes h.usable;
   tries =
@@ -75,7 +78,8 @@ starts_run_added s run h = record {
 }
 
 -- a node is added of which the same can be said
-pub starts_node_added : (s : State) (node : NodeRow) → has_usable_start s node ≡ true → has_few_tries s node ≡ true → StartsAreSound s → StartsAreSound (add_node_row node s)
+pub starts_node_added : (s : State) (node : NodeRow) → has_usable_start s node ≡ true → has_few_tries s node ≡ true → StartsAreSound s
+    → StartsAreSound (add_node_row node s)
 starts_node_added s node usable few h = record {
   usable = each_append (has_usable_start s) s.nodes node h.usable usable;
   tries = each_append (has_few_tries s) s.nodes node h.tries few;
@@ -86,11 +90,14 @@ abbrev pub none_awaited : List PoolRow → List ℕ → Bool
 none_awaited pools id = list_all (λ row. not (is_pool id row && waits_for_start row)) pools
 
 -- pools change: where nodes are and no start task is waited for, none is afterwards
-pub starts_with_pools : (s : State) (pools : List PoolRow) → Each (λ (node : NodeRow). has_pool_row s node.pool) s.nodes → ((id : List ℕ) → has_pool_row s id ≡ true → awaits_no_start s id ≡ true → none_awaited pools id ≡ true) → StartsAreSound s → StartsAreSound (record s { pools = pools })
+pub starts_with_pools : (s : State) (pools : List PoolRow) → Each (λ (node : NodeRow). has_pool_row s node.pool) s.nodes
+    → ((id : List ℕ) → has_pool_row s id ≡ true → awaits_no_start s id ≡ true → none_awaited pools id ≡ true) → StartsAreSound s
+    → StartsAreSound (record s { pools = pools })
 starts_with_pools s pools there still h = record {
   usable =
       each_of_two (λ (node : NodeRow). has_pool_row s node.pool) (has_usable_start s) (has_usable_start (record s { pools = pools }))
-      (λ node e. or_later_second (not (is_usable node.stage)) (awaits_no_start s node.pool) (none_awaited pools node.pool) (has_started s node.number) (still node.pool e))
+      (λ node e. or_later_second (not (is_usable node.stage)) (awaits_no_start s node.pool) (none_awaited pools node.pool) (has_started s node.number)
+      (still node.pool e))
       s.nodes there h.usable;
   tries = h.tries;
 }

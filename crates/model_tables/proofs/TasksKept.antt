@@ -24,7 +24,14 @@ pub record Marks : Type 0 where
 
 -- the task with these marks
 abbrev pub marked : (TaskRow → Marks) → TaskRow → TaskRow
-marked marks task = record task { stage = (marks task).stage; wanted = (marks task).wanted; fail = (marks task).fail; started = (marks task).started; closed = (marks task).closed }
+marked marks task =
+    record task {
+      stage = (marks task).stage;
+      wanted = (marks task).wanted;
+      fail = (marks task).fail;
+      started = (marks task).started;
+      closed = (marks task).closed;
+    }
 
 -- one of two under which the other stands
 both_under : (a b c : Bool) → (b ≡ true → c ≡ true) → (a && b) ≡ true → (a && c) ≡ true
@@ -57,25 +64,52 @@ module _ (marks : TaskRow → Marks) where
     slots_after : (s : State) (node : ℕ) → held_slots (after s) node ≤ held_slots s node
     slots_after s node =
         sum_fewer (λ (run : RunRow). run.slots) (holds_on s node) (holds_on (after s) node)
-        (λ run k. both_under (nat_eq run.node node) (list_any (owns run) (map (marked marks) s.tasks)) (list_any (owns run) s.tasks) (owned_before s run) k) s.runs
+        (λ run k. both_under (nat_eq run.node node) (list_any (owns run) (map (marked marks) s.tasks)) (list_any (owns run) s.tasks)
+        (owned_before s run) k) s.runs
 
     -- tables whose tasks keep what they are
-    pub consistent_marked : (seats : ℕ) (s : State) → IsConsistent seats s → Each has_fitting_marks (map (marked marks) s.tasks) → Each is_closed_if_completed (map (marked marks) s.tasks) → RunsBelong (record s { tasks = map (marked marks) s.tasks }) → PlacedTasksEnd (record s { tasks = map (marked marks) s.tasks }) → IsConsistent seats (record s { tasks = map (marked marks) s.tasks })
+    pub consistent_marked : (seats : ℕ) (s : State) → IsConsistent seats s → Each has_fitting_marks (map (marked marks) s.tasks)
+        → Each is_closed_if_completed (map (marked marks) s.tasks) → RunsBelong (record s { tasks = map (marked marks) s.tasks })
+        → PlacedTasksEnd (record s { tasks = map (marked marks) s.tasks }) → IsConsistent seats (record s { tasks = map (marked marks) s.tasks })
     consistent_marked seats s h marks_fit closing_fits belong end = record {
-      keys = record { pools = h.keys.pools; nodes = h.keys.nodes; jobs = h.keys.jobs; tasks = distinct_map (marked marks) same_task same_task (λ task other e. e) s.tasks h.keys.tasks; runs = h.keys.runs; preps = h.keys.preps; samples = h.keys.samples; scales = h.keys.scales };
-      numbers = record { begun = h.numbers.begun; runs = h.numbers.runs; nodes = h.numbers.nodes; nodes_of_runs = h.numbers.nodes_of_runs; order = h.numbers.order };
+      keys = record {
+        pools = h.keys.pools;
+        nodes = h.keys.nodes;
+        jobs = h.keys.jobs;
+        tasks = distinct_map (marked marks) same_task same_task (λ task other e. e) s.tasks h.keys.tasks;
+        runs = h.keys.runs;
+        preps = h.keys.preps;
+        samples = h.keys.samples;
+        scales = h.keys.scales;
+      };
+      numbers = record {
+        begun = h.numbers.begun;
+        runs = h.numbers.runs;
+        nodes = h.numbers.nodes;
+        nodes_of_runs = h.numbers.nodes_of_runs;
+        order = h.numbers.order;
+      };
       fitting = record {
         marks = marks_fit;
         closing = closing_fits;
-        attempts = each_map (marked marks) (λ (task : TaskRow). nat_lt task.attempt s.next_run) (λ (task : TaskRow). nat_lt task.attempt s.next_run) (λ task e. e) s.tasks h.fitting.attempts;
+        attempts =
+            each_map (marked marks) (λ (task : TaskRow). nat_lt task.attempt s.next_run) (λ (task : TaskRow). nat_lt task.attempt s.next_run)
+            (λ task e. e) s.tasks h.fitting.attempts;
       };
       named = record {
-        jobs_of_tasks = each_map (marked marks) (λ (task : TaskRow). has_job_row s task.job) (λ (task : TaskRow). has_job_row s task.job) (λ task e. e) s.tasks h.named.jobs_of_tasks;
+        jobs_of_tasks =
+            each_map (marked marks) (λ (task : TaskRow). has_job_row s task.job) (λ (task : TaskRow). has_job_row s task.job)
+            (λ task e. e) s.tasks h.named.jobs_of_tasks;
         jobs_of_runs = h.named.jobs_of_runs;
         tasks_of_runs = each_weaker (has_named_task s) (has_named_task (after s)) (λ run e. named_after s run ∙ e) s.runs h.named.tasks_of_runs;
         main_runs = h.named.main_runs;
       };
-      seated = record { distinct = h.seated.distinct; in_range = h.seated.in_range; pools_of_nodes = h.seated.pools_of_nodes; nodes_of_runs = h.seated.nodes_of_runs };
+      seated = record {
+        distinct = h.seated.distinct;
+        in_range = h.seated.in_range;
+        pools_of_nodes = h.seated.pools_of_nodes;
+        nodes_of_runs = h.seated.nodes_of_runs;
+      };
       belonging = belong;
       ending = end;
       naming = record { on_nodes = h.naming.on_nodes; of_jobs = h.naming.of_jobs };

@@ -1,13 +1,9 @@
 -- Sound tables are well formed, as empty ones are.
-use Rattle.std.proofs.Common.{◌≡◌, ℕ, Bool, nat_lt, List, [], refl, sym, subst, arith}
-use Rattle.batch_model.specs.Finding.{Each}
+use Rattle.std.proofs.Common.{ℕ, nat_lt, refl, arith}
 use Rattle.batch_model.specs.Sound.{IsSound}
 use Rattle.batch_model.specs.WellFormed.{IsWellFormed, has_few_preparations}
-use Rattle.batch_model.specs.Variants.{State, empty_state, PrepRow}
-
--- nothing is prepared, so each preparation passes
-none_prepared : (test : PrepRow → Bool) (preps : List PrepRow) → preps ≡ [] → Each test preps
-none_prepared test preps e = subst (λ rows. Each test rows) (sym e) refl
+use Rattle.batch_model.specs.Variants.{State, empty_state}
+use Rattle.model_tables.proofs.NotBuilt.{none_prepared}
 
 -- sound tables are well formed
 pub well_formed : (seats : ℕ) (s : State) → IsSound seats s → IsWellFormed s
@@ -36,7 +32,15 @@ pub well_formed_empty : IsWellFormed empty_state
 well_formed_empty = record {
   keys = record { pools = tt; nodes = tt; jobs = tt; tasks = tt; runs = tt; preps = tt; samples = tt; scales = tt };
   rows = record { moment = omega arith; pools = refl; nodes = refl; jobs = refl; tasks = refl; runs = refl; samples = refl; scales = refl };
-  counts = record { pools = omega arith; jobs = omega arith; tasks = omega arith; first_node = omega arith; next_node = omega arith; first_run = omega arith; next_run = omega arith };
+  counts = record {
+    pools = omega arith;
+    jobs = omega arith;
+    tasks = omega arith;
+    first_node = omega arith;
+    next_node = omega arith;
+    first_run = omega arith;
+    next_run = omega arith;
+  };
   counters = record { runs = refl; nodes = refl; nodes_of_runs = refl; nodes_of_preps = refl };
   fitting = record { marks = refl; closing = refl; attempts = refl };
   tries = record { nodes = refl; preps = refl };

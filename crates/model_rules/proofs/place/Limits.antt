@@ -17,29 +17,16 @@ use Rattle.batch_model.specs.Placing.{places_tasks, is_ready, is_placeable, plac
 use Rattle.batch_model.specs.Limits.{task_limit}
 use Rattle.batch_model.specs.Sound.{IsWithinLimits}
 use Rattle.batch_model.specs.WellFormed.{is_task_in_range, is_task_valid, is_run_valid, has_no_placed_if_quiet}
-use Rattle.batch_model.specs.Variants.{State, NodeRow, JobRow, JobState, JobActive, Disabling, Disabled, Enabling, Terminating, JobCompleted, Deleting, TaskRow, RunRow, TaskRun, Queued}
+use Rattle.batch_model.specs.Variants.{State, NodeRow, JobRow, JobState, JobActive, Disabling, Disabled, Enabling, Terminating, JobCompleted, Deleting, TaskRow}
+use Rattle.batch_model.specs.Variants.{RunRow, TaskRun, Queued}
 use Rattle.model_lists.proofs.Tests.{and_true, and_first, and_second, asked}
 use Rattle.model_lists.proofs.RowLists.{each_append, each_of_two, each_found, any_none, none_any}
 use Rattle.model_lists.proofs.ChangedRows.{each_change_same}
 use Rattle.model_lists.proofs.DistinctLists.{each_with_key}
-use Rattle.model_lists.proofs.NextNumbers.{is_not_after_itself}
-use Rattle.model_lists.proofs.ChangedRows.{change_keeps_length}
-use Rattle.model_rules.proofs.LimitsTasks.{less_placed}
-
--- numbers
-
--- what is at most a number, as a test and as an order
-tested : (a b : ℕ) → a ≤ b → nat_le a b ≡ true
-tested a b h = grind (arith, nat_tests)
-
-ordered : (a b : ℕ) → nat_le a b ≡ true → a ≤ b
-ordered a b h = grind (arith, nat_tests)
-
--- the next number, where it is left, is in its range
-left_in_range : (next more : ℕ) → 1 ≤ next → has_number_left next ≡ true → is_from_to 1 (last_number + more) next ≡ true
-left_in_range next more first left =
-    let most : next ≤ last_number = ordered next last_number left in
-    and_true (tested 1 next first) (tested next (last_number + more) (omega (arith, most)))
+use Rattle.model_lists.proofs.NextNumbers.{is_not_after_itself, tested, ordered}
+use Rattle.model_lists.proofs.Lengths.{change_keeps_length}
+use Rattle.model_tables.proofs.StartAdded.{left_in_range}
+use Rattle.model_rules.proofs.Rules.{less_placed}
 
 -- a task that is placed
 
@@ -63,7 +50,9 @@ active_loud Terminating h = refl
 active_loud JobCompleted h = cc
 active_loud Deleting h = refl
 
-module _ (s : State) (job : JobRow) (node : NodeRow) (task : TaskRow) (test : JobRow → Bool) (task_test : TaskRow → Bool) (h : IsWithinLimits s) (keys : AreDistinct same_job s.jobs) (there : find test s.jobs ≡ Some job) (active : places_tasks job ≡ true) (f : find task_test s.tasks ≡ Some task) (can : is_placeable job task ≡ true) where
+module _ (s : State) (job : JobRow) (node : NodeRow) (task : TaskRow) (test : JobRow → Bool) (task_test : TaskRow → Bool) (h : IsWithinLimits s)
+    (keys : AreDistinct same_job s.jobs) (there : find test s.jobs ≡ Some job) (active : places_tasks job ≡ true) (f : find task_test s.tasks ≡ Some task)
+    (can : is_placeable job task ≡ true) where
   -- the tables after the step, and the new run
   abbrev after : State
   after = (place s task node).state
@@ -79,7 +68,9 @@ module _ (s : State) (job : JobRow) (node : NodeRow) (task : TaskRow) (test : Jo
   few_slots : nat_le task.slots 8 ≡ true
   few_slots =
       let in_range : is_task_in_range task ≡ true = and_first _ _ (and_first _ _ task_valid) in
-      let slots : is_slot_count task.slots ≡ true = and_first _ _ (and_first _ _ (and_first _ _ (and_first _ _ (and_first _ _ (and_first _ _ (and_first _ _ in_range)))))) in
+      let slots : is_slot_count task.slots ≡ true =
+      and_first _ _ (and_first _ _ (and_first _ _ (and_first _ _ (and_first _ _ (and_first _ _ (and_first _ _ in_range))))))
+      in
       and_second (nat_le 1 task.slots) _ slots
 
   -- it is so, too, when it is placed
@@ -106,7 +97,8 @@ module _ (s : State) (job : JobRow) (node : NodeRow) (task : TaskRow) (test : Jo
       (same_equiv.symm other.id job.id ∙ (sym (same_equiv.congr task.job job.id other.id of_job) ∙ t))
 
   -- no task of a quiet job is placed
-  quiet_still : (other : JobRow) → (not (same_job other job) || not (is_quiet other.state)) ≡ true → has_no_placed_if_quiet s other ≡ true → has_no_placed_if_quiet after other ≡ true
+  quiet_still : (other : JobRow) → (not (same_job other job) || not (is_quiet other.state)) ≡ true → has_no_placed_if_quiet s other ≡ true
+      → has_no_placed_if_quiet after other ≡ true
   quiet_still other k = either (same task.job other.id) refl
     where
       silent : (a b c : Bool) → not a ≡ true → not (a && b) ≡ true → not (a && c) ≡ true
@@ -121,7 +113,8 @@ module _ (s : State) (job : JobRow) (node : NodeRow) (task : TaskRow) (test : Jo
 
       either : (b : Bool) → same task.job other.id ≡ b → has_no_placed_if_quiet s other ≡ true → has_no_placed_if_quiet after other ≡ true
       either true e = silent (is_quiet other.state) (list_any (is_placed_in other.id) s.tasks) (list_any (is_placed_in other.id) after.tasks) (loud other k e)
-      either false e = less_placed (is_quiet other.state) (list_any (is_placed_in other.id) s.tasks) (list_any (is_placed_in other.id) after.tasks) (elsewhere e)
+      either false e =
+          less_placed (is_quiet other.state) (list_any (is_placed_in other.id) s.tasks) (list_any (is_placed_in other.id) after.tasks) (elsewhere e)
 
   -- a task of an active job, while run numbers last
   pub limited_placed : has_number_left s.next_run ≡ true → IsWithinLimits (place s task node).state
@@ -133,7 +126,9 @@ module _ (s : State) (job : JobRow) (node : NodeRow) (task : TaskRow) (test : Jo
           pools = h.rows.pools;
           nodes = h.rows.nodes;
           jobs = h.rows.jobs;
-          tasks = each_change_same (is_task task.job task.id) (λ (old : TaskRow). placed task) (is_task_valid s.moment) (λ x t p. placed_valid) s.tasks h.rows.tasks;
+          tasks =
+              each_change_same (is_task task.job task.id) (λ (old : TaskRow). placed task) (is_task_valid s.moment)
+              (λ x t p. placed_valid) s.tasks h.rows.tasks;
           runs = each_append (is_run_valid s.moment) s.runs run h.rows.runs (run_valid left);
           samples = h.rows.samples;
           scales = h.rows.scales;
@@ -148,11 +143,20 @@ module _ (s : State) (job : JobRow) (node : NodeRow) (task : TaskRow) (test : Jo
           next_run = omega (arith, most);
         };
         quiet =
-            each_of_two (λ (other : JobRow). not (same_job other job) || not (is_quiet other.state)) (has_no_placed_if_quiet s) (has_no_placed_if_quiet after) quiet_still s.jobs
+            each_of_two (λ (other : JobRow). not (same_job other job) || not (is_quiet other.state)) (has_no_placed_if_quiet s)
+            (has_no_placed_if_quiet after) quiet_still s.jobs
             (each_with_key same_job same_job_equiv (λ (other : JobRow). not (is_quiet other.state)) job job s.jobs keys
             (found_first same_job same_job_equiv test job s.jobs keys there)
             (active_loud job.state (and_first _ _ (and_first _ _ (and_first _ _ active)))))
             h.quiet;
-        pools = record { deleting = h.pools.deleting; pools_of_scales = h.pools.pools_of_scales; pools_of_samples = h.pools.pools_of_samples; labels = h.pools.labels; order = h.pools.order; covered = h.pools.covered; kept = h.pools.kept };
+        pools = record {
+          deleting = h.pools.deleting;
+          pools_of_scales = h.pools.pools_of_scales;
+          pools_of_samples = h.pools.pools_of_samples;
+          labels = h.pools.labels;
+          order = h.pools.order;
+          covered = h.pools.covered;
+          kept = h.pools.kept;
+        };
         built = record { preps = h.built.preps };
       }

@@ -1,4 +1,4 @@
--- What is said of start tasks stays so when a run is taken.
+-- A run that is taken leaves what is said of start tasks.
 use Rattle.std.proofs.Common.{◌≡◌, ℕ, Bool, true, false, not, ◌||◌, nat_eq, Some, refl}
 use Rattle.std.specs.List.{find}
 use Rattle.bt_rows.specs.Keys.{same_run, same_run_equiv}
@@ -32,7 +32,8 @@ queued_unended Taken h = refl
 queued_unended (Ended ending) h = cc
 queued_unended Withdrawn h = cc
 
-module _ (s : State) (run : RunRow) (keys : AreDistinct same_run s.runs) (found : find (is_run run.number) s.runs ≡ Some run) (queued : is_queued run.state ≡ true) where
+module _ (s : State) (run : RunRow) (keys : AreDistinct same_run s.runs) (found : find (is_run run.number) s.runs ≡ Some run)
+    (queued : is_queued run.state ≡ true) where
   -- a row with the number of the queued run is queued
   abbrev queued_if_it : RunRow → Bool
   queued_if_it row = not (is_run run.number row) || is_queued row.state
@@ -41,12 +42,16 @@ module _ (s : State) (run : RunRow) (keys : AreDistinct same_run s.runs) (found 
   each_queued = each_with_key same_run same_run_equiv (λ (row : RunRow). is_queued row.state) run run s.runs keys found queued
 
   -- it has not ended before, if it has not ended afterwards
-  start_before : (node : ℕ) (row : RunRow) → queued_if_it row ≡ true → is_run run.number row ≡ true → is_unended_start_on node (taken_run s.moment row) ≡ true → is_unended_start_on node row ≡ true
+  start_before : (node : ℕ) (row : RunRow) → queued_if_it row ≡ true → is_run run.number row ≡ true → is_unended_start_on node (taken_run s.moment row) ≡ true
+      → is_unended_start_on node row ≡ true
   start_before node row a t k =
-      and_true (and_true (and_first (is_start row.kind) _ (and_first _ (nat_eq row.node node) k)) (queued_unended row.state (asked (is_run run.number row) (is_queued row.state) a t))) (and_second _ (nat_eq row.node node) k)
+      and_true
+      (and_true (and_first (is_start row.kind) _ (and_first _ (nat_eq row.node node) k))
+      (queued_unended row.state (asked (is_run run.number row) (is_queued row.state) a t))) (and_second _ (nat_eq row.node node) k)
 
   -- it has not ended with code 0
-  good_after : (node : ℕ) (row : RunRow) → queued_if_it row ≡ true → is_run run.number row ≡ true → is_good_start node row ≡ true → is_good_start node (taken_run s.moment row) ≡ true
+  good_after : (node : ℕ) (row : RunRow) → queued_if_it row ≡ true → is_run run.number row ≡ true → is_good_start node row ≡ true
+      → is_good_start node (taken_run s.moment row) ≡ true
   good_after node row a t k =
       let now_queued : is_queued row.state ≡ true = asked (is_run run.number row) (is_queued row.state) a t in
       let over : is_unended row.state ≡ false = queued_not_well row.state now_queued (and_second _ (has_ended_well row.state) k) in

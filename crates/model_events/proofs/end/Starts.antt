@@ -1,5 +1,6 @@
--- What is said of start tasks stays so when a run ends, which may be a start run.
-use Rattle.std.proofs.Common.{◌≡◌, ℕ, ◌+◌, ◌≤◌, ◌<◌, Bool, true, false, not, ◌&&◌, ◌||◌, nat_eq, nat_lt, List, Option, Some, None, ◌⊎◌, inl, inr, refl, sym, ◌∙◌, ap, subst, arith}
+-- A run that ends, which may be a start run, leaves what is said of start tasks.
+use Rattle.std.proofs.Common.{◌≡◌, ℕ, ◌+◌, ◌≤◌, ◌<◌, Bool, true, false, not, ◌&&◌, ◌||◌, nat_eq, nat_lt, List, Option, Some, None, ◌⊎◌, inl, inr, refl, sym}
+use Rattle.std.proofs.Common.{◌∙◌, ap, subst, arith}
 use Rattle.std.specs.Option.{option_map}
 use Rattle.std.specs.List.{find}
 use Rattle.std.specs.Cmp.{nat_eq_equiv}
@@ -15,7 +16,8 @@ use Rattle.batch_model.specs.Events.{ended_run, ended_by, run_ended}
 use Rattle.batch_model.specs.Starts.{is_tried_again, usable_in, failed_in, counted_node, change_node, start_failed, start_of, start_ended_at, start_ended_in}
 use Rattle.batch_model.specs.Sound.{StartsAreSound, has_ended_well, awaits_no_start, has_usable_start}
 use Rattle.batch_model.specs.WellFormed.{is_unended_start_on, has_few_tries}
-use Rattle.batch_model.specs.Variants.{State, NodeRow, NodeStage, Starting, Usable, StartFailed, Leaving, StartTask, Ending, RunRow, RunKind, StartRun, PrepRun, TaskRun, CoordinationRun, ReleaseRun, RunState, Waiting, Queued, Taken, Ended, Withdrawn}
+use Rattle.batch_model.specs.Variants.{State, NodeRow, NodeStage, Starting, Usable, StartFailed, Leaving, StartTask, Ending, RunRow, RunKind, StartRun, PrepRun}
+use Rattle.batch_model.specs.Variants.{TaskRun, CoordinationRun, ReleaseRun, RunState, Waiting, Queued, Taken, Ended, Withdrawn}
 use Rattle.model_lists.proofs.Tests.{passes_or_not, and_true, and_second, asked}
 use Rattle.model_lists.proofs.RowLists.{each_any, find_test, any_found}
 use Rattle.model_lists.proofs.RowSums.{count_change_at_most, count_change_less}
@@ -46,7 +48,8 @@ none_unended false on = refl
 
 -- tests of a node: whether it is usable before and after, whether no start task is waited for, and whether one ended
 -- there with code 0, before and after
-still_started : (usable after waits started ended : Bool) → (after ≡ true → (usable ≡ true) ⊎ (ended ≡ true)) → (started ≡ true → ended ≡ true) → ((not usable || waits) || started) ≡ true → ((not after || waits) || ended) ≡ true
+still_started : (usable after waits started ended : Bool) → (after ≡ true → (usable ≡ true) ⊎ (ended ≡ true)) → (started ≡ true → ended ≡ true)
+    → ((not usable || waits) || started) ≡ true → ((not after || waits) || ended) ≡ true
 still_started usable false waits started ended give on h = refl
 still_started usable true true started ended give on h = refl
 still_started usable true false started true give on h = refl
@@ -71,7 +74,8 @@ failed_usable Usable h = refl
 failed_usable StartFailed h = cc
 failed_usable (Leaving option) h = cc
 
-module _ (s : State) (ending : Ending) (run : RunRow) (keys : AreDistinct same_run s.runs) (found : find (is_run run.number) s.runs ≡ Some run) (taken : is_taken run.state ≡ true) where
+module _ (s : State) (ending : Ending) (run : RunRow) (keys : AreDistinct same_run s.runs) (found : find (is_run run.number) s.runs ≡ Some run)
+    (taken : is_taken run.state ≡ true) where
   -- the runs after the event
   abbrev ended_runs : List RunRow
   ended_runs = change_where (is_run run.number) (ended_run s.moment ending) s.runs
@@ -106,7 +110,8 @@ module _ (s : State) (ending : Ending) (run : RunRow) (keys : AreDistinct same_r
       (not_on run.node run)
 
   -- it has not ended with code 0 before
-  good_after : (node : ℕ) (row : RunRow) → taken_if_it row ≡ true → is_run run.number row ≡ true → is_good_start node row ≡ true → is_good_start node (ended_run s.moment ending row) ≡ true
+  good_after : (node : ℕ) (row : RunRow) → taken_if_it row ≡ true → is_run run.number row ≡ true → is_good_start node row ≡ true
+      → is_good_start node (ended_run s.moment ending row) ≡ true
   good_after node row a t k =
       let now_taken : is_taken row.state ≡ true = asked (is_run run.number row) (is_taken row.state) a t in
       let over : is_unended row.state ≡ false = taken_not_well row.state now_taken (and_second _ (has_ended_well row.state) k) in
@@ -146,11 +151,14 @@ module _ (s : State) (ending : Ending) (run : RunRow) (keys : AreDistinct same_r
       its_number row t = (Decides-eqb row.number node.number).0 t ∙ (Decides-eqb node.number run.node).0 on
 
       -- the run, and the stage and the failures of its node
-      starts_restaged : (staged : NodeStage → NodeStage) (counted : ℕ → ℕ) → ((n : ℕ) → counted n ≤ n + 1) → ((stage : NodeStage) → is_usable (staged stage) ≡ true → (is_usable stage ≡ true) ⊎ (started_among ended_runs run.node ≡ true)) → StartsAreSound (change_node node (restaged staged counted) with_ended)
+      starts_restaged : (staged : NodeStage → NodeStage) (counted : ℕ → ℕ) → ((n : ℕ) → counted n ≤ n + 1)
+          → ((stage : NodeStage) → is_usable (staged stage) ≡ true → (is_usable stage ≡ true) ⊎ (started_among ended_runs run.node ≡ true))
+          → StartsAreSound (change_node node (restaged staged counted) with_ended)
       starts_restaged staged counted raises give = record {
         usable =
             each_change (is_node node.number) (restaged staged counted) (has_usable_start s) (has_usable_start with_ended)
-            (λ row t. usable_if row (staged row.stage) (λ u. subst (λ n. (is_usable row.stage ≡ true) ⊎ (started_among ended_runs n ≡ true)) (sym (its_number row t)) (give row.stage u)))
+            (λ row t. usable_if row (staged row.stage)
+            (λ u. subst (λ n. (is_usable row.stage ≡ true) ⊎ (started_among ended_runs n ≡ true)) (sym (its_number row t)) (give row.stage u)))
             (λ row t. usable_if row row.stage (λ u. inl u))
             s.nodes h.usable;
         tries =
@@ -160,13 +168,19 @@ module _ (s : State) (ending : Ending) (run : RunRow) (keys : AreDistinct same_r
             s.nodes h.tries;
       }
         where
-          usable_if : (row : NodeRow) (stage : NodeStage) → (is_usable stage ≡ true → (is_usable row.stage ≡ true) ⊎ (started_among ended_runs row.number ≡ true)) → has_usable_start s row ≡ true → has_usable_start with_ended (record row { stage = stage }) ≡ true
+          usable_if : (row : NodeRow) (stage : NodeStage)
+              → (is_usable stage ≡ true → (is_usable row.stage ≡ true) ⊎ (started_among ended_runs row.number ≡ true)) → has_usable_start s row ≡ true
+              → has_usable_start with_ended (record row { stage = stage }) ≡ true
           usable_if row stage gives =
-              still_started (is_usable row.stage) (is_usable stage) (awaits_no_start s row.pool) (started_among s.runs row.number) (started_among ended_runs row.number) gives (still row.number)
+              still_started (is_usable row.stage) (is_usable stage) (awaits_no_start s row.pool) (started_among s.runs row.number)
+              (started_among ended_runs row.number) gives (still row.number)
 
-          one_more : (row : NodeRow) → is_node node.number row ≡ true → counted row.tries + starts_on ended_runs row.number ≤ row.tries + starts_on s.runs row.number
+          one_more : (row : NodeRow) → is_node node.number row ≡ true
+              → counted row.tries + starts_on ended_runs row.number ≤ row.tries + starts_on s.runs row.number
           one_more row t =
-              let less : starts_on ended_runs row.number < starts_on s.runs row.number = subst (λ n. starts_on ended_runs n < starts_on s.runs n) (sym (its_number row t)) (one_fewer start) in
+              let less : starts_on ended_runs row.number < starts_on s.runs row.number =
+              subst (λ n. starts_on ended_runs n < starts_on s.runs n) (sym (its_number row t)) (one_fewer start)
+              in
               let once : counted row.tries ≤ row.tries + 1 = raises row.tries in
               omega arith
 
@@ -199,7 +213,8 @@ module _ (s : State) (ending : Ending) (run : RunRow) (keys : AreDistinct same_r
       starts_ended_in (Leaving option) = starts_run_ended
 
     -- the end of a start run, whose node may be gone
-    start_run_ended : is_start run.kind ≡ true → (node : Option NodeRow) → node_of with_ended run.node ≡ node → StartsAreSound (at_row (λ (row : NodeRow). start_ended_in row.stage row ending) node with_ended)
+    start_run_ended : is_start run.kind ≡ true → (node : Option NodeRow) → node_of with_ended run.node ≡ node
+        → StartsAreSound (at_row (λ (row : NodeRow). start_ended_in row.stage row ending) node with_ended)
     start_run_ended start None e = starts_run_ended
     start_run_ended start (Some node) e = starts_ended_in node start (find_test (is_node run.node) node s.nodes e) node.stage
 

@@ -1,5 +1,6 @@
 -- A placed task whose present attempt is over leaves its stage: the tables stay sound.
-use Rattle.std.proofs.Common.{◌≡◌, ℕ, Bool, true, false, not, ◌&&◌, ◌||◌, nat_eq, List, map, Option, Some, None, is_some, is_none, cond, inl, inr, refl, sym, ◌∙◌, subst}
+use Rattle.std.proofs.Common.{◌≡◌, ℕ, Bool, true, false, not, ◌&&◌, ◌||◌, nat_eq, List, map, Option, Some, None, is_some, is_none, cond, inl, inr, refl, sym}
+use Rattle.std.proofs.Common.{◌∙◌, subst}
 use Rattle.std.specs.List.{list_any, find}
 use Rattle.std.specs.Cmp.{nat_eq_equiv}
 use Rattle.bt_base.specs.Ids.{same}
@@ -32,13 +33,20 @@ over_if_settled s task h = elim (or_cases (is_to_requeue s task) (is_to_complete
     first_of_five false b c d e h = cc
 
 -- a run of the present attempt of a task with the same key and attempt
-present_alike : (task other : TaskRow) (run : RunRow) → is_task task.job task.id other ≡ true → nat_eq other.attempt task.attempt ≡ true → is_present other run ≡ true → is_present task run ≡ true
+present_alike : (task other : TaskRow) (run : RunRow) → is_task task.job task.id other ≡ true → nat_eq other.attempt task.attempt ≡ true
+    → is_present other run ≡ true → is_present task run ≡ true
 present_alike task other run key attempt h =
     let of_task : is_run_of_task other.job other.id run ≡ true = and_first _ (nat_eq run.attempt other.attempt) h in
-    let jobs : names run.job task.job ≡ true = renamed run.job other.job task.job (and_first _ (names run.task other.id) of_task) (and_first _ (same other.id task.id) key) in
-    let tasks : names run.task task.id ≡ true = renamed run.task other.id task.id (and_second (names run.job other.job) _ of_task) (and_second (same other.job task.job) _ key) in
+    let jobs : names run.job task.job ≡ true =
+    renamed run.job other.job task.job (and_first _ (names run.task other.id) of_task) (and_first _ (same other.id task.id) key)
+    in
+    let tasks : names run.task task.id ≡ true =
+    renamed run.task other.id task.id (and_second (names run.job other.job) _ of_task) (and_second (same other.job task.job) _ key)
+    in
     let attempts : nat_eq run.attempt task.attempt ≡ true =
-    nat_eq_equiv.symm run.attempt task.attempt ∙ (sym (nat_eq_equiv.congr other.attempt task.attempt run.attempt attempt) ∙ (nat_eq_equiv.symm other.attempt run.attempt ∙ and_second (is_run_of_task other.job other.id run) _ h))
+    nat_eq_equiv.symm run.attempt task.attempt
+    ∙ (sym (nat_eq_equiv.congr other.attempt task.attempt run.attempt attempt)
+    ∙ (nat_eq_equiv.symm other.attempt run.attempt ∙ and_second (is_run_of_task other.job other.id run) _ h))
     in
     rw (jobs, tasks, attempts) refl
   where
@@ -58,7 +66,13 @@ fits_closing at closing = (is_completed at && is_some closing) || (not (is_compl
 module _ (at : TaskStage) (closing : Option Closed) (off : is_placed at ≡ false) (fits : fits_closing at closing ≡ true) where
   -- the marks of a task that is settled, if it is
   abbrev marks_if : Bool → TaskRow → Marks
-  marks_if b task = record { stage = cond b at task.stage; wanted = cond b None task.wanted; fail = cond b None task.fail; started = cond b None task.started; closed = cond b closing task.closed }
+  marks_if b task = record {
+    stage = cond b at task.stage;
+    wanted = cond b None task.wanted;
+    fail = cond b None task.fail;
+    started = cond b None task.started;
+    closed = cond b closing task.closed;
+  }
 
   -- no task is placed that wasn't
   no_placing : (b : Bool) (task : TaskRow) → is_placed (marks_if b task).stage ≡ true → is_placed task.stage ≡ true
@@ -90,7 +104,8 @@ module _ (at : TaskStage) (closing : Option Closed) (off : is_placed at ≡ fals
     marks_after other = marks_if (is_it other) other
 
     -- the task itself changes alike
-    alike_here : (b : Bool) → nat_eq task.attempt task.attempt ≡ true → cond b (settled_to at closing task) task ≡ marked (marks_if (b && nat_eq task.attempt task.attempt)) task
+    alike_here : (b : Bool) → nat_eq task.attempt task.attempt ≡ true
+        → cond b (settled_to at closing task) task ≡ marked (marks_if (b && nat_eq task.attempt task.attempt)) task
     alike_here true h = rw h refl
     alike_here false h = refl
 
@@ -100,17 +115,20 @@ module _ (at : TaskStage) (closing : Option Closed) (off : is_placed at ≡ fals
     alike_elsewhere other false c h = refl
 
     -- a run that has not ended, and that doesn't keep the task busy, has its owner still
-    owned_after : (other : TaskRow) (run : RunRow) (b : Bool) → is_it other ≡ b → is_unended run.state ≡ true → is_busy_for task run ≡ false → owns run other ≡ true → owns run (marked (marks_if b) other) ≡ true
+    owned_after : (other : TaskRow) (run : RunRow) (b : Bool) → is_it other ≡ b → is_unended run.state ≡ true → is_busy_for task run ≡ false
+        → owns run other ≡ true → owns run (marked (marks_if b) other) ≡ true
     owned_after other run true it unended free own =
         let present : is_present task run ≡ true =
-        present_alike task other run (and_first _ (nat_eq other.attempt task.attempt) it) (and_second (is_task task.job task.id other) _ it) (and_second (is_placed other.stage) _ own)
+        present_alike task other run (and_first _ (nat_eq other.attempt task.attempt) it) (and_second (is_task task.job task.id other) _ it)
+        (and_second (is_placed other.stage) _ own)
         in
         let busy : is_busy_for task run ≡ true = and_true present unended in
         cc
     owned_after other run false it unended free own = own
 
     -- runs belong to tasks as before
-    belongs_after : (s : State) (run : RunRow) → not (is_busy_for task run) ≡ true → belongs s run ≡ true → belongs (record s { tasks = map (marked marks_after) s.tasks }) run ≡ true
+    belongs_after : (s : State) (run : RunRow) → not (is_busy_for task run) ≡ true → belongs s run ≡ true
+        → belongs (record s { tasks = map (marked marks_after) s.tasks }) run ≡ true
     belongs_after s run free h =
         under (is_work run.kind && is_unended run.state) (list_any (owns run) (map (marked marks_after) s.tasks))
         (λ e. any_map (marked marks_after) (owns run) s.tasks
@@ -119,10 +137,12 @@ module _ (at : TaskStage) (closing : Option Closed) (off : is_placed at ≡ fals
         s.tasks (asked (is_work run.kind && is_unended run.state) (list_any (owns run) s.tasks) h e))
 
   -- a placed task whose present attempt is over is settled
-  pub consistent_settled : (seats : ℕ) (s : State) (task : TaskRow) → IsConsistent seats s → find (is_to_settle s) s.tasks ≡ Some task → IsConsistent seats (put_task (settled_to at closing task) s)
+  pub consistent_settled : (seats : ℕ) (s : State) (task : TaskRow) → IsConsistent seats s → find (is_to_settle s) s.tasks ≡ Some task
+      → IsConsistent seats (put_task (settled_to at closing task) s)
   consistent_settled seats s task h found =
       let tasks : map (λ old. cond (is_task task.job task.id old) (settled_to at closing task) old) s.tasks ≡ map after s.tasks =
-      map_found same_task same_task_equiv (λ old. cond (is_task task.job task.id old) (settled_to at closing task) old) after (is_task task.job task.id) (is_to_settle s) task s.tasks
+      map_found same_task same_task_equiv (λ old. cond (is_task task.job task.id old) (settled_to at closing task) old) after (is_task task.job task.id)
+      (is_to_settle s) task s.tasks
       (λ other k. k)
       (alike_here task (is_task task.job task.id task) (nat_eq_equiv.refl task.attempt))
       (λ other. alike_elsewhere task other (is_task task.job task.id other) (nat_eq other.attempt task.attempt))
@@ -135,7 +155,8 @@ module _ (at : TaskStage) (closing : Option Closed) (off : is_placed at ≡ fals
       (each_map after is_closed_if_completed is_closed_if_completed (λ other. closing_fits (is_it task other) other) s.tasks h.fitting.closing)
       (each_of_two (λ run. not (is_busy_for task run)) (belongs s) (belongs (record s { tasks = map after s.tasks }))
       (belongs_after task s) s.runs (any_none (is_busy_for task) s.runs free) h.belonging)
-      (each_map after (can_be_settled s) (can_be_settled (record s { tasks = map after s.tasks })) (λ other. settled_fits s (is_it task other) other) s.tasks h.ending))
+      (each_map after (can_be_settled s) (can_be_settled (record s { tasks = map after s.tasks }))
+      (λ other. settled_fits s (is_it task other) other) s.tasks h.ending))
     where
       after : TaskRow → TaskRow
       after = marked (marks_after task)

@@ -34,7 +34,8 @@ module _ {R : Type 0} (before : R → R → Bool) where
   best_cons row rows x e = from_better row x (best before rows) e
 
   -- what the first row passes and the best of the others does, the best does
-  passes_cons : (p : R → Bool) (row x : R) (rows : List R) → p row ≡ true → (best before rows ≡ Some x → p x ≡ true) → (row ≡ x) ⊎ (best before rows ≡ Some x) → p x ≡ true
+  passes_cons : (p : R → Bool) (row x : R) (rows : List R) → p row ≡ true → (best before rows ≡ Some x → p x ≡ true) → (row ≡ x) ⊎ (best before rows ≡ Some x)
+      → p x ≡ true
   passes_cons p row x rows h ih (inl i) = subst (λ y. p y ≡ true) i h
   passes_cons p row x rows h ih (inr e) = ih e
 
@@ -64,7 +65,8 @@ module _ {R : Type 0} (same : R → R → Bool) (e : IsEquivalence same) (before
       let n : same row x ≡ false = not_true (same row x) (each_found (λ y. not (same row y)) (λ y. same y x) x rows f (any_none (same row) rows d)) in
       rw n f
 
-  first_cons : (row x : R) (rows : List R) (b : Bool) → list_any (same row) rows ≡ false → best before (cond b (row ∷ filter p rows) (filter p rows)) ≡ Some x → (best before (filter p rows) ≡ Some x → find (λ y. same y x) rows ≡ Some x) → find (λ y. same y x) (row ∷ rows) ≡ Some x
+  first_cons : (row x : R) (rows : List R) (b : Bool) → list_any (same row) rows ≡ false → best before (cond b (row ∷ filter p rows) (filter p rows)) ≡ Some x
+      → (best before (filter p rows) ≡ Some x → find (λ y. same y x) rows ≡ Some x) → find (λ y. same y x) (row ∷ rows) ≡ Some x
   first_cons row x rows true d h ih = elim (best_cons before row (filter p rows) x h) [
     | inl i ↦ first_here row x rows i
     | inr k ↦ first_later row x rows d (ih k)

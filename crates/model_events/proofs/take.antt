@@ -1,0 +1,3 @@
+-- The event `take`, by parts of soundness.
+pub mod Consistent
+pub mod Starts

@@ -1,0 +1,5 @@
+-- The rule that places a task, by parts.
+pub mod NodeChosen
+pub mod Consistent
+pub mod Limits
+pub mod Slots

@@ -1,0 +1,79 @@
+-- A task is placed within the free slots of a node, and takes them.
+use Rattle.std.proofs.Common.{◌≡◌, ℕ, ◌+◌, ◌-◌, ◌≤◌, true, ◌&&◌, nat_le, Some, find, sym, ◌∙◌, arith, Bool, is_some}
+use Rattle.std.proofs.lemmas.Bool.Decides.{nat_tests}
+use Rattle.bt_base.proofs.SameIds.{same_equiv}
+use Rattle.bt_rows.specs.Keys.{same_job, same_job_equiv, same_task, same_task_equiv}
+use Rattle.bt_rows.proofs.DistinctRows.{found_first}
+use Rattle.batch_model.specs.Rows.{is_job, pool_of, job_of}
+use Rattle.batch_model.specs.Tasks.{is_in_job}
+use Rattle.batch_model.specs.Nodes.{is_in_pool, is_usable}
+use Rattle.batch_model.specs.Slots.{held_slots}
+use Rattle.batch_model.specs.Placing.{is_ready, is_placeable, fits, choice, place, place_task, place_of_job}
+use Rattle.batch_model.specs.Dues.{due_step}
+use Rattle.batch_model.specs.Laws.{free_slots, PlacesTask, PlacesWithinSlots}
+use Rattle.batch_model.specs.Sound.{IsConsistent, IsSound}
+use Rattle.batch_model.specs.Steps.{DueStep}
+use Rattle.batch_model.specs.Variants.{State, PoolRow, NodeRow, JobRow, TaskRow}
+use Rattle.model_lists.proofs.Tests.{and_first, and_second}
+use Rattle.model_lists.proofs.RowLists.{find_agree}
+use Rattle.model_rules.proofs.place.NodeChosen.{chosen_fits, chosen_first}
+use Rattle.model_rules.proofs.place.Consistent.{held_more}
+
+-- a task of the job can be placed
+abbrev pub has_placing : State → JobRow → Bool
+has_placing s job = is_some (place_of_job s job)
+
+-- the task can be placed
+abbrev pub has_place : State → JobRow → PoolRow → TaskRow → Bool
+has_place s job pool task = is_some (place_task s job pool task)
+
+-- what is held beside a need is at most the slots
+ordered : (held need slots : ℕ) → nat_le (held + need) slots ≡ true → held + need ≤ slots
+ordered held need slots h = grind (arith, nat_tests)
+
+-- so the need is at most what is free
+fits_in : (held need slots : ℕ) → held + need ≤ slots → need ≤ slots - held
+fits_in held need slots h = omega (arith, h)
+
+-- and what is free afterwards is the need less
+is_taken_from : (held need slots later : ℕ) → held + need ≤ slots → later ≡ held + need → slots - held ≡ slots - later + need
+is_taken_from held need slots later h e = omega (arith, h, e)
+
+module _ (seats : ℕ) (s : State) (h : IsConsistent seats s) (job : JobRow) (pool : PoolRow) (node : NodeRow) (task : TaskRow)
+    (job_found : find (has_placing s) s.jobs ≡ Some job) (pool_found : pool_of s job.pool ≡ Some pool)
+    (task_found : find (has_place s job pool) s.tasks ≡ Some task) (can : is_placeable job task ≡ true) (chosen : choice s pool task.slots ≡ Some node) where
+  -- the job is the one that the task names
+  job_of_task : job_of s task.job ≡ Some job
+  job_of_task =
+      find_agree (is_job task.job) (λ (other : JobRow). same_job other job)
+      (λ other. same_equiv.symm other.id task.job ∙ same_equiv.congr task.job job.id other.id (and_first (is_in_job job.id task) (is_ready task) can)
+      ∙ same_equiv.symm job.id other.id)
+      s.jobs
+      ∙ found_first same_job same_job_equiv (has_placing s) job s.jobs h.keys.jobs job_found
+
+  -- the node fits
+  fitting : fits s pool task.slots node ≡ true
+  fitting = chosen_fits s pool task.slots node chosen
+
+  -- the task's slots are free on it
+  free_there : held_slots s node.number + task.slots ≤ pool.slots
+  free_there = ordered (held_slots s node.number) task.slots pool.slots (and_second (is_usable node.stage && is_in_pool pool.id node) _ fitting)
+
+  -- the placing takes them
+  pub places_task : PlacesTask s (place s task node).state task.job task.id node.number
+  places_task = record {
+    job = job;
+    pool = pool;
+    node = node;
+    task = task;
+    job_there = job_of_task;
+    pool_there = pool_found;
+    node_there = chosen_first s pool task.slots node chosen h.keys.nodes;
+    task_there = found_first same_task same_task_equiv (has_place s job pool) task s.tasks h.keys.tasks task_found;
+    usable = and_first (is_usable node.stage) (is_in_pool pool.id node) (and_first (is_usable node.stage && is_in_pool pool.id node) _ fitting);
+    in_pool = and_second (is_usable node.stage) (is_in_pool pool.id node) (and_first (is_usable node.stage && is_in_pool pool.id node) _ fitting);
+    room = fits_in (held_slots s node.number) task.slots pool.slots free_there;
+    taken =
+        is_taken_from (held_slots s node.number) task.slots pool.slots (held_slots (place s task node).state node.number) free_there
+        (held_more seats s job node task (has_place s job pool) h task_found can);
+  }
