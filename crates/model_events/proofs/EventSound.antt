@@ -1,8 +1,8 @@
 -- Each event leaves sound tables sound, and a refused one changes nothing but the last moment.
-use Rattle.std.proofs.Common.{◌≡◌, ℕ, ◌≤◌, Bool, true, false, List, [], ◌∷◌, is_some, inl, inr, refl}
+use Rattle.std.proofs.Common.{◌≡◌, ℕ, ◌≤◌, true, List, ◌∷◌, is_some, inl, inr, refl}
 use Rattle.bt_base.specs.Moments.{last_moment}
 use Rattle.bt_rows.specs.declared.event.EventKind.{EventKind}
-use Rattle.bt_rows.specs.declared.event.EventKind.TheVariants.{AddPool, AddJob, AddTask, AddTasks, Take, End, Tick}
+use Rattle.bt_rows.specs.declared.event.EventKind.TheVariants.{AddPool, AddJob, AddTask, AddTasks, Take, End}
 use Rattle.bt_rows.specs.declared.event.JobSpec.{JobSpec}
 use Rattle.bt_rows.specs.declared.event.TaskSpec.{TaskSpec}
 use Rattle.bt_rows.specs.declared.refusal.Refusal.{Refusal}
@@ -19,7 +19,7 @@ use Rattle.batch_model.specs.Events.{at_moment}
 use Rattle.batch_model.specs.Sound.{IsSound}
 use Rattle.batch_model.specs.Variants.{State}
 use Rattle.model_lists.proofs.Tests.{passes_or_not}
-use Rattle.model_events.proofs.Keeping.{for_row_keeps, Leaves, leaves_if_accepted, given_leaves, answer_leaves, for_row_leaves}
+use Rattle.model_events.proofs.Keeping.{for_row_keeps, Leaves, given_leaves, answer_leaves, for_row_leaves}
 use Rattle.model_events.proofs.MomentPassed.{sound_at_moment}
 use Rattle.model_events.proofs.PoolAdded.{add_pool_kept}
 use Rattle.model_events.proofs.JobAdded.{add_job_kept}

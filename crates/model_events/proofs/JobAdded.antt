@@ -1,48 +1,28 @@
 -- The event `add-job` keeps sound tables.
-use Rattle.std.proofs.Common.{◌≡◌, ℕ, true, false, List, Option, Some, None, refl, ◌+◌, ◌<◌, ◌≤◌, Bool, not, ◌&&◌, ◌||◌, nat_eq, nat_le, is_none, [], ◌∷◌, ◌++◌}
-use Rattle.std.proofs.Common.{length, ◌∙◌, ap, arith, nat_lt, is_some, inl, inr}
+use Rattle.std.proofs.Common.{◌≡◌, ℕ, true, false, List, Option, Some, None, refl, nat_le}
+use Rattle.std.proofs.Common.{length, is_some, inl, inr}
 use Rattle.std.specs.Option.{option_map_or}
-use Rattle.std.proofs.lemmas.Bool.Decides.{nat_tests}
-use Rattle.std.proofs.lemmas.List.{length-append}
-use Rattle.std.specs.List.{find}
-use Rattle.bt_rows.specs.Keys.{same_job, same_run}
-use Rattle.bt_rows.specs.declared.event.PoolSpec.{PoolSpec}
+use Rattle.bt_rows.specs.Keys.{same_job}
 use Rattle.bt_rows.specs.declared.event.JobSpec.{JobSpec}
-use Rattle.bt_rows.specs.declared.event.TaskSpec.{TaskSpec}
-use Rattle.bt_rows.specs.Ranges.{passes_if_some, is_target, is_slot_count, is_resize_timeout, is_start_in_range, is_scaling_in_range, is_pool_spec_in_range}
-use Rattle.bt_rows.specs.Ranges.{is_job_spec_in_range, is_task_spec_in_range}
-use Rattle.bt_rows.specs.Lists.{AreDistinct}
-use Rattle.bt_rows.specs.declared.event.EventKind.{EventKind}
-use Rattle.bt_rows.specs.declared.event.EventKind.TheVariants.{AddPool, DeletePool, Resize, StopResize, EnableAutoscale, DisableAutoscale, EvaluateAutoscale}
-use Rattle.bt_rows.specs.declared.event.EventKind.TheVariants.{AddJob, PatchJob, DisableJob, EnableJob, TerminateJob, DeleteJob, AddTask, AddTasks, DeleteTask}
-use Rattle.bt_rows.specs.declared.event.EventKind.TheVariants.{TerminateTask, ReactivateTask, Take, End, Sample, Tick}
-use Rattle.bt_rows.specs.declared.refusal.Refusal.{Refusal}
-use Rattle.bt_rows.specs.declared.refusal.Refusal.TheVariants.{PoolNotFound, JobNotFound, RunNotFound, JobStateRefuses, CollectionTooLong, RunAlreadyEnded}
-use Rattle.bt_rows.specs.declared.refusal.Refusal.TheVariants.{RunNotTaken, RunWithdrawn, JobExists, TableFull}
-use Rattle.bt_rows.specs.declared.refusal.Table.TheVariants.{Pools, Jobs, Tasks}
-use Rattle.batch_model.specs.Rows.{is_job, add_job_row, is_pool, add_pool_row, add_task_row, is_run, pool_of, job_of, run_of}
-use Rattle.batch_model.specs.Sound.{IsConsistent, IsWithinLimits, StartsAreSound, IsSound, awaits_no_start}
-use Rattle.batch_model.specs.WellFormed.{has_job_row, has_named_job, is_pool_in_range, is_pool_valid, is_job_valid, is_task_valid, has_pool_row}
-use Rattle.batch_model.specs.WellFormed.{has_no_placed_if_quiet, is_deleting_whole}
-use Rattle.batch_model.specs.Variants.{State, JobRow, TaskRow, SampleRow, ScaleRow, PoolRow, NodeRow, RunRow, RunState, Waiting, Queued, Taken, Ended}
-use Rattle.batch_model.specs.Variants.{Withdrawn, Ending}
-use Rattle.batch_model.specs.Tasks.{is_placed_in, new_task}
-use Rattle.batch_model.specs.Jobs.{is_quiet, new_job, is_past}
-use Rattle.batch_model.specs.Pools.{new_pool, waits_for_start}
-use Rattle.batch_model.specs.Limits.{pool_limit, job_limit, task_limit, collection_limit}
-use Rattle.batch_model.specs.Events.{has_long_needs, refuse, accept, answer, for_row, add_pool, add_job, add_job_in, task_refusals, task_added, add_task}
-use Rattle.batch_model.specs.Events.{after_element, add_each, accept_all, add_tasks, take_run, end_run, run_ended, event_now, event_step, at_moment}
+use Rattle.bt_rows.specs.Ranges.{is_job_spec_in_range}
+use Rattle.bt_rows.specs.declared.refusal.Refusal.TheVariants.{PoolNotFound}
+use Rattle.bt_rows.specs.declared.refusal.Refusal.TheVariants.{TableFull}
+use Rattle.bt_rows.specs.declared.refusal.Table.TheVariants.{Jobs}
+use Rattle.batch_model.specs.Rows.{is_job, add_job_row, pool_of, job_of}
+use Rattle.batch_model.specs.Sound.{IsConsistent, IsWithinLimits, IsSound}
+use Rattle.batch_model.specs.WellFormed.{has_job_row, has_named_job, is_job_valid}
+use Rattle.batch_model.specs.WellFormed.{has_no_placed_if_quiet}
+use Rattle.batch_model.specs.Variants.{State, JobRow, TaskRow, PoolRow}
+use Rattle.batch_model.specs.Jobs.{new_job}
+use Rattle.batch_model.specs.Limits.{job_limit}
+use Rattle.batch_model.specs.Events.{add_job, add_job_in}
 use Rattle.batch_model.specs.Events.{add_job_refusals}
-use Rattle.batch_model.specs.Finding.{Each, first_of}
-use Rattle.batch_model.specs.Steps.{Answered, refuse_if}
-use Rattle.batch_model.specs.Runs.{is_taken, is_ended, is_withdrawn}
-use Rattle.model_lists.proofs.RowLists.{each_weaker, any_append_old, each_append, any_append_same, find_none, none_found}
+use Rattle.model_lists.proofs.RowLists.{each_weaker, any_append_old, each_append, none_found}
 use Rattle.model_lists.proofs.DistinctLists.{distinct_append}
-use Rattle.model_lists.proofs.Tests.{and_true, and_first, and_second, not_false, passes_or_not}
+use Rattle.model_lists.proofs.Tests.{and_true, passes_or_not}
 use Rattle.model_lists.proofs.NextNumbers.{is_not_after_itself}
 use Rattle.model_lists.proofs.Lengths.{takes_one}
-use Rattle.model_tables.proofs.StartsKept.{none_awaited, starts_with_pools}
-use Rattle.model_events.proofs.Keeping.{AreAbsent, passed, through, given_keeps, answer_keeps, for_row_keeps}
+use Rattle.model_events.proofs.Keeping.{passed, answer_keeps, for_row_keeps}
 
 -- a job that is named still has a row
 named_job : (s : State) (job : JobRow) (name : Option (List ℕ)) → option_map_or (has_job_row s) name true ≡ true

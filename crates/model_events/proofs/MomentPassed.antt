@@ -7,10 +7,8 @@ use Rattle.batch_model.specs.Events.{at_moment}
 use Rattle.batch_model.specs.Sound.{IsConsistent, IsWithinLimits, IsSound}
 use Rattle.batch_model.specs.Variants.{State, empty_state, PoolRow, JobRow, TaskRow, Closed, RunRow, SampleRow}
 use Rattle.batch_model.specs.WellFormed.{is_past_if_some, is_closed_past, is_pool_valid, is_job_valid, is_task_valid, is_run_valid, is_sample_valid}
-use Rattle.batch_model.specs.Steps.{Answered}
 use Rattle.model_lists.proofs.Tests.{and_true, and_first, and_second}
 use Rattle.model_lists.proofs.RowLists.{each_weaker}
-use Rattle.model_events.proofs.Keeping.{AreAbsent, passed, through, given_keeps, answer_keeps, for_row_keeps}
 
 -- empty tables are sound
 consistent_empty : (seats : ℕ) → IsConsistent seats empty_state

@@ -1,36 +1,30 @@
 -- The event `take` keeps sound tables.
-use Rattle.std.proofs.Common.{◌≡◌, ℕ, ◌+◌, Bool, true, not, ◌&&◌, ◌||◌, nat_le, List, Option, Some, None, is_none, refl, ◌∙◌, ap, false}
+use Rattle.std.proofs.Common.{◌≡◌, ℕ, Bool, true, not, ◌&&◌, ◌||◌, nat_le, List, Option, Some, None, is_none, refl, ◌∙◌, ap, false}
 use Rattle.std.specs.List.{find}
 use Rattle.std.specs.Option.{unwrap_or}
 use Rattle.bt_rows.specs.Keys.{same_run, same_run_equiv}
 use Rattle.bt_rows.specs.Lists.{AreDistinct}
 use Rattle.bt_rows.specs.Ranges.{passes_if_some}
-use Rattle.bt_rows.specs.declared.refusal.Refusal.TheVariants.{RunAlreadyEnded, RunWithdrawn, RunAlreadyTaken, RunWaiting, RunNotTaken}
+use Rattle.bt_rows.specs.declared.refusal.Refusal.TheVariants.{RunAlreadyEnded, RunWithdrawn, RunAlreadyTaken, RunWaiting}
 use Rattle.batch_model.specs.Finding.{Each}
-use Rattle.batch_model.specs.Rows.{is_node, is_run, change_runs, add_node_row, add_run_row, run_of}
+use Rattle.batch_model.specs.Rows.{is_run, run_of}
 use Rattle.batch_model.specs.Tasks.{is_placed_in}
 use Rattle.batch_model.specs.Jobs.{is_quiet}
-use Rattle.batch_model.specs.Events.{taken_run, started_task, is_task_of_run, run_taken, ended_run, ended_by, run_ended, take_run, take_refusals}
-use Rattle.batch_model.specs.Starts.{usable_in, failed_in, counted_node, change_node, start_ended}
+use Rattle.batch_model.specs.Events.{taken_run, started_task, is_task_of_run, run_taken, take_run, take_refusals}
 use Rattle.batch_model.specs.Limits.{task_limit}
 use Rattle.batch_model.specs.Sound.{IsWithinLimits, has_no_end_yet, UnendedRunsHaveNoEnd, IsSound}
 use Rattle.batch_model.specs.WellFormed.{is_past_if_some, is_ended_in_order, is_task_valid, is_run_valid, has_no_placed_if_quiet}
-use Rattle.batch_model.specs.Variants.{State, NodeRow, TaskRow, Ending, RunRow, RunKind, StartRun, PrepRun, TaskRun, CoordinationRun, ReleaseRun, PoolRow}
-use Rattle.batch_model.specs.Variants.{StartTask, Queued, RunState, Waiting, Taken, Ended, Withdrawn}
-use Rattle.batch_model.specs.Runs.{is_unended, start_run, work_run, is_waiting, is_queued, is_taken, is_ended, is_withdrawn}
-use Rattle.batch_model.specs.Dues.{new_node, begin_start, node_added}
-use Rattle.batch_model.specs.Placing.{placed, place}
-use Rattle.batch_model.specs.Steps.{Answered}
+use Rattle.batch_model.specs.Variants.{State, TaskRow, RunRow}
+use Rattle.batch_model.specs.Variants.{Queued, RunState, Waiting, Taken, Ended, Withdrawn}
+use Rattle.batch_model.specs.Runs.{is_unended, is_waiting, is_queued, is_taken, is_ended, is_withdrawn}
 use Rattle.model_lists.proofs.Tests.{and_true, and_first, and_second, asked}
-use Rattle.model_lists.proofs.RowLists.{each_weaker, each_and, each_append, each_found}
+use Rattle.model_lists.proofs.RowLists.{each_weaker, each_and, each_found}
 use Rattle.model_lists.proofs.ChangedRows.{each_change, each_change_same, any_change_same}
 use Rattle.model_lists.proofs.DistinctLists.{each_with_key}
 use Rattle.model_lists.proofs.NextNumbers.{is_not_after_itself}
 use Rattle.model_lists.proofs.Lengths.{change_keeps_length}
-use Rattle.model_tables.proofs.StartAdded.{limited_start_added, unended_start_added}
-use Rattle.model_tables.proofs.NodeChanged.{limited_node_changed}
 use Rattle.model_tables.proofs.FoundRows.{own_number}
-use Rattle.model_events.proofs.Keeping.{AreAbsent, passed, through, given_keeps, answer_keeps, for_row_keeps}
+use Rattle.model_events.proofs.Keeping.{passed, answer_keeps}
 use Rattle.model_events.proofs.take.Consistent.{consistent_taken}
 use Rattle.model_events.proofs.take.Starts.{starts_taken}
 

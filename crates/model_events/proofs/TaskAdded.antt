@@ -1,51 +1,36 @@
 -- The events `add-task` and `add-tasks` keep sound tables.
-use Rattle.std.proofs.Common.{◌≡◌, ℕ, ◌<◌, Bool, true, false, not, ◌&&◌, ◌||◌, nat_eq, nat_lt, nat_le, List, sum_by, is_none, refl, sym, ap, subst, ◌+◌, ◌≤◌}
-use Rattle.std.proofs.Common.{[], ◌∷◌, ◌++◌, length, ◌∙◌, arith, Option, Some, None, is_some, inl, inr, find}
-use Rattle.std.specs.List.{list_any, list_all, find}
-use Rattle.std.proofs.lemmas.Bool.Decides.{Decides-ltb, nat_tests}
-use Rattle.std.proofs.lemmas.List.{length-append}
-use Rattle.std.specs.Option.{option_map_or}
+use Rattle.std.proofs.Common.{◌≡◌, ℕ, ◌<◌, Bool, true, false, not, ◌&&◌, ◌||◌, nat_eq, nat_lt, nat_le, List, sum_by, is_none, refl, sym, ap, subst}
+use Rattle.std.proofs.Common.{[], ◌∷◌, length, ◌∙◌, Some, is_some}
+use Rattle.std.specs.List.{list_any, list_all}
+use Rattle.std.proofs.lemmas.Bool.Decides.{Decides-ltb}
 use Rattle.bt_base.proofs.SameIds.{same_equiv}
 use Rattle.bt_rows.specs.declared.event.TaskSpec.{TaskSpec}
-use Rattle.bt_rows.specs.Keys.{same_task, same_run}
-use Rattle.bt_rows.specs.declared.event.PoolSpec.{PoolSpec}
-use Rattle.bt_rows.specs.declared.event.JobSpec.{JobSpec}
-use Rattle.bt_rows.specs.Ranges.{passes_if_some, is_target, is_slot_count, is_resize_timeout, is_start_in_range, is_scaling_in_range, is_pool_spec_in_range}
-use Rattle.bt_rows.specs.Ranges.{is_job_spec_in_range, is_task_spec_in_range}
-use Rattle.bt_rows.specs.Lists.{AreDistinct}
-use Rattle.bt_rows.specs.declared.event.EventKind.{EventKind}
-use Rattle.bt_rows.specs.declared.event.EventKind.TheVariants.{AddPool, DeletePool, Resize, StopResize, EnableAutoscale, DisableAutoscale, EvaluateAutoscale}
-use Rattle.bt_rows.specs.declared.event.EventKind.TheVariants.{AddJob, PatchJob, DisableJob, EnableJob, TerminateJob, DeleteJob, AddTask, AddTasks, DeleteTask}
-use Rattle.bt_rows.specs.declared.event.EventKind.TheVariants.{TerminateTask, ReactivateTask, Take, End, Sample, Tick}
-use Rattle.bt_rows.specs.declared.refusal.Refusal.{Refusal}
-use Rattle.bt_rows.specs.declared.refusal.Refusal.TheVariants.{PoolNotFound, JobNotFound, RunNotFound, JobStateRefuses, CollectionTooLong, RunAlreadyEnded}
-use Rattle.bt_rows.specs.declared.refusal.Refusal.TheVariants.{RunNotTaken, RunWithdrawn, TaskExists, DependencyListTooLong, TableFull}
-use Rattle.bt_rows.specs.declared.refusal.Table.TheVariants.{Pools, Jobs, Tasks}
-use Rattle.batch_model.specs.Rows.{is_pool, is_task, add_task_row, add_pool_row, add_job_row, is_run, pool_of, job_of, run_of, task_of, is_job}
-use Rattle.batch_model.specs.Runs.{is_work, is_unended, is_taken, is_ended, is_withdrawn}
+use Rattle.bt_rows.specs.Keys.{same_task}
+use Rattle.bt_rows.specs.Ranges.{is_task_spec_in_range}
+use Rattle.bt_rows.specs.declared.refusal.Refusal.TheVariants.{JobStateRefuses}
+use Rattle.bt_rows.specs.declared.refusal.Refusal.TheVariants.{TaskExists, DependencyListTooLong, TableFull}
+use Rattle.bt_rows.specs.declared.refusal.Table.TheVariants.{Tasks}
+use Rattle.batch_model.specs.Rows.{is_pool, is_task, add_task_row, job_of, task_of, is_job}
+use Rattle.batch_model.specs.Runs.{is_work, is_unended}
 use Rattle.batch_model.specs.Tasks.{new_task, is_placed_in}
 use Rattle.batch_model.specs.Slots.{owns, holds_on, held_slots}
-use Rattle.batch_model.specs.Sound.{IsConsistent, belongs, can_be_settled, has_slots_for, IsWithinLimits, StartsAreSound, IsSound, awaits_no_start}
-use Rattle.batch_model.specs.WellFormed.{has_job_row, has_named_task, is_task_of_attempt, has_fitting_marks, is_closed_if_completed, is_pool_in_range}
-use Rattle.batch_model.specs.WellFormed.{is_pool_valid, is_job_valid, is_task_valid, has_pool_row, has_no_placed_if_quiet, is_deleting_whole}
-use Rattle.batch_model.specs.Variants.{State, PoolRow, NodeRow, TaskRow, RunRow, SampleRow, ScaleRow, JobRow, RunState, Waiting, Queued, Taken, Ended}
-use Rattle.batch_model.specs.Variants.{Withdrawn, Ending}
-use Rattle.batch_model.specs.Jobs.{is_quiet, new_job, is_past}
-use Rattle.batch_model.specs.Pools.{new_pool, waits_for_start}
-use Rattle.batch_model.specs.Limits.{pool_limit, job_limit, task_limit, collection_limit}
-use Rattle.batch_model.specs.Events.{has_long_needs, refuse, accept, answer, for_row, add_pool, add_job, add_job_in, task_refusals, task_added, add_task}
-use Rattle.batch_model.specs.Events.{after_element, add_each, accept_all, add_tasks, take_run, end_run, run_ended, event_now, event_step, at_moment}
+use Rattle.batch_model.specs.Sound.{IsConsistent, belongs, can_be_settled, has_slots_for, IsWithinLimits, IsSound}
+use Rattle.batch_model.specs.WellFormed.{has_job_row, has_named_task, is_task_of_attempt, has_fitting_marks, is_closed_if_completed}
+use Rattle.batch_model.specs.WellFormed.{is_task_valid, has_no_placed_if_quiet}
+use Rattle.batch_model.specs.Variants.{State, PoolRow, NodeRow, TaskRow, RunRow, JobRow}
+use Rattle.batch_model.specs.Jobs.{is_quiet, is_past}
+use Rattle.batch_model.specs.Limits.{task_limit}
+use Rattle.batch_model.specs.Events.{has_long_needs, task_refusals, task_added, add_task}
+use Rattle.batch_model.specs.Events.{after_element, add_each, accept_all, add_tasks}
 use Rattle.batch_model.specs.Events.{add_tasks_refusals}
 use Rattle.batch_model.specs.Finding.{Each, first_of}
-use Rattle.batch_model.specs.Steps.{Answered, refuse_if}
-use Rattle.model_lists.proofs.Tests.{asked, under, and_true, and_first, and_second, not_false, passes_or_not}
-use Rattle.model_lists.proofs.RowLists.{each_append, each_weaker, any_append_old, any_append_same, filter_agree, find_none, each_any, each_head, each_tail}
+use Rattle.batch_model.specs.Steps.{refuse_if}
+use Rattle.model_lists.proofs.Tests.{asked, under, and_true, and_first, and_second, not_false}
+use Rattle.model_lists.proofs.RowLists.{each_append, each_weaker, any_append_old, any_append_same, filter_agree, each_head, each_tail}
 use Rattle.model_lists.proofs.RowLists.{none_found, any_found}
 use Rattle.model_lists.proofs.DistinctLists.{distinct_append}
-use Rattle.model_lists.proofs.NextNumbers.{is_not_after_itself}
 use Rattle.model_lists.proofs.Lengths.{takes_one}
-use Rattle.model_tables.proofs.StartsKept.{none_awaited, starts_with_pools}
-use Rattle.model_events.proofs.Keeping.{AreAbsent, passed, through, given_keeps, answer_keeps, for_row_keeps}
+use Rattle.model_events.proofs.Keeping.{AreAbsent, passed, through, given_keeps, answer_keeps}
 
 module _ (s : State) (in_job : List ℕ) (spec : TaskSpec) where
   -- the tables with the task

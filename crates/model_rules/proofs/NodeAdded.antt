@@ -1,49 +1,39 @@
 -- The rule that adds a node keeps sound tables, and lowers the rank.
 use Rattle.std.proofs.Common.{◌≡◌, ℕ, zero, suc, ◌+◌, ◌≤◌, Bool, true, false, not, ◌&&◌, ◌||◌, nat_eq, nat_lt, nat_le, List, [], ◌∷◌, Option, Some, None, find}
-use Rattle.std.proofs.Common.{filter, sum_by, cond, refl, ap, arith, is_none, ◌<◌, inl, inr, is_some, option_map, option_and_then, ◌⊎◌, subst}
+use Rattle.std.proofs.Common.{filter, sum_by, cond, refl, ap, arith, ◌<◌, inl, inr, option_and_then, subst}
 use Rattle.std.specs.List.{list_any, list_all, range_with_len, find}
-use Rattle.std.proofs.lemmas.Bool.Decides.{nat_tests, Decides-ltb, Decides-eqb}
-use Rattle.std.proofs.lemmas.List.Sums.{sum_by_push, sum_by-le-sum_by}
+use Rattle.std.proofs.lemmas.Bool.Decides.{nat_tests, Decides-ltb}
+use Rattle.std.proofs.lemmas.List.Sums.{sum_by_push}
 use Rattle.bt_base.specs.Ids.{same}
 use Rattle.bt_base.proofs.SameIds.{same_equiv}
-use Rattle.bt_base.proofs.Turns.{lex_lt, lex_first, lex_next}
-use Rattle.bt_rows.specs.Keys.{same_node, same_run, same_pool, same_pool_equiv, same_task, same_task_equiv}
+use Rattle.bt_base.proofs.Turns.{lex_lt, lex_first}
+use Rattle.bt_rows.specs.Keys.{same_node, same_pool, same_pool_equiv}
 use Rattle.bt_rows.specs.Ranges.{is_from_to}
-use Rattle.bt_rows.specs.Lists.{AreDistinct}
 use Rattle.bt_rows.proofs.DistinctRows.{found_first, find-passes, sum_by-less}
-use Rattle.batch_model.specs.Finding.{Each, last_number, has_number_left, or_else, first_of, find_map, only_if}
-use Rattle.batch_model.specs.Rows.{is_pool, is_node, add_node_row, add_run_row, is_run, change_runs, put_pool, put_task, pool_of}
+use Rattle.batch_model.specs.Finding.{Each, last_number, has_number_left}
+use Rattle.batch_model.specs.Rows.{is_pool, is_node, add_node_row}
 use Rattle.batch_model.specs.Nodes.{is_leaving, stays}
-use Rattle.batch_model.specs.Runs.{is_unended, start_run, work_run, is_start, is_busy_for}
-use Rattle.batch_model.specs.Pools.{free_seat, waits_for_start, is_resizing, is_steady, staying_count}
+use Rattle.batch_model.specs.Runs.{is_unended, start_run, is_start}
+use Rattle.batch_model.specs.Pools.{free_seat, waits_for_start, staying_count}
 use Rattle.batch_model.specs.Slots.{holds_on, held_slots}
-use Rattle.batch_model.specs.Dues.{lacks_node, first_stage, new_node, begin_start, node_added, steady, timed_out, ends_resize, due_step, has_reached}
-use Rattle.batch_model.specs.Dues.{has_timed_out, settle_first, pool_steady, pool_timed_out, resize_ended, end_resize, add_on, add_node}
+use Rattle.batch_model.specs.Dues.{lacks_node, first_stage, new_node, begin_start, node_added}
+use Rattle.batch_model.specs.Dues.{add_on, add_node}
 use Rattle.batch_model.specs.Sound.{IsConsistent, are_out_of_order, has_node_row, share_seat, has_node_while_unended, is_of_pool, fits_nodes, has_slots_for}
-use Rattle.batch_model.specs.Sound.{IsWithinLimits, has_no_end_yet, UnendedRunsHaveNoEnd, StartsAreSound, IsSound, awaits_no_start, has_usable_start}
-use Rattle.batch_model.specs.WellFormed.{has_pool_row, is_node_in_range, is_run_valid, is_unended_start_on, has_few_tries}
-use Rattle.batch_model.specs.Variants.{State, PoolRow, StartTask, NodeRow, Starting, Usable, RunRow, TaskRow, Ending, RunKind, StartRun, PrepRun, TaskRun}
-use Rattle.batch_model.specs.Variants.{CoordinationRun, ReleaseRun, Queued, NodeStage, JobRow, Alloc, Steady, Resizing, Stopping, ResizeError}
-use Rattle.batch_model.specs.Variants.{AllocationTimedOut, TaskStage, Active, Placed, Completed}
-use Rattle.batch_model.specs.Events.{taken_run, run_taken, ended_run, ended_by, run_ended}
-use Rattle.batch_model.specs.Starts.{counted_node, change_node, start_ended}
-use Rattle.batch_model.specs.Placing.{placed, place, is_ready, is_placeable, places_tasks, choice, place_task, place_in, place_of_job, place_first}
+use Rattle.batch_model.specs.Sound.{IsWithinLimits, UnendedRunsHaveNoEnd, StartsAreSound, IsSound, awaits_no_start, has_usable_start}
+use Rattle.batch_model.specs.WellFormed.{has_pool_row, is_node_in_range, is_unended_start_on, has_few_tries}
+use Rattle.batch_model.specs.Variants.{State, PoolRow, StartTask, NodeRow, Starting, Usable, RunRow}
+use Rattle.batch_model.specs.Variants.{NodeStage}
 use Rattle.batch_model.specs.Steps.{DueStep}
-use Rattle.batch_model.specs.Tasks.{is_active, is_in_job, is_placed, is_completed, is_busy, completed, main_ending}
-use Rattle.batch_model.specs.Endings.{closed_by}
-use Rattle.batch_model.specs.Settling.{is_over, complete, is_to_settle, active_again, requeue, is_to_requeue, complete_as_ended, settle}
-use Rattle.batch_model.specs.Measure.{one_unless, steps_of_pool, pools_left, steps_of_task, rank}
-use Rattle.model_lists.proofs.Tests.{or_first, or_second, and_true, not_true, true_not, and_first, and_second, asked, passes_or_not, or_cases}
+use Rattle.batch_model.specs.Measure.{steps_of_pool, pools_left, rank}
+use Rattle.model_lists.proofs.Tests.{or_first, or_second, and_true, not_true, true_not, and_first, and_second, passes_or_not}
 use Rattle.model_lists.proofs.RowLists.{each_append, each_any, each_weaker, each_of_two, each_found, find_test, any_append_old, any_append_new, any_found}
-use Rattle.model_lists.proofs.RowLists.{none_any, each_and, any_append}
+use Rattle.model_lists.proofs.RowLists.{none_any}
 use Rattle.model_lists.proofs.DistinctLists.{distinct_append, each_with_key}
-use Rattle.model_lists.proofs.NextNumbers.{below_other, below_other_back, below_not_above, below_next, below_own_next, is_itself, is_not_after_itself, tested}
+use Rattle.model_lists.proofs.NextNumbers.{below_other, below_other_back, below_not_above, below_next, below_own_next, is_itself, tested}
 use Rattle.model_lists.proofs.NextNumbers.{ordered}
-use Rattle.model_lists.proofs.ChangedRows.{each_change, each_change_same}
 use Rattle.model_lists.proofs.RowSums.{count_none}
-use Rattle.model_lists.proofs.KeyedLists.{sum_by-put_row}
-use Rattle.model_tables.proofs.StartAdded.{HasNode, consistent_start_added, limited_start_added, left_in_range, unended_start_added}
-use Rattle.model_tables.proofs.StartsKept.{starts_on, none_awaited, starts_with_pools, starts_node_added, starts_run_added}
+use Rattle.model_tables.proofs.StartAdded.{HasNode, consistent_start_added, limited_start_added, unended_start_added}
+use Rattle.model_tables.proofs.StartsKept.{starts_on, starts_node_added, starts_run_added}
 use Rattle.model_rules.proofs.Rules.{IsDueKept, from_map, from_then, from_only_if}
 
 -- consistent

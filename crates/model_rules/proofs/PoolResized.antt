@@ -1,43 +1,31 @@
 -- The rule that ends the resize of a pool keeps sound tables, and lowers the rank.
-use Rattle.std.proofs.Common.{◌≡◌, ℕ, Bool, true, not, ◌||◌, nat_le, List, Some, find, refl, sym, ◌∙◌, ◌≤◌, length, ◌⊎◌, inl, inr, ◌+◌, ◌<◌, false, ◌&&◌}
-use Rattle.std.proofs.Common.{nat_eq, nat_lt, Option, None, arith, cond, [], ◌∷◌, is_some, option_map, option_and_then, subst}
-use Rattle.std.proofs.lemmas.List.{length-map}
+use Rattle.std.proofs.Common.{◌≡◌, ℕ, Bool, true, not, ◌||◌, nat_le, List, Some, find, refl, sym, ◌∙◌, ◌⊎◌, inl, inr, false, ◌&&◌}
+use Rattle.std.proofs.Common.{Option, arith, cond, subst}
 use Rattle.std.specs.List.{find}
-use Rattle.std.proofs.lemmas.Bool.Decides.{nat_tests, Decides-ltb, Decides-eqb}
-use Rattle.std.proofs.lemmas.List.Sums.{sum_by_push, sum_by-le-sum_by}
 use Rattle.bt_base.proofs.SameIds.{same_equiv}
-use Rattle.bt_base.proofs.Turns.{lex_lt, lex_first, lex_next}
-use Rattle.bt_rows.specs.Keys.{same_pool, same_pool_equiv, same_task, same_task_equiv}
+use Rattle.bt_base.proofs.Turns.{lex_lt, lex_first}
+use Rattle.bt_rows.specs.Keys.{same_pool, same_pool_equiv}
 use Rattle.bt_rows.specs.Lists.{AreDistinct}
-use Rattle.bt_rows.proofs.DistinctRows.{found_first, find-passes, sum_by-less}
-use Rattle.batch_model.specs.Rows.{is_pool, put_pool, put_task, add_node_row, pool_of}
+use Rattle.bt_rows.proofs.DistinctRows.{found_first, find-passes}
+use Rattle.batch_model.specs.Rows.{is_pool, put_pool}
 use Rattle.batch_model.specs.Slots.{held_slots}
-use Rattle.batch_model.specs.Dues.{steady, pool_steady, timed_out, pool_timed_out, ends_resize, has_reached, has_timed_out, lacks_node, new_node, begin_start}
-use Rattle.batch_model.specs.Dues.{node_added, due_step, settle_first, resize_ended, end_resize, add_on, add_node}
-use Rattle.batch_model.specs.Sound.{IsConsistent, has_slots_for, IsWithinLimits, StartsAreSound, IsSound, awaits_no_start, has_usable_start}
-use Rattle.batch_model.specs.WellFormed.{has_pool_row, is_pool_valid, is_deleting_whole, is_unended_start_on, has_few_tries}
-use Rattle.batch_model.specs.Variants.{State, PoolRow, NodeRow, SampleRow, ScaleRow, StartTask, RunRow, TaskRun, Queued, NodeStage, Starting, Usable, JobRow}
-use Rattle.batch_model.specs.Variants.{TaskRow, Alloc, Steady, Resizing, Stopping, ResizeError, AllocationTimedOut, TaskStage, Active, Placed, Completed}
-use Rattle.batch_model.specs.Variants.{Ending}
-use Rattle.batch_model.specs.Finding.{change_where, or_else, first_of, find_map, only_if, has_number_left}
+use Rattle.batch_model.specs.Dues.{steady, pool_steady, timed_out, pool_timed_out, ends_resize, has_reached, has_timed_out}
+use Rattle.batch_model.specs.Dues.{resize_ended, end_resize}
+use Rattle.batch_model.specs.Sound.{IsConsistent, has_slots_for, IsWithinLimits, StartsAreSound, IsSound, awaits_no_start}
+use Rattle.batch_model.specs.WellFormed.{has_pool_row, is_pool_valid, is_deleting_whole}
+use Rattle.batch_model.specs.Variants.{State, PoolRow, NodeRow, SampleRow, ScaleRow}
+use Rattle.batch_model.specs.Variants.{Alloc, Steady, Resizing, Stopping, ResizeError, AllocationTimedOut}
 use Rattle.batch_model.specs.Limits.{pool_limit}
-use Rattle.batch_model.specs.Runs.{is_unended, is_start, start_run, work_run, is_busy_for}
-use Rattle.batch_model.specs.Pools.{waits_for_start, is_resizing, is_steady, staying_count, free_seat}
-use Rattle.batch_model.specs.Placing.{placed, is_ready, is_placeable, place, places_tasks, choice, place_task, place_in, place_of_job, place_first}
+use Rattle.batch_model.specs.Pools.{waits_for_start, is_resizing, is_steady}
 use Rattle.batch_model.specs.Steps.{DueStep}
-use Rattle.batch_model.specs.Tasks.{is_active, is_in_job, is_placed, is_completed, is_busy, completed, main_ending}
-use Rattle.batch_model.specs.Nodes.{is_leaving, stays}
-use Rattle.batch_model.specs.Endings.{closed_by}
-use Rattle.batch_model.specs.Settling.{is_over, complete, is_to_settle, active_again, requeue, is_to_requeue, complete_as_ended, settle}
-use Rattle.batch_model.specs.Measure.{one_unless, steps_of_pool, pools_left, steps_of_task, rank}
-use Rattle.model_lists.proofs.RowLists.{each_weaker, each_found, find_test, any_append, any_append_new}
+use Rattle.batch_model.specs.Measure.{one_unless, steps_of_pool, rank}
+use Rattle.model_lists.proofs.RowLists.{each_weaker, each_found, find_test}
 use Rattle.model_lists.proofs.Lengths.{change_keeps_length}
 use Rattle.model_lists.proofs.ChangedRows.{each_change_same, any_change_same}
-use Rattle.model_lists.proofs.DistinctLists.{distinct_change, each_with_key}
-use Rattle.model_lists.proofs.Tests.{and_first, or_first, or_cases, passes_or_not, and_second, and_true, not_true}
-use Rattle.model_lists.proofs.RowSums.{count_none}
+use Rattle.model_lists.proofs.DistinctLists.{distinct_change}
+use Rattle.model_lists.proofs.Tests.{and_first, or_first, or_cases, and_second}
 use Rattle.model_lists.proofs.KeyedLists.{sum_by-put_row}
-use Rattle.model_tables.proofs.StartsKept.{starts_on, none_awaited, starts_with_pools, starts_node_added, starts_run_added}
+use Rattle.model_tables.proofs.StartsKept.{none_awaited, starts_with_pools}
 use Rattle.model_rules.proofs.Rules.{IsDueKept, from_map}
 
 -- consistent

@@ -1,21 +1,13 @@
 -- What each due rule keeps, and how it is put together: which rows a rule comes from, and the first of several rules.
-use Rattle.std.proofs.Common.{◌≡◌, ℕ, Bool, true, false, not, ◌&&◌, List, [], ◌∷◌, Option, Some, None, find, is_some, option_map, option_and_then, cond, ◌⊎◌}
-use Rattle.std.proofs.Common.{inl, inr, refl, subst}
+use Rattle.std.proofs.Common.{◌≡◌, ℕ, Bool, true, false, not, ◌&&◌, List, [], ◌∷◌, Option, Some, None, find, is_some, option_map, option_and_then, ◌⊎◌}
+use Rattle.std.proofs.Common.{inl, inr, refl}
 use Rattle.bt_base.proofs.Turns.{lex_lt}
-use Rattle.batch_model.specs.Finding.{or_else, first_of, find_map, only_if, has_number_left}
-use Rattle.batch_model.specs.Rows.{pool_of}
-use Rattle.batch_model.specs.Tasks.{main_ending}
-use Rattle.batch_model.specs.Pools.{free_seat}
-use Rattle.batch_model.specs.Settling.{complete, is_to_requeue, requeue, is_to_settle, complete_as_ended, settle}
-use Rattle.batch_model.specs.Placing.{places_tasks, is_placeable, choice, place, place_task, place_in, place_of_job, place_first}
-use Rattle.batch_model.specs.Dues.{settle_first, has_reached, pool_steady, pool_timed_out, ends_resize, resize_ended, end_resize, lacks_node, node_added}
-use Rattle.batch_model.specs.Dues.{add_on, add_node, due_step}
+use Rattle.batch_model.specs.Finding.{or_else, first_of, find_map, only_if}
 use Rattle.batch_model.specs.Steps.{DueStep}
-use Rattle.batch_model.specs.Variants.{State, PoolRow, NodeRow, JobRow, TaskRow, Ending}
+use Rattle.batch_model.specs.Variants.{State}
 use Rattle.batch_model.specs.Sound.{IsSound}
 use Rattle.batch_model.specs.Measure.{rank}
 use Rattle.batch_model.specs.Laws.{PlacesWithinSlots}
-use Rattle.model_lists.proofs.Tests.{and_first, and_second, not_true}
 
 -- the tables after the step are sound, its rank is lower, and if it places a task, then within free slots
 pub record IsDueKept (seats : ℕ) (s : State) (step : DueStep) : Type 0 where

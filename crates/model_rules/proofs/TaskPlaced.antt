@@ -1,42 +1,24 @@
 -- The rule that places a task keeps sound tables, lowers the rank, and takes free slots.
-use Rattle.std.proofs.Common.{◌≡◌, ℕ, ◌+◌, ◌<◌, ◌≤◌, Bool, true, false, not, ◌&&◌, ◌||◌, List, Option, Some, None, cond, find, inl, inr, refl, arith, is_none}
-use Rattle.std.proofs.Common.{nat_eq, nat_lt, [], ◌∷◌, is_some, option_map, option_and_then, ◌⊎◌, subst}
-use Rattle.std.proofs.lemmas.Bool.Decides.{Decides-ltb, Decides-eqb, nat_tests}
-use Rattle.std.proofs.lemmas.List.Sums.{sum_by_push, sum_by-le-sum_by}
+use Rattle.std.proofs.Common.{◌≡◌, ℕ, ◌≤◌, Bool, true, false, not, ◌&&◌, ◌||◌, Some, cond, find, refl, arith}
+use Rattle.std.proofs.Common.{option_map, option_and_then, subst}
+use Rattle.std.proofs.lemmas.List.Sums.{sum_by-le-sum_by}
 use Rattle.std.specs.List.{find}
-use Rattle.bt_base.proofs.SameIds.{same_equiv}
 use Rattle.bt_base.proofs.Turns.{lex_lt, lex_first, lex_next}
-use Rattle.bt_rows.specs.Keys.{same_pool, same_pool_equiv, same_task, same_task_equiv, same_run}
-use Rattle.bt_rows.proofs.DistinctRows.{found_first, find-passes, sum_by-less}
-use Rattle.bt_rows.specs.Lists.{AreDistinct}
-use Rattle.batch_model.specs.Rows.{put_pool, add_node_row, is_run, change_runs, add_run_row, is_pool, put_task, pool_of}
-use Rattle.batch_model.specs.Runs.{is_busy_for, work_run, is_unended, start_run, is_start}
-use Rattle.batch_model.specs.Tasks.{is_active, is_in_job, is_placed, is_completed, is_busy, completed, main_ending}
-use Rattle.batch_model.specs.Pools.{is_resizing, is_steady, staying_count, waits_for_start, free_seat}
-use Rattle.batch_model.specs.Nodes.{is_leaving, stays}
-use Rattle.batch_model.specs.Endings.{closed_by}
-use Rattle.batch_model.specs.Settling.{is_over, complete, is_to_settle, active_again, requeue, is_to_requeue, complete_as_ended, settle}
-use Rattle.batch_model.specs.Placing.{is_ready, is_placeable, placed, place, places_tasks, choice, place_task, place_in, place_of_job, place_first}
-use Rattle.batch_model.specs.Dues.{has_reached, has_timed_out, ends_resize, lacks_node, new_node, begin_start, node_added, due_step, steady, timed_out}
-use Rattle.batch_model.specs.Dues.{settle_first, pool_steady, pool_timed_out, resize_ended, end_resize, add_on, add_node}
+use Rattle.bt_rows.specs.Keys.{same_task, same_task_equiv}
+use Rattle.bt_rows.proofs.DistinctRows.{found_first}
+use Rattle.batch_model.specs.Rows.{put_task, pool_of}
+use Rattle.batch_model.specs.Runs.{is_busy_for, work_run}
+use Rattle.batch_model.specs.Tasks.{is_active, is_placed, is_completed, is_busy}
+use Rattle.batch_model.specs.Placing.{is_placeable, placed, place, places_tasks, choice, place_task, place_in, place_of_job, place_first}
 use Rattle.batch_model.specs.Steps.{DueStep}
-use Rattle.batch_model.specs.Measure.{one_unless, steps_of_pool, pools_left, steps_of_task, rank}
-use Rattle.batch_model.specs.Sound.{IsSound, has_no_end_yet, UnendedRunsHaveNoEnd, IsConsistent, StartsAreSound, awaits_no_start, has_usable_start}
-use Rattle.batch_model.specs.Variants.{State, PoolRow, StartTask, NodeStage, Starting, Usable, NodeRow, JobRow, TaskRow, Alloc, Steady, Resizing, Stopping}
-use Rattle.batch_model.specs.Variants.{ResizeError, AllocationTimedOut, TaskStage, Active, Placed, Completed, Ending, TaskRun, Queued, RunRow, RunKind}
-use Rattle.batch_model.specs.Variants.{StartRun, PrepRun, CoordinationRun, ReleaseRun}
-use Rattle.batch_model.specs.Events.{taken_run, run_taken, ended_run, ended_by, run_ended}
-use Rattle.batch_model.specs.Starts.{counted_node, change_node, start_ended}
-use Rattle.batch_model.specs.WellFormed.{is_unended_start_on, has_few_tries}
-use Rattle.batch_model.specs.Finding.{or_else, first_of, find_map, only_if, has_number_left}
+use Rattle.batch_model.specs.Measure.{steps_of_task, rank}
+use Rattle.batch_model.specs.Sound.{IsSound, has_no_end_yet, UnendedRunsHaveNoEnd}
+use Rattle.batch_model.specs.Variants.{State, PoolRow, NodeRow, JobRow, TaskRow}
+use Rattle.batch_model.specs.Variants.{TaskRun, Queued}
+use Rattle.batch_model.specs.Finding.{find_map, has_number_left}
 use Rattle.model_lists.proofs.KeyedLists.{sum_by-put_row}
-use Rattle.model_lists.proofs.Tests.{and_first, and_second, and_true, or_cases, not_true, asked, passes_or_not}
-use Rattle.model_lists.proofs.RowLists.{any_append, any_append_new, each_append, each_and, each_found, each_weaker}
-use Rattle.model_lists.proofs.ChangedRows.{each_change, each_change_same}
-use Rattle.model_lists.proofs.RowSums.{count_none}
-use Rattle.model_lists.proofs.DistinctLists.{each_with_key}
-use Rattle.model_tables.proofs.StartAdded.{unended_start_added}
-use Rattle.model_tables.proofs.StartsKept.{starts_on, none_awaited, starts_with_pools, starts_node_added, starts_run_added}
+use Rattle.model_lists.proofs.RowLists.{any_append, each_append}
+use Rattle.model_tables.proofs.StartsKept.{starts_run_added}
 use Rattle.model_rules.proofs.place.Limits.{limited_placed}
 use Rattle.model_rules.proofs.place.Slots.{has_placing, has_place, places_task}
 use Rattle.model_rules.proofs.Rules.{IsDueKept, from_map, from_then, from_only_if, from_first}

@@ -1,35 +1,25 @@
 -- The rule that settles a task keeps sound tables, and lowers the rank.
-use Rattle.std.proofs.Common.{◌≡◌, ℕ, Some, refl, true, Option, None, sym, ap, subst, Bool, false, not, ◌&&◌, nat_le, find, ◌+◌, ◌<◌, ◌≤◌, ◌||◌, List, cond}
-use Rattle.std.proofs.Common.{inl, inr, arith, [], ◌∷◌, is_some, option_map, option_and_then, ◌⊎◌}
+use Rattle.std.proofs.Common.{◌≡◌, ℕ, Some, refl, true, Option, None, sym, ap, subst, Bool, false, not, ◌&&◌, nat_le, find, cond}
+use Rattle.std.proofs.Common.{arith}
 use Rattle.std.specs.List.{find, list_any}
-use Rattle.std.proofs.lemmas.Bool.Decides.{Decides-ltb, Decides-eqb}
-use Rattle.std.proofs.lemmas.List.Sums.{sum_by_push, sum_by-le-sum_by}
-use Rattle.bt_base.proofs.SameIds.{same_equiv}
 use Rattle.bt_base.proofs.Turns.{lex_lt, lex_first, lex_next}
-use Rattle.bt_rows.proofs.DistinctRows.{find-passes, found_first, sum_by-less}
+use Rattle.bt_rows.proofs.DistinctRows.{find-passes, found_first}
 use Rattle.bt_rows.specs.Ranges.{passes_if_some}
-use Rattle.bt_rows.specs.Keys.{same_pool, same_pool_equiv, same_task, same_task_equiv}
+use Rattle.bt_rows.specs.Keys.{same_task, same_task_equiv}
 use Rattle.batch_model.specs.Settling.{is_to_settle, complete, is_over, active_again, requeue, is_to_requeue, complete_as_ended, settle}
 use Rattle.batch_model.specs.Endings.{closed_by}
 use Rattle.batch_model.specs.Sound.{IsConsistent, IsWithinLimits, IsSound}
-use Rattle.batch_model.specs.Variants.{State, TaskRow, Completed, Ending, TaskStage, Active, Placed, Closed, JobRow, PoolRow, StartTask, NodeStage, Starting}
-use Rattle.batch_model.specs.Variants.{Usable, NodeRow, Alloc, Steady, Resizing, Stopping, ResizeError, AllocationTimedOut, TaskRun, Queued}
-use Rattle.batch_model.specs.Rows.{put_task, is_task, put_pool, add_node_row, pool_of}
-use Rattle.batch_model.specs.Tasks.{is_placed, is_placed_in, completed, is_active, is_in_job, is_completed, is_busy, main_ending}
+use Rattle.batch_model.specs.Variants.{State, TaskRow, Completed, Ending, TaskStage, Active, Placed, Closed, JobRow}
+use Rattle.batch_model.specs.Rows.{put_task, is_task}
+use Rattle.batch_model.specs.Tasks.{is_placed, is_placed_in, completed, is_active, is_completed, is_busy, main_ending}
 use Rattle.batch_model.specs.WellFormed.{is_closed_if_completed, is_task_in_range, is_closed_past, is_task_valid, has_no_placed_if_quiet}
 use Rattle.batch_model.specs.Jobs.{is_quiet}
 use Rattle.batch_model.specs.Limits.{task_limit}
-use Rattle.batch_model.specs.Runs.{is_busy_for, work_run}
-use Rattle.batch_model.specs.Pools.{is_resizing, is_steady, staying_count, waits_for_start, free_seat}
-use Rattle.batch_model.specs.Nodes.{is_leaving, stays}
-use Rattle.batch_model.specs.Placing.{is_ready, is_placeable, placed, place, places_tasks, choice, place_task, place_in, place_of_job, place_first}
-use Rattle.batch_model.specs.Dues.{has_reached, has_timed_out, ends_resize, lacks_node, new_node, begin_start, node_added, due_step, settle_first, pool_steady}
-use Rattle.batch_model.specs.Dues.{pool_timed_out, resize_ended, end_resize, add_on, add_node}
+use Rattle.batch_model.specs.Dues.{settle_first}
 use Rattle.batch_model.specs.Steps.{DueStep}
-use Rattle.batch_model.specs.Measure.{one_unless, steps_of_pool, pools_left, steps_of_task, rank}
-use Rattle.batch_model.specs.Finding.{or_else, first_of, find_map, only_if, has_number_left}
-use Rattle.model_lists.proofs.Tests.{and_first, and_true, and_second, or_cases, not_true}
-use Rattle.model_lists.proofs.RowLists.{each_found, each_weaker, any_none, none_any, any_append, any_append_new}
+use Rattle.batch_model.specs.Measure.{steps_of_task, rank}
+use Rattle.model_lists.proofs.Tests.{and_first, and_true, and_second, not_true}
+use Rattle.model_lists.proofs.RowLists.{each_found, each_weaker, any_none, none_any}
 use Rattle.model_lists.proofs.ChangedRows.{each_change_same}
 use Rattle.model_lists.proofs.NextNumbers.{is_not_after_itself}
 use Rattle.model_lists.proofs.Lengths.{change_keeps_length}

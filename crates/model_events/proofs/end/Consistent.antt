@@ -1,15 +1,13 @@
 -- A run that ends leaves consistent tables: a start run's ending changes its node.
-use Rattle.std.proofs.Common.{◌≡◌, ℕ, Bool, true, false, not, List, [], ◌∷◌, map, Option, Some, cond, refl, sym, ap, subst, ◌+◌, ◌||◌, ◌∙◌}
+use Rattle.std.proofs.Common.{◌≡◌, ℕ, Bool, true, false, not, List, map, Option, Some, cond, refl, sym, ap, subst, ◌+◌, ◌||◌, ◌∙◌}
 use Rattle.std.specs.List.{find}
 use Rattle.bt_base.specs.Ids.{same}
 use Rattle.bt_base.proofs.SameIds.{same_equiv}
-use Rattle.bt_rows.specs.declared.refusal.Refusal.TheVariants.{RunAlreadyEnded, RunNotTaken, RunWithdrawn}
 use Rattle.bt_rows.specs.Keys.{same_run, same_run_equiv, same_node, same_node_equiv}
 use Rattle.bt_rows.proofs.DistinctRows.{found_first}
 use Rattle.batch_model.specs.Rows.{is_run, change_runs, is_node, node_of}
-use Rattle.batch_model.specs.Runs.{is_taken, is_ended, is_withdrawn}
-use Rattle.batch_model.specs.Events.{accept, answer, ended_run, ended_by, run_ended, end_run}
-use Rattle.batch_model.specs.Steps.{refuse_if}
+use Rattle.batch_model.specs.Runs.{is_taken}
+use Rattle.batch_model.specs.Events.{ended_run, ended_by, run_ended}
 use Rattle.batch_model.specs.Sound.{IsConsistent}
 use Rattle.batch_model.specs.Variants.{State, Ending, RunRow, RunKind, StartRun, PrepRun, TaskRun, CoordinationRun, ReleaseRun, RunState, Waiting, Queued}
 use Rattle.batch_model.specs.Variants.{Taken, Ended, Withdrawn, NodeRow, NodeStage, Starting, Usable, StartFailed, Leaving}

@@ -6,7 +6,7 @@ use Rattle.bt_base.specs.Ids.{same}
 use Rattle.bt_base.proofs.SameIds.{same_equiv}
 use Rattle.bt_rows.specs.Keys.{same_job, same_job_equiv}
 use Rattle.bt_rows.specs.Lists.{AreDistinct}
-use Rattle.bt_rows.specs.Ranges.{is_from_to, is_slot_count}
+use Rattle.bt_rows.specs.Ranges.{is_slot_count}
 use Rattle.bt_rows.proofs.DistinctRows.{found_first}
 use Rattle.batch_model.specs.Finding.{last_number, has_number_left}
 use Rattle.batch_model.specs.Rows.{is_task}
@@ -23,7 +23,7 @@ use Rattle.model_lists.proofs.Tests.{and_true, and_first, and_second, asked}
 use Rattle.model_lists.proofs.RowLists.{each_append, each_of_two, each_found, any_none, none_any}
 use Rattle.model_lists.proofs.ChangedRows.{each_change_same}
 use Rattle.model_lists.proofs.DistinctLists.{each_with_key}
-use Rattle.model_lists.proofs.NextNumbers.{is_not_after_itself, tested, ordered}
+use Rattle.model_lists.proofs.NextNumbers.{is_not_after_itself, ordered}
 use Rattle.model_lists.proofs.Lengths.{change_keeps_length}
 use Rattle.model_tables.proofs.StartAdded.{left_in_range}
 use Rattle.model_rules.proofs.Rules.{less_placed}

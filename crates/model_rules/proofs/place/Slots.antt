@@ -1,5 +1,5 @@
 -- A task is placed within the free slots of a node, and takes them.
-use Rattle.std.proofs.Common.{◌≡◌, ℕ, ◌+◌, ◌-◌, ◌≤◌, true, ◌&&◌, nat_le, Some, find, sym, ◌∙◌, arith, Bool, is_some}
+use Rattle.std.proofs.Common.{◌≡◌, ℕ, ◌+◌, ◌-◌, ◌≤◌, true, ◌&&◌, nat_le, Some, find, ◌∙◌, arith, Bool, is_some}
 use Rattle.std.proofs.lemmas.Bool.Decides.{nat_tests}
 use Rattle.bt_base.proofs.SameIds.{same_equiv}
 use Rattle.bt_rows.specs.Keys.{same_job, same_job_equiv, same_task, same_task_equiv}
@@ -9,10 +9,8 @@ use Rattle.batch_model.specs.Tasks.{is_in_job}
 use Rattle.batch_model.specs.Nodes.{is_in_pool, is_usable}
 use Rattle.batch_model.specs.Slots.{held_slots}
 use Rattle.batch_model.specs.Placing.{is_ready, is_placeable, fits, choice, place, place_task, place_of_job}
-use Rattle.batch_model.specs.Dues.{due_step}
-use Rattle.batch_model.specs.Laws.{free_slots, PlacesTask, PlacesWithinSlots}
-use Rattle.batch_model.specs.Sound.{IsConsistent, IsSound}
-use Rattle.batch_model.specs.Steps.{DueStep}
+use Rattle.batch_model.specs.Laws.{PlacesTask}
+use Rattle.batch_model.specs.Sound.{IsConsistent}
 use Rattle.batch_model.specs.Variants.{State, PoolRow, NodeRow, JobRow, TaskRow}
 use Rattle.model_lists.proofs.Tests.{and_first, and_second}
 use Rattle.model_lists.proofs.RowLists.{find_agree}
