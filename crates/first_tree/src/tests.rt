@@ -1,0 +1,19 @@
+//! Tests of the tree.
+use super::*;
+use std::test::Fail;
+
+#[test]
+fn first_rank_within_a_bound(rt: HostRuntime) -> Result<(), Fail> {
+    let mut tree = FirstTree::new(rt.alloc())?;
+    tree.reserve(3)?;
+    tree.push(7);
+    tree.push(NO_RANK);
+    tree.push(4);
+    assert_eq!(rt; tree.first(6), Some(2));
+    assert_eq!(rt; tree.first(3), None);
+    tree.set(1, 5);
+    assert_eq!(rt; tree.first(6), Some(1));
+    assert_eq!(rt; tree.get(2), 4);
+    assert_eq!(rt; tree.len(), 3);
+    Ok(())
+}
