@@ -1,0 +1,9 @@
+pub mod ByText
+pub mod Closing
+pub mod IdLengths
+pub mod KeptAfter
+pub mod KeyTexts
+pub mod Listed
+pub mod NumberBytes
+pub mod PlacesOf
+pub mod Updates

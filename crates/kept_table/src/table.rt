@@ -1,0 +1,253 @@
+//! The table.
+ghost use Rattle.std.specs.Prelude.{◌≡◌, ◌+◌, ◌*◌, ◌<◌, ◌≤◌, ◌^◌, [], ◌∷◌, ◌++◌, length, map, set, Some, None, Option, OnOk, OnErr};
+ghost use Rattle.std.specs.Option.{option_copied};
+ghost use Rattle.std.specs.List.{find};
+ghost use Rattle.kept_table.specs.Lists.{put_row, drop_row, AreAsListed};
+ghost use Rattle.kept_table.specs.Slots.{TableView, AreApart, place_of, has_text, slot_at, rows, is_sparse, closed_up, IsKept, HasRoom};
+
+use crate::key_text::KeyText;
+use crate::keyed::Keyed;
+use crate::places::{add_spares, drop_place, put_place, reserve_places, spare_text};
+use bt_base::NoMemory;
+use std::alloc::Global;
+use std::collections::HashMap;
+use std::marker::Model;
+use std::mem;
+
+/// Rows in slots by place, in the order of adding. The slot of a removed row stays free until `reserve` closes up the places.
+///
+/// Contracts see the slots, and beside them the room: how many more rows can be pushed without allocating.
+#[derive(Drop)]
+pub struct Table<R: Keyed> {
+    slots: Vec<Option<R>>,
+    /// How many slots have a row.
+    row_count: usize,
+    places: HashMap<Vec<u8>, usize>,
+    spares: Vec<Vec<u8>>,
+    room: usize,
+}
+
+impl<R: Keyed> Model for Table<R> {
+    ghost use Rattle.std.specs.Prelude.{◌≡◌, length};
+    ghost use Rattle.kept_table.specs.Slots.{TableView, IsKept, HasRoom, rows};
+
+    ghost Value = { TableView R };
+
+    ghost view = { λ t. record { slots = t.slots.items; room = t.room } };
+
+    ghost invariant = { λ t. IsKept R.row_text t.slots.items t.places × HasRoom t.slots t.places t.spares t.room × (t.row_count ≡ length (rows t.slots.items)) };
+}
+
+impl<R: Keyed> Table<R> {
+    /// A table without rows. It does not allocate.
+    pub fn new(alloc: Global) -> Table<R>
+        ensures { result.slots ≡ [] }
+    {
+        Table {
+            slots: Vec::new(alloc),
+            row_count: 0,
+            places: HashMap::new(alloc),
+            spares: Vec::new(alloc),
+            room: 0,
+        }
+    }
+
+    /// The slots by place: a row, or None if its row was removed. The rows in them are in the order of adding.
+    pub fn slots(&self) -> &[Option<R>]
+        ensures slots { result.now ≡ self.now.slots }
+        ensures apart { AreApart R.row_text self.now.slots }
+        ensures small { length self.now.slots < 2 ^ 63 }
+    {
+        self.slots.as_slice()
+    }
+
+    /// The number of places, with the free ones.
+    pub fn place_count(&self) -> usize
+        ensures { result ≡ length self.now.slots }
+    {
+        self.slots.len()
+    }
+
+    /// The number of rows.
+    pub fn row_count(&self) -> usize
+        ensures { result ≡ length (rows self.now.slots) }
+    {
+        self.row_count
+    }
+
+    /// Whether more than half of the places are free.
+    pub fn is_sparse(&self) -> bool
+        ensures { result ≡ is_sparse self.now.slots }
+    {
+        2 * self.row_count < self.slots.len()
+    }
+
+    /// The row at this place. None if the place is free, or is not one of the table's.
+    pub fn row_at(&self, place: usize) -> Option<&R>
+        ensures { option_copied result ≡ slot_at self.now.slots place }
+    {
+        match self.slots.get(place) {
+            None => None,
+            Some(slot) => slot.as_ref(),
+        }
+    }
+
+    /// The place of the row with this text of a key.
+    fn place_of_text(&self, text: &[u8]) -> Option<usize>
+        ensures { result ≡ place_of (has_text R.row_text text.now) self.now.slots }
+    {
+        self.places.get(text).copied()
+    }
+
+    /// The place of the row with this key. None if no row has it. It does not allocate.
+    pub fn place_of(&self, key: &R::Key) -> Option<usize>
+        ensures { result ≡ place_of (R.has_key key.now) self.now.slots }
+    {
+        self.place_of_text(R::key_text(key).as_slice())
+    }
+
+    /// The place of the row with the same key as this row. None if no row has it. It does not allocate.
+    pub fn place_of_row(&self, row: &R) -> Option<usize>
+        ensures { result ≡ place_of (λ old. R.same_key old row.now) self.now.slots }
+    {
+        self.place_of_text(row.row_text().as_slice())
+    }
+
+    /// The row with this key. None if no row has it. It does not allocate.
+    pub fn find(&self, key: &R::Key) -> Option<&R>
+        ensures { option_copied result ≡ find (R.has_key key.now) (rows self.now.slots) }
+    {
+        match self.place_of(key) {
+            None => None,
+            Some(place) => self.row_at(place),
+        }
+    }
+
+    /// Adds a row with a new key at the end. It does not allocate.
+    pub fn push(&mut self, row: R)
+        requires room { 0 < self.old.room }
+        requires new { place_of (λ old. R.same_key old row) self.old.slots ≡ None }
+        ensures slots { self.new.slots ≡ self.old.slots ++ Some row ∷ [] }
+        ensures room { self.new.room + 1 ≡ self.old.room }
+    {
+        let key = row.row_text();
+        let text = spare_text(&mut self.spares, key.as_slice());
+        put_place(&mut self.places, text, self.slots.len());
+        self.slots.push_reserved(Some(row));
+        self.row_count += 1;
+        self.room -= 1;
+    }
+
+    /// Puts the row at the place of the one with the same key. It does not allocate.
+    pub fn replace(&mut self, place: usize, row: R)
+        requires { place_of (λ old. R.same_key old row) self.old.slots ≡ Some place }
+        ensures { self.new ≡ record self.old { slots = set self.old.slots place (Some row) } }
+    {
+        self.slots[place] = Some(row);
+    }
+
+    /// Removes the row with this key from its place. It does not allocate.
+    pub fn remove(&mut self, place: usize, key: &R::Key)
+        requires { place_of (R.has_key key.now) self.old.slots ≡ Some place }
+        ensures { self.new ≡ record self.old { slots = set self.old.slots place None } }
+    {
+        let text = R::key_text(key);
+        drop_place(&mut self.places, text.as_slice());
+        self.slots[place] = None;
+        self.row_count -= 1;
+    }
+
+    /// Puts the row at the place of the one with the same key, or else at the end. It does not allocate.
+    pub fn put(&mut self, row: R)
+        requires { 0 < self.old.room }
+        ensures rows { rows self.new.slots ≡ put_row (λ old. R.same_key old row) row (rows self.old.slots) }
+        ensures room { self.old.room ≤ self.new.room + 1 }
+    {
+        match self.place_of_row(&row) {
+            Some(place) => self.replace(place, row),
+            None => self.push(row),
+        }
+    }
+
+    /// Removes the row with this key, if there is one. It does not allocate.
+    pub fn drop_by_key(&mut self, key: &R::Key)
+        ensures rows { rows self.new.slots ≡ drop_row (R.has_key key.now) (rows self.old.slots) }
+        ensures room { self.new.room ≡ self.old.room }
+    {
+        match self.place_of(key) {
+            Some(place) => self.remove(place, key),
+            None => {}
+        }
+    }
+
+    /// Makes room for this many more rows. If more than half of the places are free, the rows are closed up first, in their
+    /// order: their places change, and the list of the rows does not. The only error is out of memory, and then all places are
+    /// as before.
+    pub fn reserve(&mut self, additional: usize) -> Result<(), NoMemory>
+        ensures rows { rows self.new.slots ≡ rows self.old.slots }
+        ensures places { OnOk result (self.new.slots ≡ closed_up self.old.slots) }
+        ensures room { OnOk result (additional ≤ self.new.room) }
+        ensures unchanged { OnErr result (self.new.slots ≡ self.old.slots) }
+    {
+        if self.is_sparse() {
+            self.close_up(additional)
+        } else {
+            self.add_room(additional)
+        }
+    }
+
+    /// Makes room for this many more rows. The places stay.
+    fn add_room(&mut self, additional: usize) -> Result<(), NoMemory>
+        ensures slots { self.new.slots ≡ self.old.slots }
+        ensures room { OnOk result (additional ≤ self.new.room) }
+    {
+        let alloc = *self.slots.allocator();
+        add_spares(alloc, &mut self.spares, additional)?;
+        reserve_places(&mut self.places, additional)?;
+        self.slots.reserve(additional)?;
+        self.room = additional;
+        Ok(())
+    }
+
+    /// Moves the rows, in their order, to a table without free places and with this much room.
+    fn close_up(&mut self, additional: usize) -> Result<(), NoMemory>
+        ensures rows { rows self.new.slots ≡ rows self.old.slots }
+        ensures slots { OnOk result (self.new.slots ≡ map (λ row. Some row) (rows self.old.slots)) }
+        ensures room { OnOk result (additional ≤ self.new.room) }
+        ensures unchanged { OnErr result (self.new.slots ≡ self.old.slots) }
+    {
+        let alloc = *self.slots.allocator();
+        let Some(wanted) = self.row_count.checked_add(additional) else {
+            return Err(NoMemory);
+        };
+        let mut closed = Table::new(alloc);
+        closed.add_room(wanted)?;
+        let slots = mem::replace(&mut self.slots, Vec::new(alloc));
+        *self = with_rows_of(closed, slots);
+        Ok(())
+    }
+}
+
+/// The table without rows, with the rows of these slots in their order. It does not allocate.
+fn with_rows_of<R: Keyed>(table: Table<R>, slots: Vec<Option<R>>) -> Table<R>
+    requires empty { table.slots ≡ [] }
+    requires room { length (rows slots.items) ≤ table.room }
+    requires apart { AreApart R.row_text slots.items }
+    ensures slots { result.slots ≡ map (λ row. Some row) (rows slots.items) }
+    ensures room { result.room + length (rows slots.items) ≡ table.room }
+{
+    let mut table = table;
+    for slot in slots {
+        match slot {
+            Some(row) => table.push(row),
+            None => {}
+        }
+    }
+    table
+}
+
+/// A law of places: changes of the slots are puts and drops in the list of rows, and a place that was found has the row that a
+/// search of the list finds.
+pub fn places_are_lists<R: Keyed>()
+    ensures { AreAsListed R }
+{}
