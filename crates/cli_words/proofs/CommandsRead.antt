@@ -1,4 +1,4 @@
--- A command whose options are read one behind the other is that of the words.
+-- A command whose options are read one after the other is that of the words.
 use Rattle.std.proofs.Common.{◌≡◌, ◌≤◌, ℕ, List, [], ◌∷◌, Option, Some, None, length, unwrap_or, option_map, option_and_then, refl, ap, ◌∙◌, sym, subst, arith, get_or, drop}
 use Rattle.std.specs.Option.{option_map_or}
 use Rattle.cli_words.specs.declared.command_name.CommandName.{CommandName}
@@ -10,18 +10,18 @@ use Rattle.cli_words.specs.declared.command.Command.{Command}
 use Rattle.cli_words.specs.Commands.{Setting, command_in, option_in, joined_in, parted_in, settings_in, number_for, is_seats, is_journal, is_now, is_dedicated, texts_for, value_of, unless_given, replay_with, formula_with, command_with, command_of}
 use Rattle.cli_words.specs.Reading.{put, set_one, set_all, command_given}
 
--- the value of an option that may be given already
+-- the value of an option that may have been read before
 abbrev value_from : Option ℕ → (List ℕ → Option ℕ) → ℕ → List (List ℕ) → Option ℕ
 value_from None read usual texts = value_of read usual texts
 value_from (Some n) read usual [] = Some n
 value_from (Some n) read usual (text ∷ texts) = None
 
--- a command whose options do not have this one, which may be given already
+-- a command that does not have an option, which may have been read before
 abbrev unless_set : Option ℕ → List (List ℕ) → Option Command → Option Command
 unless_set None texts command = unless_given texts command
 unless_set (Some n) texts command = None
 
--- the command with the values that are given already and those of the settings
+-- the command with the values that were read before and those of the settings
 abbrev command_from : CommandName → Option ℕ → Option ℕ → Option ℕ → Option ℕ → List Setting → Option Command
 command_from names.Replay a b c d settings =
     unless_set c (texts_for is_now settings) (unless_set d (texts_for is_dedicated settings)
@@ -62,12 +62,12 @@ value_bad : (read : List ℕ → Option ℕ) (usual : ℕ) (text : List ℕ) (te
 value_bad read usual text [] e = e
 value_bad read usual text (next ∷ more) e = refl
 
--- one value more that wasn't given before
+-- one more value, which was not read before
 value_next : (read : List ℕ → Option ℕ) (usual : ℕ) (text : List ℕ) (n : ℕ) (texts : List (List ℕ)) → read text ≡ Some n → value_from (Some n) read usual texts ≡ value_of read usual (text ∷ texts)
 value_next read usual text n [] e = sym e
 value_next read usual text n (next ∷ more) e = refl
 
--- the usual value, where no text gives another
+-- the default, if no text is given
 value_last : (o : Option ℕ) (read : List ℕ → Option ℕ) (usual : ℕ) → value_from o read usual [] ≡ Some (unwrap_or o usual)
 value_last None read usual = refl
 value_last (Some n) read usual = refl
@@ -87,7 +87,7 @@ put_other (Some n) number set from none = refl
 put_other None None set from none = refl
 put_other None (Some n) set from none = none n
 
--- one setting more
+-- one more setting
 one_replay : (a b c d : Option ℕ) (option : OptionName) (text : List ℕ) (more : List Setting) → option_and_then (λ (h : Given). from_given names.Replay h more) (set_one (given_of a b c d) option text) ≡ command_from names.Replay a b c d ((option, text) ∷ more)
 unfolding given_of
 one_replay a b c d Seats text more =
@@ -131,7 +131,7 @@ unfolding given_of
 one_more names.Replay g s more = one_replay g.seats g.limit g.now g.dedicated s.0 s.1 more
 one_more names.Formula g s more = one_formula g.seats g.limit g.now g.dedicated s.0 s.1 more
 
--- no setting more
+-- no more settings
 none_replay : (a b c d : Option ℕ) → command_given names.Replay (given_of a b c d) ≡ command_from names.Replay a b c d []
 unfolding given_of
 none_replay a b None None = sym (ap (λ v. replay_with v (value_from b (number_for Journal) 4000000 [])) (value_last a (number_for Seats) 8) ∙ ap (λ v. replay_with (Some (unwrap_or a 8)) v) (value_last b (number_for Journal) 4000000))
@@ -149,7 +149,7 @@ unfolding given_of
 none_more names.Replay g = none_replay g.seats g.limit g.now g.dedicated
 none_more names.Formula g = none_formula g.seats g.limit g.now g.dedicated
 
--- what is set by a setting and then by the rest
+-- a setting and then the rest
 then_rest : (name : CommandName) (o : Option Given) (q : Option (List Setting)) (set : Given → Option Given) → ((h : Given) → option_and_then (command_given name) (set h) ≡ option_and_then (from_given name h) q) → option_and_then (command_given name) (option_and_then set o) ≡ option_and_then (λ (more : List Setting). option_and_then (λ (h : Given). from_given name h more) o) q
 then_rest name None None set rest = refl
 then_rest name None (Some more) set rest = refl
@@ -186,7 +186,7 @@ all_set name [] g = none_more name g
 all_set name (word ∷ []) g = last_word name g (joined_in word)
 all_set name (word ∷ next ∷ rest) g = by_joined name g (joined_in word) (parted_in word next) next rest (λ h. all_set name (next ∷ rest) h) (λ h. all_set name rest h)
 
--- a first word that holds an option and its value
+-- a first word that is an option with its value
 pub next_joined : (g h : Given) (words : List (List ℕ)) (word : List ℕ) (s : Setting) → 2 ≤ length words → word ≡ get_or words 0 word → joined_in word ≡ Some s → set_one g s.0 s.1 ≡ Some h → set_all g words ≡ set_all h (drop 1 words)
 next_joined g h [] word s two first j o = absurd (omega arith)
 next_joined g h (w ∷ []) word s two first j o = absurd (omega arith)
@@ -195,7 +195,7 @@ next_joined g h (w ∷ v ∷ rest) word s two first j o =
     ap (λ q. option_map_or (λ (s : Setting). option_and_then (λ (g : Given). set_all g (v ∷ rest)) (set_one g s.0 s.1)) q (option_and_then (λ (s : Setting). option_and_then (λ (g : Given). set_all g rest) (set_one g s.0 s.1)) (parted_in w v))) jw
     ∙ ap (λ q. option_and_then (λ (g : Given). set_all g (v ∷ rest)) q) o
 
--- a first word that is an option, and its value behind it
+-- a first word that is an option, and its value after it
 pub next_parted : (g h : Given) (words : List (List ℕ)) (word next : List ℕ) (name : OptionName) → 2 ≤ length words → word ≡ get_or words 0 word → next ≡ get_or words 1 next → joined_in word ≡ None → option_in word ≡ Some name → set_one g name next ≡ Some h → set_all g words ≡ set_all h (drop 2 words)
 next_parted g h [] word next name two first second j n o = absurd (omega arith)
 next_parted g h (w ∷ []) word next name two first second j n o = absurd (omega arith)
@@ -207,13 +207,13 @@ next_parted g h (w ∷ v ∷ rest) word next name two first second j n o =
     ∙ ap (λ q. option_and_then (λ (s : Setting). option_and_then (λ (g : Given). set_all g rest) (set_one g s.0 s.1)) (option_map (λ name. (name, v)) q)) nw
     ∙ ap (λ q. option_and_then (λ (g : Given). set_all g rest) q) ow
 
--- from no option on
+-- starting without options
 with_nothing : (name : CommandName) (q : Option (List Setting)) → option_and_then (command_from name None None None None) q ≡ option_and_then (command_with name) q
 with_nothing name None = refl
 with_nothing names.Replay (Some settings) = refl
 with_nothing names.Formula (Some settings) = refl
 
--- no option is given
+-- no options
 pub record IsNothing (g : Given) : Type 0 where
   pub seats : g.seats ≡ None
   pub limit : g.limit ≡ None
@@ -236,7 +236,7 @@ command_read (w ∷ rest) word name g one first named none =
     ap (λ o. option_and_then (λ n. option_and_then (command_with n) (settings_in rest)) o) spelled
     ∙ sym (all_set name rest g ∙ from_nothing name g (settings_in rest) none)
 
--- words that begin with no command's name
+-- words that do not begin with a command's name
 pub command_unknown : (words : List (List ℕ)) (word : List ℕ) → 1 ≤ length words → word ≡ get_or words 0 word → command_in word ≡ None → command_of words ≡ None
 command_unknown [] word one first named = absurd (omega arith)
 command_unknown (w ∷ rest) word one first named =

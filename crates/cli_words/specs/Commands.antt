@@ -6,6 +6,8 @@ use Rattle.std.specs.List.{find, position}
 use Rattle.std.specs.Str.{bytes_eq}
 use Rattle.bt_base.specs.Moments.{last_moment}
 use Rattle.wire_lines.specs.Numbers.{number_in}
+use Rattle.bt_rows.specs.declared.limits.TheConstants.{SEAT_LIMIT, TARGET_LIMIT}
+use Rattle.cli_words.specs.declared.command.TheConstants.{DEFAULT_SEATS, JOURNAL_LIMIT}
 use Rattle.cli_words.specs.declared.command_name.CommandName.{CommandName}
 use Rattle.cli_words.specs.declared.command_name.CommandName.TheVariants as names
 use Rattle.cli_words.specs.declared.option_name.OptionName.{OptionName}
@@ -13,25 +15,27 @@ use Rattle.cli_words.specs.declared.option_name.OptionName.TheVariants.{Seats, J
 use Rattle.cli_words.specs.declared.command.Command.{Command}
 use Rattle.cli_words.specs.declared.command.Command.TheVariants.{Replay, Formula}
 
--- as the words spell it
+-- the name of a command
 unfoldable pub command_text : CommandName → List ℕ
 command_text names.Replay = codes "replay"
 command_text names.Formula = codes "formula"
 
+-- the name of an option
 unfoldable pub option_text : OptionName → List ℕ
 option_text Seats = codes "--seats"
 option_text Journal = codes "--journal"
 option_text Now = codes "--now"
 option_text Dedicated = codes "--dedicated"
 
--- the command that is spelled so
+-- the command with this name
 unfoldable pub command_in : List ℕ → Option CommandName
 command_in text = find (λ name. bytes_eq text (command_text name)) (names.Replay ∷ names.Formula ∷ [])
 
--- the option that is spelled so
+-- the option with this name
 unfoldable pub option_in : List ℕ → Option OptionName
 option_in text = find (λ name. bytes_eq text (option_text name)) (Seats ∷ Journal ∷ Now ∷ Dedicated ∷ [])
 
+-- the option is this one
 abbrev pub is_seats : OptionName → Bool
 is_seats Seats = true
 is_seats _ = false
@@ -56,7 +60,7 @@ Setting = OptionName × List ℕ
 abbrev pub joined_in : List ℕ → Option Setting
 joined_in word = option_and_then (λ i. option_map (λ name. (name, drop (suc i) word)) (option_in (take i word))) (position (λ b. b == 61) word)
 
--- a word that is an option, and the text of its value behind it
+-- a word that is an option, and the text of its value after it
 abbrev pub parted_in : List ℕ → List ℕ → Option Setting
 parted_in word value = option_map (λ name. (name, value)) (option_in word)
 
@@ -76,42 +80,43 @@ number_from_to low high text =
 
 -- the number of an option: 1 to 32 seats, a journal of 1 to 4,000,000 calls, a moment up to the year 9999, up to 1,000 nodes
 abbrev pub number_for : OptionName → List ℕ → Option ℕ
-number_for Seats text = number_from_to 1 32 text
-number_for Journal text = number_from_to 1 4000000 text
+number_for Seats text = number_from_to 1 SEAT_LIMIT text
+number_for Journal text = number_from_to 1 JOURNAL_LIMIT text
 number_for Now text = number_from_to 0 last_moment text
-number_for Dedicated text = number_from_to 0 1000 text
+number_for Dedicated text = number_from_to 0 TARGET_LIMIT text
 
 -- the texts that are given to these options
 abbrev pub texts_for : (OptionName → Bool) → List Setting → List (List ℕ)
 texts_for test settings = map (λ setting. setting.1) (filter (λ setting. test setting.0) settings)
 
--- the value of an option: the usual one where no text gives it, and none where more than one does
+-- the value of an option: the default if no text is given, and none if more than one is
 abbrev pub value_of : (List ℕ → Option ℕ) → ℕ → List (List ℕ) → Option ℕ
 value_of read usual [] = Some usual
 value_of read usual (text ∷ []) = read text
 value_of read usual (text ∷ next ∷ more) = None
 
--- a command whose options do not have this one, to which texts are given or not
+-- a command that does not have an option, for which texts are given or not
 abbrev pub unless_given : List (List ℕ) → Option Command → Option Command
 unless_given [] command = command
 unless_given (text ∷ texts) command = None
 
--- with both values
+-- the command with both values
 abbrev pub replay_with : Option ℕ → Option ℕ → Option Command
 replay_with (Some count) (Some most) = Some (Replay (record { seats = count; limit = most }))
 replay_with (Some count) None = None
 replay_with None most = None
 
+-- the command with both values
 abbrev pub formula_with : Option ℕ → Option ℕ → Option Command
 formula_with (Some moment) (Some nodes) = Some (Formula (record { now = moment; dedicated = nodes }))
 formula_with (Some moment) None = None
 formula_with None nodes = None
 
--- the command with the values that the settings give, and the usual ones for those that none gives
+-- the command with the values of the settings, and the defaults of its other options
 abbrev pub command_with : CommandName → List Setting → Option Command
 command_with names.Replay settings =
     unless_given (texts_for is_now settings) (unless_given (texts_for is_dedicated settings)
-    (replay_with (value_of (number_for Seats) 8 (texts_for is_seats settings)) (value_of (number_for Journal) 4000000 (texts_for is_journal settings))))
+    (replay_with (value_of (number_for Seats) DEFAULT_SEATS (texts_for is_seats settings)) (value_of (number_for Journal) JOURNAL_LIMIT (texts_for is_journal settings))))
 command_with names.Formula settings =
     unless_given (texts_for is_seats settings) (unless_given (texts_for is_journal settings)
     (formula_with (value_of (number_for Now) 0 (texts_for is_now settings)) (value_of (number_for Dedicated) 0 (texts_for is_dedicated settings))))

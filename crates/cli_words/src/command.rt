@@ -2,27 +2,35 @@
 
 use bt_base::Moment;
 
-/// What the options of `replay` are set to.
+/// The number of seats if none is stated.
+pub const DEFAULT_SEATS: u8 = 8;
+
+/// The greatest number of calls that a journal takes, and the number if none is stated.
+pub const JOURNAL_LIMIT: u32 = 4_000_000;
+
+/// The options of `replay`.
 #[derive(Clone, Copy, Debug, PartialEq, Eq)]
 pub struct ReplayOptions {
-    /// The seats of the machine, from 1 to 32.
+    /// The number of seats of the machine, 1 to 32.
     pub seats: u8,
-    /// How many calls the journal takes, from 1 to 4,000,000.
+    /// The number of calls that the journal takes, 1 to 4,000,000.
     pub limit: u32,
 }
 
-/// What the options of `formula` are set to.
+/// The options of `formula`.
 #[derive(Clone, Copy, Debug, PartialEq, Eq)]
 pub struct FormulaOptions {
     /// The present moment.
     pub now: Moment,
-    /// The target of dedicated nodes before the formula is evaluated, from 0 to 1,000.
+    /// The target of dedicated nodes before the formula is evaluated, 0 to 1,000.
     pub dedicated: u32,
 }
 
-/// What the words ask.
+/// A command with its options.
 #[derive(Clone, Copy, Debug, PartialEq, Eq)]
 pub enum Command {
+    /// Does a script over tables.
     Replay(ReplayOptions),
+    /// Evaluates a formula.
     Formula(FormulaOptions),
 }

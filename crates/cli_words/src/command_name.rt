@@ -2,15 +2,17 @@
 ghost use Rattle.std.specs.Prelude.{◌≡◌};
 ghost use Rattle.cli_words.specs.Commands.{command_text, command_in};
 
-/// A command.
+/// The name of a command.
 #[derive(Clone, Copy, Debug, PartialEq, Eq)]
 pub enum CommandName {
+    /// Does a script over tables.
     Replay,
+    /// Evaluates a formula.
     Formula,
 }
 
 impl CommandName {
-    /// As the words spell it.
+    /// The name's text. It does not allocate.
     #[tactic(auto, unfolding(crate::specs::Commands::command_text))]
     pub fn text(self) -> &'static str
         ensures { result.now ≡ command_text self }
@@ -21,7 +23,7 @@ impl CommandName {
         }
     }
 
-    /// The command that is spelled so.
+    /// The command with this name, if there is one. It does not allocate.
     #[tactic(auto, unfolding(crate::specs::Commands::command_in))]
     pub fn read(text: &[u8]) -> Option<CommandName>
         ensures { result ≡ command_in text.now }

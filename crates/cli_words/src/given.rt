@@ -1,20 +1,25 @@
-//! The options that are given so far.
+//! The options that were read so far.
 ghost use Rattle.std.specs.Prelude.{◌≡◌};
 ghost use Rattle.cli_words.specs.Commands.{number_from_to, number_for};
 ghost use Rattle.cli_words.specs.Reading.{set_one, command_given};
 
-use crate::command::{Command, FormulaOptions, ReplayOptions};
+use crate::command::{Command, DEFAULT_SEATS, FormulaOptions, JOURNAL_LIMIT, ReplayOptions};
 use crate::command_name::CommandName;
 use crate::option_name::OptionName;
-use bt_base::Moment;
+use bt_base::{LAST_MOMENT_MS, Moment};
+use bt_rows::limits::{SEAT_LIMIT, TARGET_LIMIT};
 use wire_lines::read_number;
 
-/// The options that are given so far.
+/// The options that were read so far; None for one that was not.
 #[derive(Clone, Copy, Debug, PartialEq, Eq)]
 pub struct Given {
+    /// The number of seats, 1 to 32.
     pub seats: Option<u8>,
+    /// The number of calls that the journal takes, 1 to 4,000,000.
     pub limit: Option<u32>,
+    /// The present moment.
     pub now: Option<Moment>,
+    /// The target of dedicated nodes before, 0 to 1,000.
     pub dedicated: Option<u32>,
 }
 
@@ -33,39 +38,40 @@ fn number_from_to(low: u64, high: u64, text: &[u8]) -> Option<u64>
     }
 }
 
+/// The value of `--seats`.
 fn seats_in(text: &[u8]) -> Option<u8>
     ensures { result ≡ number_for OptionName.Seats text.now }
 {
-    let number = number_from_to(1, 32, text)?;
+    let number = number_from_to(1, u64::from(SEAT_LIMIT), text)?;
     Some(number as u8)
 }
 
+/// The value of `--journal`.
 fn limit_in(text: &[u8]) -> Option<u32>
     ensures { result ≡ number_for OptionName.Journal text.now }
 {
-    let number = number_from_to(1, 4_000_000, text)?;
+    let number = number_from_to(1, u64::from(JOURNAL_LIMIT), text)?;
     Some(number as u32)
 }
 
-/// The last moment: the last millisecond of the year 9999.
-const LAST: u64 = 253_402_300_799_999;
-
+/// The value of `--now`.
 fn now_in(text: &[u8]) -> Option<Moment>
     ensures { result ≡ number_for OptionName.Now text.now }
 {
-    let number = number_from_to(0, LAST, text)?;
+    let number = number_from_to(0, LAST_MOMENT_MS, text)?;
     Moment::of_ms(number)
 }
 
+/// The value of `--dedicated`.
 fn dedicated_in(text: &[u8]) -> Option<u32>
     ensures { result ≡ number_for OptionName.Dedicated text.now }
 {
-    let number = number_from_to(0, 1_000, text)?;
+    let number = number_from_to(0, u64::from(TARGET_LIMIT), text)?;
     Some(number as u32)
 }
 
 impl Given {
-    /// What is given with one option more, which is not given yet.
+    /// These options and one more; None if that was read before, or its value is not in its range. It does not allocate.
     pub fn set_one(self, name: OptionName, text: &[u8]) -> Option<Given>
         ensures { result ≡ set_one self name text.now }
     {
@@ -90,8 +96,8 @@ impl Given {
         }
     }
 
-    /// The command with what is given and the usual values of its other options: 8 seats, a journal of 4,000,000 calls, the
-    /// moment 0, no dedicated nodes. None where an option of another command is given.
+    /// The command with these options and the defaults of its others: 8 seats, a journal of 4,000,000 calls, the moment 0, no
+    /// dedicated nodes. None if an option is another command's. It does not allocate.
     pub fn command(self, name: CommandName) -> Option<Command>
         ensures { result ≡ command_given name self }
     {
@@ -100,8 +106,8 @@ impl Given {
                 if self.now.is_some() || self.dedicated.is_some() {
                     return None;
                 }
-                let seats = self.seats.unwrap_or(8);
-                let limit = self.limit.unwrap_or(4_000_000);
+                let seats = self.seats.unwrap_or(DEFAULT_SEATS);
+                let limit = self.limit.unwrap_or(JOURNAL_LIMIT);
                 Some(Command::Replay(ReplayOptions { seats, limit }))
             }
             CommandName::Formula => {

@@ -1,5 +1,5 @@
-//! The words of the command line: which command they are, and what its options are set to. They are read by hand, in one pass
-//! that takes no memory.
+//! The words of the command line: the command that they are, with its options. They are read in one pass that does not
+//! allocate. Commands and options are this project's own.
 #![tactic(auto)]
 
 mod command;
@@ -8,7 +8,7 @@ mod given;
 mod option_name;
 mod words;
 
-pub use command::{Command, FormulaOptions, ReplayOptions};
+pub use command::{Command, DEFAULT_SEATS, FormulaOptions, JOURNAL_LIMIT, ReplayOptions};
 pub use words::read_command;
 
 #[cfg(test)]

@@ -2,17 +2,21 @@
 ghost use Rattle.std.specs.Prelude.{◌≡◌};
 ghost use Rattle.cli_words.specs.Commands.{option_text, option_in};
 
-/// An option: the first two are of `replay`, the others of `formula`.
+/// The name of an option.
 #[derive(Clone, Copy, Debug, PartialEq, Eq)]
 pub enum OptionName {
+    /// Of `replay`: the number of seats.
     Seats,
+    /// Of `replay`: the number of calls that the journal takes.
     Journal,
+    /// Of `formula`: the present moment.
     Now,
+    /// Of `formula`: the target of dedicated nodes before.
     Dedicated,
 }
 
 impl OptionName {
-    /// As the words spell it.
+    /// The name's text. It does not allocate.
     #[tactic(auto, unfolding(crate::specs::Commands::option_text))]
     pub fn text(self) -> &'static str
         ensures { result.now ≡ option_text self }
@@ -25,7 +29,7 @@ impl OptionName {
         }
     }
 
-    /// The option that is spelled so.
+    /// The option with this name, if there is one. It does not allocate.
     #[tactic(auto, unfolding(crate::specs::Commands::option_in))]
     pub fn read(text: &[u8]) -> Option<OptionName>
         ensures { result ≡ option_in text.now }

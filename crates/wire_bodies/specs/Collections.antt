@@ -17,11 +17,13 @@ task_item name d = do
   members ← object_item d name
   task_in members
 
+-- the items of the required list `value`
 unfoldable pub collection_in : Data → Result (List TaskSpec) Refusal
 collection_in d = do
   items ← required_list (Some d) names.Value
   items_in (task_item names.Value) items
 
+-- the tasks that the bytes of a body are
 unfoldable pub collection_of : List ℕ → Result (List TaskSpec) Refusal
 collection_of bytes = do
   d ← object_of bytes

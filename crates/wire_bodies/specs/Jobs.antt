@@ -8,7 +8,7 @@ use Rattle.bt_rows.specs.declared.refusal.Refusal.{Refusal}
 use Rattle.wire_members.specs.Body.{object_of}
 use Rattle.wire_members.specs.Members.{id_member, object_member, unbuilt_member}
 
--- the job's id, and a job of priority 0, without limits, retries and actions
+-- the members in this order: the job's id, and a job of priority 0, without limits, retries and actions
 unfoldable pub job_in : Data → Result (List ℕ × JobSpec) Refusal
 job_in d = do
   id ← id_member (Some d) names.Id
@@ -24,6 +24,7 @@ job_in d = do
   pool ← id_member place names.PoolId
   Ok (id, record { pool = pool; priority = pos 0; parallel = negsuc 0; retries = pos 0; wall = None; deps = false; on_all = false; on_fail = false; prep = None; release = None })
 
+-- the job that the bytes of a body are, and its id
 unfoldable pub job_of : List ℕ → Result (List ℕ × JobSpec) Refusal
 job_of bytes = do
   d ← object_of bytes

@@ -2,6 +2,7 @@
 use Rattle.std.specs.Prelude.{ℕ, List, Some, None, Result, Ok, false}
 use Rattle.serde_json.specs.Data.{Data}
 use Rattle.bt_base.specs.Fails.{◌>>=◌}
+use Rattle.bt_rows.specs.declared.limits.TheConstants.{DEFAULT_RESIZE_TIMEOUT, SLOT_LIMIT, TARGET_LIMIT}
 use Rattle.bt_rows.specs.declared.member.Member.TheVariants as names
 use Rattle.bt_rows.specs.declared.event.PoolSpec.{PoolSpec}
 use Rattle.bt_rows.specs.declared.pool.Fill.TheVariants.{Spread}
@@ -11,13 +12,13 @@ use Rattle.wire_members.specs.Members.{count_member, id_member, object_member, u
 use Rattle.wire_members.specs.Words.{fill_word}
 use Rattle.wire_bodies.specs.Starts.{start_if}
 
--- 15 minutes for a resize
+-- the members in this order, with their defaults
 unfoldable pub pool_in : Data → Result PoolSpec Refusal
 pool_in d = do
   id ← id_member (Some d) names.Id
-  dedicated ← count_member (Some d) names.TargetDedicatedNodes 0 1000 0
+  dedicated ← count_member (Some d) names.TargetDedicatedNodes 0 TARGET_LIMIT 0
   _ ← unbuilt_member (Some d) names.TargetLowPriorityNodes
-  slots ← count_member (Some d) names.TaskSlotsPerNode 1 8 1
+  slots ← count_member (Some d) names.TaskSlotsPerNode 1 SLOT_LIMIT 1
   policy ← object_member (Some d) names.TaskSchedulingPolicy
   fill ← word_member fill_word policy names.NodeFillType Spread
   _ ← unbuilt_member (Some d) names.EnableInterNodeCommunication
@@ -27,8 +28,9 @@ pool_in d = do
   _ ← unbuilt_member (Some d) names.EnableAutoScale
   _ ← unbuilt_member (Some d) names.AutoScaleFormula
   _ ← unbuilt_member (Some d) names.AutoScaleEvaluationInterval
-  Ok (record { id = id; dedicated = dedicated; low = 0; slots = slots; fill = fill; inter = false; timeout = 900000; start = start; scale = None })
+  Ok (record { id = id; dedicated = dedicated; low = 0; slots = slots; fill = fill; inter = false; timeout = DEFAULT_RESIZE_TIMEOUT; start = start; scale = None })
 
+-- the pool that the bytes of a body are
 unfoldable pub pool_of : List ℕ → Result PoolSpec Refusal
 pool_of bytes = do
   d ← object_of bytes

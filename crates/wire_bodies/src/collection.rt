@@ -28,6 +28,7 @@ impl ListItem for TaskSpec {
     }
 }
 
+/// The tasks that the members of the body are.
 #[tactic(auto, unfolding(crate::specs::Collections::collection_in))]
 fn collection(alloc: Global, body: &Value) -> Result<List<TaskSpec>, Fail<Refusal>>
     ensures value { Gives result (collection_in (view body.now)) }
@@ -37,12 +38,12 @@ fn collection(alloc: Global, body: &Value) -> Result<List<TaskSpec>, Fail<Refusa
     read_items(alloc, Member::Value, values)
 }
 
-/// The body of `add-tasks`: `value`, a list of objects, each of them the body of an `add-task`. The list may be empty, and
-/// how many tasks it may have is the service's to refuse.
+/// The body of `add-tasks` (Azure: Create Task Collection): `value`, a list of objects, each of them the body of an `add-task`.
+/// The list may be empty; the number of tasks is limited by the service, not here.
 ///
-/// Bytes that are no JSON object are `UnreadableBody`. A `value` that is absent or no list, and an item that is no object,
-/// are `InvalidPropertyValue(Value)`. A fault of an item's member is told as that of an `add-task`, the first item with one
-/// before those behind it.
+/// Bytes that are not a JSON object are `UnreadableBody`. A `value` that is absent or not a list, and an item that is not an
+/// object, are `InvalidPropertyValue(Value)`. A fault of an item's member is refused as that of an `add-task`; the first item
+/// with a fault decides. It fails with `Memory` when out of memory.
 #[tactic(auto, unfolding(crate::specs::Collections::collection_of))]
 pub fn read_collection(alloc: Global, bytes: &[u8]) -> Result<List<TaskSpec>, Fail<Refusal>>
     ensures value { Gives result (collection_of bytes.now) }

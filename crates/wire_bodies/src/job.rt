@@ -13,6 +13,7 @@ use serde_json::Value;
 use std::alloc::Global;
 use wire_members::{id_member, object_member, read_object, unbuilt_member};
 
+/// The job that the members of the body are, and its id.
 #[tactic(auto, unfolding(crate::specs::Jobs::job_in))]
 fn job(alloc: Global, body: &Value) -> Result<(Id, JobSpec), Fail<Refusal>>
     ensures value { Gives result (job_in (view body.now)) }
@@ -46,11 +47,11 @@ fn job(alloc: Global, body: &Value) -> Result<(Id, JobSpec), Fail<Refusal>>
     ))
 }
 
-/// The body of `add-job`: `id`, and `poolInfo` with `poolId`.
+/// The body of `add-job` (Azure: Create Job): `id`, and `poolInfo` with `poolId`.
 ///
-/// Bytes that are no JSON object are `UnreadableBody`. A member that is of a wrong kind, an absent `id` or `poolId` and a
-/// member that the service does not take yet are `InvalidPropertyValue` with its name; an absent `poolInfo` is refused as
-/// `poolId`.
+/// Bytes that are not a JSON object are `UnreadableBody`. A member that is of a wrong kind, an absent `id` or `poolId` and a
+/// member that the service does not support yet are `InvalidPropertyValue` with its name; an absent `poolInfo` is refused as
+/// `poolId`. It fails with `Memory` when out of memory.
 #[tactic(auto, unfolding(crate::specs::Jobs::job_of))]
 pub fn read_job(alloc: Global, bytes: &[u8]) -> Result<(Id, JobSpec), Fail<Refusal>>
     ensures value { Gives result (job_of bytes.now) }

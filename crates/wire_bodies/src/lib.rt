@@ -1,5 +1,5 @@
-//! The bodies of requests: the members of each, read in the order in which its definition names them. The first fault in
-//! this order is the one that is told, and members that are not named are passed over.
+//! The bodies of requests (Azure Batch REST reference, in this project's profile): the members of each, read in the order of its
+//! definition. The first fault in this order is returned, and other members are ignored.
 #![tactic(auto)]
 
 mod collection;

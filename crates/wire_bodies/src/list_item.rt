@@ -14,19 +14,22 @@ use bt_rows::refusal::Refusal;
 use serde_json::Value;
 use std::alloc::Global;
 
-/// What the items of a list member are read as.
+/// A type that the items of a list member are read as.
 pub trait ListItem: Drop {
+    // the item that a value is, under the list's name
     ghost item_in: { Member → Data → Result Self Refusal };
 
+    // what every item that is read keeps
     ghost is_in_range: { Self → Bool };
 
-    /// The item that the value is. One of a wrong kind is `InvalidPropertyValue` with the list's name.
+    /// The item that the value is. A value of a wrong kind is `InvalidPropertyValue` with the list's name.
     fn read(alloc: Global, list: Member, value: &Value) -> Result<Self, Fail<Refusal>>
         ensures value { Gives result (item_in list (view value.now)) }
         ensures kept { IfOk result (λ item. is_in_range item ≡ true) };
 }
 
-/// The items that the values of the list of that name are, in order. The first fault is the one that is told.
+/// The items that the values of the list of that name are, in order. The first fault is returned; it fails with `Memory` when
+/// out of memory.
 pub fn read_items<T: ListItem>(
     alloc: Global,
     list: Member,

@@ -8,6 +8,7 @@ ghost use Rattle.wire_bodies.specs.Pools.{pool_in, pool_of};
 use crate::start::start_if;
 use bt_base::Fail;
 use bt_rows::event::PoolSpec;
+use bt_rows::limits::{DEFAULT_RESIZE_TIMEOUT, SLOT_LIMIT, TARGET_LIMIT};
 use bt_rows::member::Member;
 use bt_rows::pool::Fill;
 use bt_rows::refusal::Refusal;
@@ -17,15 +18,23 @@ use wire_members::{
     count_member, id_member, object_member, read_object, unbuilt_member, word_member,
 };
 
+/// The pool that the members of the body are.
 #[tactic(auto, unfolding(crate::specs::Pools::pool_in))]
 fn pool(alloc: Global, body: &Value) -> Result<PoolSpec, Fail<Refusal>>
     ensures value { Gives result (pool_in (view body.now)) }
     ensures kept { IfOk result (λ spec. is_pool_spec_in_range spec ≡ true) }
 {
     let id = id_member(alloc, Some(body), Member::Id)?;
-    let dedicated = count_member(Some(body), Member::TargetDedicatedNodes, 0, 1000, 0)?;
+    let target_limit = u64::from(TARGET_LIMIT);
+    let dedicated = count_member(Some(body), Member::TargetDedicatedNodes, 0, target_limit, 0)?;
     unbuilt_member(Some(body), Member::TargetLowPriorityNodes)?;
-    let slots = count_member(Some(body), Member::TaskSlotsPerNode, 1, 8, 1)?;
+    let slots = count_member(
+        Some(body),
+        Member::TaskSlotsPerNode,
+        1,
+        u64::from(SLOT_LIMIT),
+        1,
+    )?;
     let policy = object_member(Some(body), Member::TaskSchedulingPolicy)?;
     let fill = word_member(policy, Member::NodeFillType, Fill::Spread)?;
     unbuilt_member(Some(body), Member::EnableInterNodeCommunication)?;
@@ -42,23 +51,23 @@ fn pool(alloc: Global, body: &Value) -> Result<PoolSpec, Fail<Refusal>>
         slots: slots as u8,
         fill,
         inter: false,
-        timeout: 900_000,
+        timeout: DEFAULT_RESIZE_TIMEOUT,
         start,
         scale: None,
     })
 }
 
-/// The body of `add-pool`: `id`, and the members below, with what holds where they are absent.
+/// The body of `add-pool` (Azure: Create Pool): `id`, and the members below, with their defaults.
 ///
 /// - `targetDedicatedNodes` from 0 to 1,000 (0);
 /// - `taskSlotsPerNode` from 1 to 8 (1);
-/// - `taskSchedulingPolicy` with `nodeFillType`, which is `spread` or `pack` in any case (`spread`);
+/// - `taskSchedulingPolicy` with `nodeFillType`, which is `spread` or `pack` in upper or lower case (`spread`);
 /// - `startTask` with `commandLine`, `maxTaskRetryCount` from -1, for no limit, to 1,000,000 (0), and `waitForSuccess` (true);
-///   without it the pool has no start task.
+///   without it, the pool has no start task.
 ///
-/// Bytes that are no JSON object are `UnreadableBody`. A member that is of a wrong kind or out of range, an absent `id`, a
-/// start task's absent `commandLine` and a member that the service does not take yet are `InvalidPropertyValue` with its
-/// name.
+/// Bytes that are not a JSON object are `UnreadableBody`. A member that is of a wrong kind or out of range, an absent `id`, a
+/// start task's absent `commandLine` and a member that the service does not support yet are `InvalidPropertyValue` with its
+/// name. It fails with `Memory` when out of memory.
 #[tactic(auto, unfolding(crate::specs::Pools::pool_of))]
 pub fn read_pool(alloc: Global, bytes: &[u8]) -> Result<PoolSpec, Fail<Refusal>>
     ensures value { Gives result (pool_of bytes.now) }

@@ -7,13 +7,14 @@ ghost use Rattle.wire_bodies.specs.Tasks.{task_in, task_of};
 
 use bt_base::{Fail, List};
 use bt_rows::event::TaskSpec;
+use bt_rows::limits::{DEFAULT_RETENTION, SLOT_LIMIT};
 use bt_rows::member::Member;
 use bt_rows::refusal::Refusal;
 use serde_json::Value;
 use std::alloc::Global;
 use wire_members::{command_member, count_member, id_member, read_object, unbuilt_member};
 
-/// The task that the members of an object are, as `read_task` has them.
+/// The task that the members of an object are.
 #[tactic(auto, unfolding(crate::specs::Tasks::task_in))]
 pub fn task(alloc: Global, body: &Value) -> Result<TaskSpec, Fail<Refusal>>
     ensures value { Gives result (task_in (view body.now)) }
@@ -21,7 +22,13 @@ pub fn task(alloc: Global, body: &Value) -> Result<TaskSpec, Fail<Refusal>>
 {
     let id = id_member(alloc, Some(body), Member::Id)?;
     let line = command_member(alloc, Some(body), Member::CommandLine)?;
-    let slots = count_member(Some(body), Member::RequiredSlots, 1, 8, 1)?;
+    let slots = count_member(
+        Some(body),
+        Member::RequiredSlots,
+        1,
+        u64::from(SLOT_LIMIT),
+        1,
+    )?;
     unbuilt_member(Some(body), Member::Constraints)?;
     unbuilt_member(Some(body), Member::ExitConditions)?;
     unbuilt_member(Some(body), Member::DependsOn)?;
@@ -32,7 +39,7 @@ pub fn task(alloc: Global, body: &Value) -> Result<TaskSpec, Fail<Refusal>>
         slots: slots as u8,
         retries: None,
         wall: None,
-        retention: Some(604_800_000),
+        retention: Some(DEFAULT_RETENTION),
         codes: List::empty(alloc),
         ranges: List::empty(alloc),
         launch: None,
@@ -43,10 +50,11 @@ pub fn task(alloc: Global, body: &Value) -> Result<TaskSpec, Fail<Refusal>>
     })
 }
 
-/// The body of `add-task`: `id`, `commandLine`, and `requiredSlots` from 1 to 8 (1 where it is absent).
+/// The body of `add-task` (Azure: Create Task): `id`, `commandLine`, and `requiredSlots` from 1 to 8 (default 1).
 ///
-/// Bytes that are no JSON object are `UnreadableBody`. A member that is of a wrong kind or out of range, an absent `id` or
-/// `commandLine` and a member that the service does not take yet are `InvalidPropertyValue` with its name.
+/// Bytes that are not a JSON object are `UnreadableBody`. A member that is of a wrong kind or out of range, an absent `id` or
+/// `commandLine` and a member that the service does not support yet are `InvalidPropertyValue` with its name. It fails with
+/// `Memory` when out of memory.
 #[tactic(auto, unfolding(crate::specs::Tasks::task_of))]
 pub fn read_task(alloc: Global, bytes: &[u8]) -> Result<TaskSpec, Fail<Refusal>>
     ensures value { Gives result (task_of bytes.now) }

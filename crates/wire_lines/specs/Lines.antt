@@ -1,4 +1,4 @@
--- What a line of a script asks.
+-- What a line of a script is.
 use Rattle.std.specs.Prelude.{ℕ, Bool, true, List, [], ◌∷◌, length, Option, Some, None, Result, Ok, Err, nat_lt, ◌==◌, codes, if◌then◌else◌}
 use Rattle.std.specs.Result.{result_ok}
 use Rattle.std.specs.Str.{bytes_eq}
@@ -10,11 +10,12 @@ use Rattle.bt_rows.specs.declared.event.EventKind.{EventKind}
 use Rattle.bt_rows.specs.declared.event.EventKind.TheVariants as events
 use Rattle.bt_rows.specs.declared.refusal.Refusal.{Refusal}
 use Rattle.bt_rows.specs.declared.refusal.Refusal.TheVariants.{UnreadableBody}
-use Rattle.wire_members.specs.Members.{or_bad}
+use Rattle.wire_members.specs.Members.{or_invalid}
 use Rattle.wire_bodies.specs.Pools.{pool_of}
 use Rattle.wire_bodies.specs.Jobs.{job_of}
 use Rattle.wire_bodies.specs.Tasks.{task_of}
 use Rattle.wire_bodies.specs.Collections.{collection_of}
+use Rattle.wire_lines.specs.declared.line.TheConstants.{LINE_LIMIT}
 use Rattle.wire_lines.specs.declared.line.LineRequest.{LineRequest}
 use Rattle.wire_lines.specs.declared.line.LineRequest.TheVariants.{Skip, Call}
 use Rattle.wire_lines.specs.declared.line_word.LineWord.{LineWord}
@@ -23,7 +24,7 @@ use Rattle.wire_lines.specs.Words.{word_in}
 use Rattle.wire_lines.specs.Parts.{two_parts, just_two}
 use Rattle.wire_lines.specs.Numbers.{number_in, moment_in, ending_in}
 
--- the value; where there is none, the line asks nothing that is known
+-- the value; if there is none, the line is not a valid request
 abbrev pub or_unreadable : {A : Type 0} → Option A → Result A Refusal
 or_unreadable (Some a) = Ok a
 or_unreadable None = Err UnreadableBody
@@ -32,16 +33,16 @@ or_unreadable None = Err UnreadableBody
 unfoldable pub id_argument : List ℕ → Result (List ℕ) Refusal
 id_argument bytes = do
   text ← or_unreadable (utf8_text bytes)
-  or_bad names.Id (result_ok (read_id text))
+  or_invalid names.Id (result_ok (read_id text))
 
--- the id of a job, and the body behind it
+-- the id of a job, and the body after it
 unfoldable pub job_and_body : List ℕ → Result (List ℕ × List ℕ) Refusal
 job_and_body text = do
   parts ← or_unreadable (two_parts text)
   job ← id_argument parts.0
   Ok (job, parts.1)
 
--- what a word asks with the text behind it
+-- the event of a word and the text after it
 unfoldable pub event_with : LineWord → List ℕ → Result EventKind Refusal
 event_with words.AddPool text = do
   pool ← pool_of text
@@ -94,5 +95,5 @@ is_skipped (b ∷ line) = b == 35
 unfoldable pub line_of : List ℕ → Result LineRequest Refusal
 line_of line =
     if is_skipped line then Ok Skip
-    else if nat_lt 1048576 (length line) then Err UnreadableBody
+    else if nat_lt LINE_LIMIT (length line) then Err UnreadableBody
     else call_in line

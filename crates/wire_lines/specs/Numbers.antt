@@ -14,19 +14,19 @@ number_in text =
     if list_all is_ascii_digit text && nat_lt 0 (length text) && nat_lt (digits_value 10 text) (2 ^ 64) then Some (digits_value 10 text)
     else None
 
--- digits, up to the last moment
+-- digits, up to the end of the year 9999
 abbrev pub moment_in : List ℕ → Option ℕ
 moment_in text = option_and_then moment_of (number_in text)
 
--- the code, behind a minus
+-- an exit code with a minus sign before the number
 abbrev pub code_below : ℕ → Option ℤ
 code_below n = if nat_le n (2 ^ 31) then Some (neg_ℤ (pos n)) else None
 
--- the code, without a minus
+-- an exit code without a sign
 abbrev pub code_above : ℕ → Option ℤ
 code_above n = if nat_lt n (2 ^ 31) then Some (pos n) else None
 
--- digits, which may have one minus before them, with a value of 32 bits
+-- digits with at most one minus sign before them, of 32 bits
 abbrev pub code_in : List ℕ → Option ℤ
 code_in text =
     if slice_index text 0 == 45 then option_and_then code_below (number_in (drop 1 text))

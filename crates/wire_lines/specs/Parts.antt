@@ -1,11 +1,12 @@
--- The parts of a line: what stands between its spaces.
+-- The parts of a line: the texts between its spaces.
 use Rattle.std.specs.Prelude.{ℕ, suc, Bool, List, take, drop, Option, Some, None, option_map, option_and_then, ◌==◌, if◌then◌else◌}
 use Rattle.std.specs.List.{position, list_any}
 
+-- the byte is a space
 abbrev pub is_space : ℕ → Bool
 is_space b = b == 32
 
--- what stands before the first space, and what stands after it
+-- the text before the first space, and the text after it
 abbrev pub two_parts : List ℕ → Option (List ℕ × List ℕ)
 two_parts text = option_map (λ i. (take i text, drop (suc i) text)) (position is_space text)
 
@@ -13,6 +14,6 @@ two_parts text = option_map (λ i. (take i text, drop (suc i) text)) (position i
 abbrev pub one_part : List ℕ → Option (List ℕ)
 one_part text = if list_any is_space text then None else Some text
 
--- two texts without a space, parted by one
+-- two texts without a space, separated by one
 abbrev pub just_two : List ℕ → Option (List ℕ × List ℕ)
 just_two text = option_and_then (λ parts. option_map (λ last. (parts.0, last)) (one_part parts.1)) (two_parts text)

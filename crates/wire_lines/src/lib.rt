@@ -1,4 +1,4 @@
-//! Lines of scripts: what a line asks of the service and at which moment, and the lines that a script has.
+//! Lines of scripts: the request that a line is and its moment, and the lines of a script. The format is this project's own.
 #![tactic(auto)]
 
 mod line;
@@ -7,7 +7,7 @@ mod number;
 mod parts;
 mod script;
 
-pub use line::{LineRequest, read_line};
+pub use line::{LINE_LIMIT, LineRequest, read_line};
 pub use number::read_number;
 pub use script::split_line;
 

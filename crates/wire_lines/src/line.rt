@@ -1,4 +1,4 @@
-//! Lines, and what they ask.
+//! Lines, and the requests that they are.
 ghost use Rattle.std.specs.Prelude.{◌≡◌, true, IfOk};
 ghost use Rattle.bt_base.specs.Fails.{Gives, GivesAs};
 ghost use Rattle.bt_rows.specs.Ranges.{is_event_in_range};
@@ -13,20 +13,24 @@ use bt_rows::member::Member;
 use bt_rows::refusal::Refusal;
 use std::alloc::Global;
 use wire_bodies::{read_collection, read_job, read_pool, read_task};
-use wire_members::bad;
+use wire_members::invalid_property;
 
-/// What a line asks.
+/// What a line is.
 #[derive(Drop)]
 pub enum LineRequest {
-    /// Nothing: the line is empty or a comment.
+    /// No request: the line is empty or a comment.
     Skip,
-    /// This event at this moment.
+    /// An event at a moment.
     Call(Moment, Event),
 }
 
-/// The failure of a line that asks nothing that is known.
+/// The greatest length of a line in bytes, without its line feed.
+pub const LINE_LIMIT: usize = 1_048_576;
+
+/// The failure of a line that is not a valid request.
 const UNREADABLE: Fail<Refusal> = Fail::Why(Refusal::UnreadableBody);
 
+/// An id among the arguments of a line.
 #[tactic(auto, unfolding(crate::specs::Lines::id_argument))]
 fn id_argument(alloc: Global, bytes: &[u8]) -> Result<Id, Fail<Refusal>>
     ensures { Gives result (id_argument bytes.now) }
@@ -34,12 +38,12 @@ fn id_argument(alloc: Global, bytes: &[u8]) -> Result<Id, Fail<Refusal>>
     let text = text_of(bytes).ok_or(UNREADABLE)?;
     match Id::read(alloc, text) {
         Ok(id) => Ok(id),
-        Err(Fail::Why(_)) => Err(bad(Member::Id)),
+        Err(Fail::Why(_)) => Err(invalid_property(Member::Id)),
         Err(Fail::Memory) => Err(Fail::Memory),
     }
 }
 
-/// The id of a job, and the body behind it.
+/// The id of a job, and the body after it.
 #[tactic(auto, unfolding(crate::specs::Lines::job_and_body))]
 fn job_and_body(alloc: Global, text: &[u8]) -> Result<(Id, &[u8]), Fail<Refusal>>
     ensures { GivesAs (λ parts. (parts.0, parts.1.now)) result (job_and_body text.now) }
@@ -49,6 +53,7 @@ fn job_and_body(alloc: Global, text: &[u8]) -> Result<(Id, &[u8]), Fail<Refusal>
     Ok((job, body))
 }
 
+/// The event of a word and its arguments.
 #[tactic(auto, unfolding(crate::specs::Lines::event_with))]
 fn event_with(alloc: Global, word: LineWord, text: &[u8]) -> Result<EventKind, Fail<Refusal>>
     ensures value { Gives result (event_with word text.now) }
@@ -78,6 +83,7 @@ fn event_with(alloc: Global, word: LineWord, text: &[u8]) -> Result<EventKind, F
     }
 }
 
+/// The event of a word, a space and its arguments.
 #[tactic(auto, unfolding(crate::specs::Lines::event_with_arguments))]
 fn event_with_arguments(alloc: Global, text: &[u8]) -> Result<Event, Fail<Refusal>>
     ensures { Gives result (event_with_arguments text.now) }
@@ -88,6 +94,7 @@ fn event_with_arguments(alloc: Global, text: &[u8]) -> Result<Event, Fail<Refusa
     Ok(Event::new(kind))
 }
 
+/// The event of a word and its arguments, of which `tick` has none.
 #[tactic(auto, unfolding(crate::specs::Lines::event_in))]
 fn event(alloc: Global, text: &[u8]) -> Result<Event, Fail<Refusal>>
     ensures { Gives result (event_in text.now) }
@@ -99,6 +106,7 @@ fn event(alloc: Global, text: &[u8]) -> Result<Event, Fail<Refusal>>
     }
 }
 
+/// The request of a moment, a space and an event.
 #[tactic(auto, unfolding(crate::specs::Lines::call_in))]
 fn call(alloc: Global, text: &[u8]) -> Result<LineRequest, Fail<Refusal>>
     ensures { Gives result (call_in text.now) }
@@ -109,6 +117,7 @@ fn call(alloc: Global, text: &[u8]) -> Result<LineRequest, Fail<Refusal>>
     Ok(LineRequest::Call(moment, event))
 }
 
+/// Whether the line is empty or a comment.
 fn is_skipped(line: &[u8]) -> bool
     ensures { result ≡ is_skipped line.now }
 {
@@ -118,25 +127,25 @@ fn is_skipped(line: &[u8]) -> bool
     }
 }
 
-/// What the line asks; the line stands without the LF that ends it.
+/// What the line is, without the line feed that ends it (this project's profile).
 ///
-/// An empty line and one that begins with `#` are skipped. Another line is a moment (digits, at most the last millisecond
-/// of the year 9999), a space and one of
+/// An empty line and one that begins with `#` are skipped. Another line is a moment (the digits of milliseconds since 1970, up to
+/// the end of the year 9999), a space and one of
 ///
-/// - `add-pool BODY`, `add-job BODY`, `add-task JOB BODY` and `add-tasks JOB BODY`, where a body is a JSON object up to the
-///   end of the line;
-/// - `take RUN` and `end RUN ENDING`, where an ending is a code of 32 bits, `none` or `notstarted`;
+/// - `add-pool BODY`, `add-job BODY`, `add-task JOB BODY` and `add-tasks JOB BODY`, with a JSON object up to the end of the line
+///   as the body;
+/// - `take RUN` and `end RUN ENDING`, with an exit code of 32 bits, `none` or `notstarted` as the ending;
 /// - `tick`.
 ///
-/// A line that is not so, or that has over 1,048,576 bytes, is `UnreadableBody`; a job's id that is none is
-/// `InvalidPropertyValue(Id)`, before the faults of the body behind it.
+/// Any other line, and one of more than 1,048,576 bytes, is `UnreadableBody`; an invalid id of a job is
+/// `InvalidPropertyValue(Id)`, before the faults of the body after it. It fails with `Memory` when out of memory.
 #[tactic(auto, unfolding(crate::specs::Lines::line_of))]
 pub fn read_line(alloc: Global, line: &[u8]) -> Result<LineRequest, Fail<Refusal>>
     ensures { Gives result (line_of line.now) }
 {
     if is_skipped(line) {
         Ok(LineRequest::Skip)
-    } else if line.len() > 1_048_576 {
+    } else if line.len() > LINE_LIMIT {
         Err(UNREADABLE)
     } else {
         call(alloc, line)

@@ -2,19 +2,25 @@
 ghost use Rattle.std.specs.Prelude.{◌≡◌};
 ghost use Rattle.wire_lines.specs.Words.{word_text, word_in};
 
-/// The word of a line, which says what the line asks.
+/// The word of a line, which names the kind of its event.
 #[derive(Clone, Copy, Debug, PartialEq, Eq)]
 pub enum LineWord {
+    /// A pool is added.
     AddPool,
+    /// A job is added.
     AddJob,
+    /// A task is added.
     AddTask,
+    /// Tasks are added.
     AddTasks,
+    /// A run's child program is being started.
     Take,
+    /// A run's child program has ended.
     End,
 }
 
 impl LineWord {
-    /// As a line spells it.
+    /// The word's text. It does not allocate.
     #[tactic(auto, unfolding(crate::specs::Words::word_text))]
     pub fn text(self) -> &'static str
         ensures { result.now ≡ word_text self }
@@ -29,7 +35,7 @@ impl LineWord {
         }
     }
 
-    /// The word that is spelled so.
+    /// The word with this text, if there is one. It does not allocate.
     #[tactic(auto, unfolding(crate::specs::Words::word_in))]
     pub fn read(text: &[u8]) -> Option<LineWord>
         ensures { result ≡ word_in text.now }

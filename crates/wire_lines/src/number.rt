@@ -7,13 +7,14 @@ ghost use Rattle.wire_lines.specs.Numbers.{number_in, moment_in, code_in, ending
 use bt_base::{Moment, text_of};
 use bt_rows::run::Ending;
 
+/// Whether the text has digits alone.
 fn has_digits(text: &[u8]) -> bool
     ensures { result ≡ list_all is_ascii_digit text.now }
 {
     text.iter().all(|b| b.is_ascii_digit())
 }
 
-/// A number of 64 bits: one digit or more, and nothing else.
+/// A number of 64 bits: one digit or more, and nothing else. It does not allocate.
 pub fn read_number(text: &[u8]) -> Option<u64>
     ensures { result ≡ number_in text.now }
 {
@@ -26,13 +27,14 @@ pub fn read_number(text: &[u8]) -> Option<u64>
     }
 }
 
-/// A moment, as the digits of its milliseconds.
+/// A moment, as the digits of its milliseconds since 1970. It does not allocate.
 pub fn read_moment(text: &[u8]) -> Option<Moment>
     ensures { result ≡ moment_in text.now }
 {
     Moment::of_ms(read_number(text)?)
 }
 
+/// The exit code with a minus sign before the number, if it has 32 bits.
 fn code_below(n: u64) -> Option<i32>
     ensures { result ≡ code_below n }
 {
@@ -43,12 +45,14 @@ fn code_below(n: u64) -> Option<i32>
     }
 }
 
+/// The exit code without a sign, if it has 32 bits.
 fn code_above(n: u64) -> Option<i32>
     ensures { result ≡ code_above n }
 {
     if n < 1 << 31 { Some(n as i32) } else { None }
 }
 
+/// An exit code of 32 bits: digits with at most one minus sign before them.
 fn read_code(text: &[u8]) -> Option<i32>
     ensures { result ≡ code_in text.now }
 {
@@ -58,7 +62,8 @@ fn read_code(text: &[u8]) -> Option<i32>
     }
 }
 
-/// How a run ended: `none`, `notstarted`, or a code, which is digits with at most one minus before them.
+/// How a run ended: `none`, `notstarted`, or an exit code, which is digits with at most one minus sign before them. It does not
+/// allocate.
 #[tactic(auto, unfolding(crate::specs::Numbers::ending_in))]
 pub fn read_ending(text: &[u8]) -> Option<Ending>
     ensures { result ≡ ending_in text.now }

@@ -3,12 +3,14 @@ ghost use Rattle.std.specs.Prelude.{◌≡◌, ◌<◌, ◌∷◌, ◌==◌, [],
 ghost use Rattle.std.specs.List.{position};
 ghost use Rattle.std.specs.Str.Lines.{lines, strip_carriage_return};
 
+/// The place of the first line feed.
 fn first_newline(script: &[u8]) -> Option<usize>
     ensures { result ≡ position (λ b. b == 10) script.now }
 {
     script.iter().position(|b| *b == b'\n')
 }
 
+/// The line without the carriage return that ends it, if one does.
 fn without_return(line: &[u8]) -> &[u8]
     ensures { result.now ≡ strip_carriage_return line.now }
 {
@@ -18,7 +20,7 @@ fn without_return(line: &[u8]) -> &[u8]
     }
 }
 
-/// The first line, and what stands after it; none where nothing is left.
+/// The first line, and the text after it; None if the script is empty. It does not allocate.
 ///
 /// A line ends with LF, before which one CR is dropped. The last LF may be missing, and then a CR at the end stays.
 pub fn split_line(script: &[u8]) -> Option<(&[u8], &[u8])>

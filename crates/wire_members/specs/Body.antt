@@ -15,11 +15,11 @@ if_object (string s) = Err UnreadableBody
 if_object (array ds) = Err UnreadableBody
 if_object (object ms) = Ok (object ms)
 
--- an object's value; where there is none, the text is no JSON
+-- a value that is an object; None is a text that is not JSON
 abbrev pub object_or_unreadable : Option Data → Result Data Refusal
 object_or_unreadable None = Err UnreadableBody
 object_or_unreadable (Some d) = if_object d
 
--- the object that the bytes are, in JSON as `serde_json` reads it
+-- the JSON object that the bytes are, as `serde_json` reads it
 abbrev pub object_of : List ℕ → Result Data Refusal
 object_of bytes = object_or_unreadable (option_and_then read (utf8_text bytes))

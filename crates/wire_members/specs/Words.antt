@@ -1,4 +1,4 @@
--- The words of bodies, in any case, as the Azure Batch REST reference has them.
+-- The words of bodies, in upper or lower case, as the Azure Batch REST reference has them.
 use Rattle.std.specs.Prelude.{ℕ, List, Option, Some, None, codes, if◌then◌else◌}
 use Rattle.bt_base.specs.Ids.{same}
 use Rattle.bt_rows.specs.declared.pool.Fill.{Fill}

@@ -10,8 +10,8 @@ use bt_rows::refusal::Refusal;
 use serde_json::Value;
 use std::alloc::Global;
 
-/// The object that the bytes are in JSON. Bytes that are not UTF-8, no JSON or another value are `UnreadableBody`. Of
-/// members of one name the last counts.
+/// The JSON object that the bytes are (RFC 8259, as `serde_json` reads it). Of members with the same name the last counts. Bytes
+/// that are not UTF-8, not JSON or another value are `UnreadableBody`; it fails with `Memory` when out of memory.
 pub fn read_object(alloc: Global, bytes: &[u8]) -> Result<Value, Fail<Refusal>>
     ensures { GivesAs view result (object_of bytes.now) }
 {
@@ -21,6 +21,7 @@ pub fn read_object(alloc: Global, bytes: &[u8]) -> Result<Value, Fail<Refusal>>
     }
 }
 
+/// The JSON object that the text is.
 fn object_in_text(alloc: Global, text: &str) -> Result<Value, Fail<Refusal>>
     ensures { GivesAs view result (object_or_unreadable (read text.now)) }
 {

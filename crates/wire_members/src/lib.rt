@@ -1,6 +1,6 @@
-//! Readers of the members of a body. A body is a JSON object; each reader takes a part of it, which is the body or an
-//! object in it, and answers the value of one member, or the refusal that names it. A member that is `null` counts as
-//! absent, and an absent part has no members.
+//! Readers of the members of a body. A body is a JSON object (RFC 8259); each reader takes a part of it, which is the body or an
+//! object in it, and returns the value of one member, or the refusal that names it. A member that is `null` counts as
+//! absent, and an absent part has no members (this project's profile).
 #![tactic(auto)]
 
 mod body;
@@ -10,8 +10,8 @@ mod words;
 
 pub use body::read_object;
 pub use member::{
-    bad, command_member, count_member, flag_member, id_member, list_member, object_item,
-    object_member, required_count, required_list, required_object, required_signed, signed_member,
-    text_member, unbuilt_member,
+    command_member, count_member, flag_member, id_member, invalid_property, list_member,
+    object_item, object_member, required_count, required_list, required_object, required_signed,
+    signed_member, text_member, unbuilt_member,
 };
 pub use word::{WordKind, required_word, word_if, word_member};

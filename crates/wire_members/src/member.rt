@@ -1,12 +1,12 @@
-//! Members of a part. Where a member is of a wrong kind or out of range, or a required one is absent, the readers
-//! answer `InvalidPropertyValue` with its name. Only those that are passed an allocator take memory.
+//! Members of a part. If a member is of a wrong kind or out of range, or a required one is absent, the readers return
+//! `InvalidPropertyValue` with its name. Only those that take an allocator allocate, and fail with `Memory` when out of memory.
 ghost use Rattle.std.specs.Prelude.{◌≡◌, ◌≤◌, option_map, IfOk};
 ghost use Rattle.std.specs.Prelude.{◌≤ℤ◌};
 ghost use Rattle.serde_json.specs.View.{view, items_view};
 ghost use Rattle.bt_base.specs.Fails.{Gives, GivesAs};
 ghost use Rattle.bt_base.specs.declared.fail.Fail.TheVariants.{Why};
 ghost use Rattle.bt_rows.specs.declared.refusal.Refusal.TheVariants.{InvalidPropertyValue};
-ghost use Rattle.wire_members.specs.Members.{member_of, or_bad, count_in, signed_in, id_in, command_in};
+ghost use Rattle.wire_members.specs.Members.{member_of, or_invalid, count_in, signed_in, id_in, command_in};
 ghost use Rattle.wire_members.specs.Members.{count_member, required_count, signed_member, required_signed, flag_member, text_member, id_member, command_member, object_member, required_object, list_member, required_list, object_item, unbuilt_member};
 
 use bt_base::{CommandLine, Fail, Id, Text};
@@ -15,14 +15,14 @@ use bt_rows::refusal::Refusal;
 use serde_json::Value;
 use std::alloc::Global;
 
-/// The refusal that names the member.
-pub fn bad(name: Member) -> Fail<Refusal>
+/// The refusal `InvalidPropertyValue` with the member's name.
+pub fn invalid_property(name: Member) -> Fail<Refusal>
     ensures { result ≡ Why (InvalidPropertyValue name) }
 {
     Fail::Why(Refusal::InvalidPropertyValue(name))
 }
 
-/// The member of that name, where it is there and not null.
+/// The member of that name; None if it is absent or `null`, or the part is absent.
 pub fn member<'v>(part: Option<&'v Value>, name: Member) -> Option<&'v Value>
     ensures { option_map (λ v. view v.now) result ≡ member_of (option_map (λ v. view v.now) part.entry) name }
 {
@@ -31,16 +31,17 @@ pub fn member<'v>(part: Option<&'v Value>, name: Member) -> Option<&'v Value>
     if value.is_null() { None } else { Some(value) }
 }
 
-/// Nothing, where the member is absent: one that the service does not take yet.
+/// Refuses a member that the service does not support yet, unless it is absent or `null`.
 pub fn unbuilt_member(part: Option<&Value>, name: Member) -> Result<(), Fail<Refusal>>
     ensures { Gives result (unbuilt_member (option_map (λ v. view v.now) part.entry) name) }
 {
     match member(part, name) {
         None => Ok(()),
-        Some(_) => Err(bad(name)),
+        Some(_) => Err(invalid_property(name)),
     }
 }
 
+/// The value as a whole number from `low` to `high`, if it is one.
 fn count_of(value: &Value, low: u64, high: u64) -> Option<u64>
     ensures { result ≡ count_in low high (view value.now) }
 {
@@ -50,7 +51,7 @@ fn count_of(value: &Value, low: u64, high: u64) -> Option<u64>
     }
 }
 
-/// A whole number from low to high, or the default.
+/// A whole number from `low` to `high`; the default if it is absent.
 pub fn count_member(
     part: Option<&Value>,
     name: Member,
@@ -63,11 +64,11 @@ pub fn count_member(
 {
     match member(part, name) {
         None => Ok(default),
-        Some(value) => count_of(value, low, high).ok_or(bad(name)),
+        Some(value) => count_of(value, low, high).ok_or(invalid_property(name)),
     }
 }
 
-/// A whole number from low to high, which has to be there.
+/// A whole number from `low` to `high`, which is required.
 pub fn required_count(
     part: Option<&Value>,
     name: Member,
@@ -78,11 +79,12 @@ pub fn required_count(
     ensures bound { IfOk result (λ n. (low ≤ n) × (n ≤ high)) }
 {
     match member(part, name) {
-        None => Err(bad(name)),
-        Some(value) => count_of(value, low, high).ok_or(bad(name)),
+        None => Err(invalid_property(name)),
+        Some(value) => count_of(value, low, high).ok_or(invalid_property(name)),
     }
 }
 
+/// The value as a whole number from `low` to `high`, which may be below 0, if it is one.
 fn signed_of(value: &Value, low: i64, high: i64) -> Option<i64>
     ensures { result ≡ signed_in low high (view value.now) }
 {
@@ -92,7 +94,7 @@ fn signed_of(value: &Value, low: i64, high: i64) -> Option<i64>
     }
 }
 
-/// A whole number from low to high, which may be below 0, or the default.
+/// A whole number from `low` to `high`, which may be below 0; the default if it is absent.
 pub fn signed_member(
     part: Option<&Value>,
     name: Member,
@@ -105,11 +107,11 @@ pub fn signed_member(
 {
     match member(part, name) {
         None => Ok(default),
-        Some(value) => signed_of(value, low, high).ok_or(bad(name)),
+        Some(value) => signed_of(value, low, high).ok_or(invalid_property(name)),
     }
 }
 
-/// A whole number from low to high, which may be below 0 and has to be there.
+/// A whole number from `low` to `high`, which may be below 0 and is required.
 pub fn required_signed(
     part: Option<&Value>,
     name: Member,
@@ -120,22 +122,22 @@ pub fn required_signed(
     ensures bound { IfOk result (λ n. (low ≤ℤ n) × (n ≤ℤ high)) }
 {
     match member(part, name) {
-        None => Err(bad(name)),
-        Some(value) => signed_of(value, low, high).ok_or(bad(name)),
+        None => Err(invalid_property(name)),
+        Some(value) => signed_of(value, low, high).ok_or(invalid_property(name)),
     }
 }
 
-/// A truth value, or the default.
+/// A truth value; the default if it is absent.
 pub fn flag_member(part: Option<&Value>, name: Member, default: bool) -> Result<bool, Fail<Refusal>>
     ensures { Gives result (flag_member (option_map (λ v. view v.now) part.entry) name default) }
 {
     match member(part, name) {
         None => Ok(default),
-        Some(value) => value.as_bool().ok_or(bad(name)),
+        Some(value) => value.as_bool().ok_or(invalid_property(name)),
     }
 }
 
-/// A text, or none.
+/// A text; None if it is absent.
 pub fn text_member(
     alloc: Global,
     part: Option<&Value>,
@@ -147,51 +149,53 @@ pub fn text_member(
         None => Ok(None),
         Some(value) => match value.as_str() {
             Some(text) => Ok(Some(Text::of_string(String::from_str(alloc, text)?))),
-            None => Err(bad(name)),
+            None => Err(invalid_property(name)),
         },
     }
 }
 
+/// The id that the value is. Another value is refused under the name.
 fn id_of_value(alloc: Global, value: &Value, name: Member) -> Result<Id, Fail<Refusal>>
-    ensures { Gives result (or_bad name (id_in (view value.now))) }
+    ensures { Gives result (or_invalid name (id_in (view value.now))) }
 {
     let Some(text) = value.as_str() else {
-        return Err(bad(name));
+        return Err(invalid_property(name));
     };
     match Id::read(alloc, text) {
         Ok(id) => Ok(id),
-        Err(Fail::Why(_)) => Err(bad(name)),
+        Err(Fail::Why(_)) => Err(invalid_property(name)),
         Err(Fail::Memory) => Err(Fail::Memory),
     }
 }
 
-/// An id, which has to be there.
+/// An id, which is required.
 pub fn id_member(alloc: Global, part: Option<&Value>, name: Member) -> Result<Id, Fail<Refusal>>
     ensures { Gives result (id_member (option_map (λ v. view v.now) part.entry) name) }
 {
     match member(part, name) {
-        None => Err(bad(name)),
+        None => Err(invalid_property(name)),
         Some(value) => id_of_value(alloc, value, name),
     }
 }
 
+/// The command line that the value is. Another value is refused under the name.
 fn command_of_value(
     alloc: Global,
     value: &Value,
     name: Member,
 ) -> Result<CommandLine, Fail<Refusal>>
-    ensures { Gives result (or_bad name (command_in (view value.now))) }
+    ensures { Gives result (or_invalid name (command_in (view value.now))) }
 {
     let Some(text) = value.as_str() else {
-        return Err(bad(name));
+        return Err(invalid_property(name));
     };
     match CommandLine::read(alloc, text)? {
         Some(line) => Ok(line),
-        None => Err(bad(name)),
+        None => Err(invalid_property(name)),
     }
 }
 
-/// A command line, which has to be there.
+/// A command line, which is required.
 pub fn command_member(
     alloc: Global,
     part: Option<&Value>,
@@ -200,12 +204,12 @@ pub fn command_member(
     ensures { Gives result (command_member (option_map (λ v. view v.now) part.entry) name) }
 {
     match member(part, name) {
-        None => Err(bad(name)),
+        None => Err(invalid_property(name)),
         Some(value) => command_of_value(alloc, value, name),
     }
 }
 
-/// An object in the part, or none.
+/// An object; None if it is absent.
 pub fn object_member<'v>(
     part: Option<&'v Value>,
     name: Member,
@@ -217,12 +221,12 @@ pub fn object_member<'v>(
         Some(value) => if value.is_object() {
             Ok(Some(value))
         } else {
-            Err(bad(name))
+            Err(invalid_property(name))
         },
     }
 }
 
-/// An object in the part, which has to be there.
+/// An object, which is required.
 pub fn required_object<'v>(
     part: Option<&'v Value>,
     name: Member,
@@ -230,16 +234,16 @@ pub fn required_object<'v>(
     ensures { GivesAs (λ v. view v.now) result (required_object (option_map (λ v. view v.now) part.entry) name) }
 {
     match member(part, name) {
-        None => Err(bad(name)),
+        None => Err(invalid_property(name)),
         Some(value) => if value.is_object() {
             Ok(value)
         } else {
-            Err(bad(name))
+            Err(invalid_property(name))
         },
     }
 }
 
-/// The items of a list, none where it is absent.
+/// The items of a list; no items if it is absent.
 pub fn list_member<'v>(part: Option<&'v Value>, name: Member) -> Result<&'v [Value], Fail<Refusal>>
     ensures { GivesAs (λ vs. items_view vs.now) result (list_member (option_map (λ v. view v.now) part.entry) name) }
 {
@@ -247,12 +251,12 @@ pub fn list_member<'v>(part: Option<&'v Value>, name: Member) -> Result<&'v [Val
         None => Ok(&[]),
         Some(value) => match value.as_array() {
             Some(list) => Ok(list.as_slice()),
-            None => Err(bad(name)),
+            None => Err(invalid_property(name)),
         },
     }
 }
 
-/// The items of a list, which has to be there.
+/// The items of a list, which is required.
 pub fn required_list<'v>(
     part: Option<&'v Value>,
     name: Member,
@@ -260,21 +264,21 @@ pub fn required_list<'v>(
     ensures { GivesAs (λ vs. items_view vs.now) result (required_list (option_map (λ v. view v.now) part.entry) name) }
 {
     match member(part, name) {
-        None => Err(bad(name)),
+        None => Err(invalid_property(name)),
         Some(value) => match value.as_array() {
             Some(list) => Ok(list.as_slice()),
-            None => Err(bad(name)),
+            None => Err(invalid_property(name)),
         },
     }
 }
 
-/// The item of a list, which has to be an object; else the refusal names the list.
+/// An item of the list with this name, which has to be an object; else it is refused under the list's name.
 pub fn object_item<'v>(value: &'v Value, name: Member) -> Result<&'v Value, Fail<Refusal>>
     ensures { GivesAs (λ v. view v.now) result (object_item (view value.now) name) }
 {
     if value.is_object() {
         Ok(value)
     } else {
-        Err(bad(name))
+        Err(invalid_property(name))
     }
 }

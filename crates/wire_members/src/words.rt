@@ -1,4 +1,4 @@
-//! The words of bodies.
+//! The words of bodies (Azure: the values of nodeFillType and jobAction).
 ghost use Rattle.std.specs.Prelude.{◌≡◌};
 ghost use Rattle.wire_members.specs.Words.{fill_word, job_action_word};
 
