@@ -1,4 +1,4 @@
--- Of the same bytes, at the same moment and with the same nodes, one thing is written.
+-- The same bytes have one output at a moment and with a number of nodes.
 use Rattle.std.proofs.Common.{◌≡◌, ◌<◌, ℕ, List, None, Result, Ok, Err, IsSome, codes, sym, ap, ◌∙◌, subst, arith}
 use Rattle.formula_trees.specs.Formula.{StatementTree}
 use Rattle.bt_base.specs.declared.formula_fault.FormulaFault.{FormulaFault}
@@ -22,8 +22,9 @@ one_longest bytes n m one other =
     let below : m < n → ⊥ = none_longer bytes m n other one in
     omega (arith, above, below)
 
--- what evaluates to two things evaluates to one
-one_result : (now nodes : ℕ) (bytes : List ℕ) (ss other : List StatementTree) (r q : Result Outcome EvalFault) → ss ≡ other → evaluated bytes ss blank_metrics now (targets_of nodes) ≡ r → evaluated bytes other blank_metrics now (targets_of nodes) ≡ q → r ≡ q
+-- an evaluation has one result
+one_result : (now nodes : ℕ) (bytes : List ℕ) (ss other : List StatementTree) (r q : Result Outcome EvalFault) → ss ≡ other →
+    evaluated bytes ss blank_metrics now (targets_of nodes) ≡ r → evaluated bytes other blank_metrics now (targets_of nodes) ≡ q → r ≡ q
 one_result now nodes bytes ss other r q same e f = sym e ∙ ap (λ s. evaluated bytes s blank_metrics now (targets_of nodes)) same ∙ f
 
 -- a text is one formula, or has one first fault
@@ -32,7 +33,8 @@ pub record IsOne (bytes : List ℕ) : Type 0 where
   pub formula : (ss other : List StatementTree) → IsFormula bytes ss → IsFormula bytes other → ss ≡ other
   pub fault : (fault other : FormulaFault) → HasFault bytes fault → HasFault bytes other → fault ≡ other
 
-pub one_shown : {now nodes : ℕ} {bytes : List ℕ} {one other : Result (List ℕ) (List ℕ)} → IsOne bytes → Shows now nodes bytes one → Shows now nodes bytes other → one ≡ other
+pub one_shown : {now nodes : ℕ} {bytes : List ℕ} {one other : Result (List ℕ) (List ℕ)} → IsOne bytes → Shows now nodes bytes one →
+    Shows now nodes bytes other → one ≡ other
 one_shown {now} {nodes} {bytes} only (no_text n t l) (no_text m u k) = ap (λ p. Err (fault_line (codes "BadCharacter") p)) (one_longest bytes n m l k)
 one_shown only (no_text n t l) (no_formula f u h) = absurd (cc)
 one_shown only (no_text n t l) (fails ss f u h e) = absurd (cc)

@@ -1,4 +1,4 @@
--- What the command `formula` writes, and how it ends.
+-- The output of the command `formula`, and how it ends.
 use Rattle.std.specs.Prelude.{◌≡◌, ◌⊎◌, ◌≤◌, ◌<◌, ℕ, List, [], ◌∷◌, ◌++◌, codes, length, take, Option, Some, None, IsSome, Result, Ok, Err}
 use Rattle.std.specs.Fmt.{decimal}
 use Rattle.bt_base.specs.Content.{Gains, GainsFront}
@@ -11,17 +11,14 @@ use Rattle.formula_values.specs.Faults.{fault_name}
 use Rattle.formula_metrics.specs.Parts.{blank_metrics}
 use Rattle.cli_formula.specs.declared.end.End.{End}
 use Rattle.cli_formula.specs.declared.end.End.TheVariants.{Done, Fault, TooLong, SourceFault, SinkFault, Memory}
+use Rattle.cli_formula.specs.declared.run.TheConstants.{LIMIT}
 use Rattle.formula_eval.specs.declared.fault.EvalFault.{EvalFault}
 use Rattle.formula_eval.specs.declared.outcome.Targets.{Targets}
 use Rattle.formula_eval.specs.declared.outcome.Outcome.{Outcome}
 use Rattle.formula_eval.specs.Statements.{evaluated}
 use Rattle.formula_eval.specs.Results.{results_text}
 
--- the bytes that a formula may have
-abbrev pub formula_limit : ℕ
-formula_limit = 8192
-
--- the first bytes, as many as are said, are the longest front that is a text
+-- the first `count` bytes are the longest prefix that is UTF-8
 pub record IsLongestText (bytes : List ℕ) (count : ℕ) : Type 0 where
   pub within : count ≤ length bytes
   pub text : IsSome (utf8_text (take count bytes))
@@ -39,13 +36,16 @@ results_line outcome = results_text outcome ++ 10 ∷ []
 abbrev pub targets_of : ℕ → Targets
 targets_of nodes = record { dedicated = nodes; low = 0 }
 
--- What is written of these bytes at a moment, with so many nodes wanted before: their results, or their fault. Bytes that are no
--- text have a fault where their longest front that is one ends, before all others.
+-- The output of these bytes at a moment, with this number of nodes wanted before: their results, or their fault. Bytes that are not
+-- UTF-8 have a fault at the end of their longest prefix that is, before all others.
 pub data Shows (now nodes : ℕ) (bytes : List ℕ) : Result (List ℕ) (List ℕ) → Type 0 where
   no_text : (count : ℕ) → utf8_text bytes ≡ None → IsLongestText bytes count → Shows now nodes bytes (Err (fault_line (codes "BadCharacter") count))
-  no_formula : (fault : FormulaFault) → utf8_text bytes ≡ Some bytes → HasFault bytes fault → Shows now nodes bytes (Err (fault_line (name_of fault) (place_of fault)))
-  fails : (ss : List StatementTree) (fault : EvalFault) → utf8_text bytes ≡ Some bytes → IsFormula bytes ss → evaluated bytes ss blank_metrics now (targets_of nodes) ≡ Err fault → Shows now nodes bytes (Err (fault_line (fault_name fault.fault) fault.place))
-  gives : (ss : List StatementTree) (outcome : Outcome) → utf8_text bytes ≡ Some bytes → IsFormula bytes ss → evaluated bytes ss blank_metrics now (targets_of nodes) ≡ Ok outcome → Shows now nodes bytes (Ok (results_line outcome))
+  no_formula : (fault : FormulaFault) → utf8_text bytes ≡ Some bytes → HasFault bytes fault →
+      Shows now nodes bytes (Err (fault_line (name_of fault) (place_of fault)))
+  fails : (ss : List StatementTree) (fault : EvalFault) → utf8_text bytes ≡ Some bytes → IsFormula bytes ss →
+      evaluated bytes ss blank_metrics now (targets_of nodes) ≡ Err fault → Shows now nodes bytes (Err (fault_line (fault_name fault.fault) fault.place))
+  gives : (ss : List StatementTree) (outcome : Outcome) → utf8_text bytes ≡ Some bytes → IsFormula bytes ss →
+      evaluated bytes ss blank_metrics now (targets_of nodes) ≡ Ok outcome → Shows now nodes bytes (Ok (results_line outcome))
 
 -- the text that is written, of results or of a fault
 abbrev pub text_of : Result (List ℕ) (List ℕ) → List ℕ
@@ -54,22 +54,22 @@ text_of (Err text) = text
 
 -- it was written whole
 pub record WritesAll (now nodes : ℕ) (bytes : List ℕ) (before taken : Option (List ℕ)) (shown : Result (List ℕ) (List ℕ)) : Type 0 where
-  pub few : length bytes ≤ formula_limit
+  pub few : length bytes ≤ LIMIT
   pub shows : Shows now nodes bytes shown
   pub written : Gains before taken (text_of shown)
 
--- a front of it was written
+-- a prefix of it was written
 pub record WritesFront (now nodes : ℕ) (bytes : List ℕ) (before taken : Option (List ℕ)) : Type 0 where
-  pub few : length bytes ≤ formula_limit
+  pub few : length bytes ≤ LIMIT
   pub shown : Result (List ℕ) (List ℕ)
   pub shows : Shows now nodes bytes shown
   pub written : GainsFront before taken (text_of shown)
 
--- what an end says of the bytes of the source, and of what the sink told before and tells now
+-- what each end says of the bytes of the source, and of the sink's content before and after
 abbrev pub FormulaRan : ℕ → ℕ → List ℕ → Option (List ℕ) → Option (List ℕ) → End → Type 0
 FormulaRan now nodes bytes before taken Done = (text : List ℕ) × WritesAll now nodes bytes before taken (Ok text)
 FormulaRan now nodes bytes before taken Fault = (text : List ℕ) × WritesAll now nodes bytes before taken (Err text)
-FormulaRan now nodes bytes before taken TooLong = (formula_limit < length bytes) × Gains before taken []
+FormulaRan now nodes bytes before taken TooLong = (LIMIT < length bytes) × Gains before taken []
 FormulaRan now nodes bytes before taken SourceFault = Gains before taken []
 FormulaRan now nodes bytes before taken SinkFault = WritesFront now nodes bytes before taken
 FormulaRan now nodes bytes before taken Memory = Gains before taken [] ⊎ WritesFront now nodes bytes before taken

@@ -1,4 +1,4 @@
--- What is written of a formula, as results or as a fault.
+-- The output of a formula, as results or as a fault.
 use Rattle.std.specs.Prelude.{◌≡◌, ℕ, List, Option, Result, Ok, Err}
 use Rattle.bt_base.specs.Content.{Gains, GainsFront}
 use Rattle.formula_values.specs.Faults.{fault_name}
@@ -15,12 +15,12 @@ abbrev pub shown_of : Shown → Result (List ℕ) (List ℕ)
 shown_of (shows.Results text) = Ok text
 shown_of (shows.Fault text) = Err text
 
--- what is written of an evaluation
+-- the output of an evaluation
 abbrev pub evaluation_shown : Result Outcome EvalFault → Result (List ℕ) (List ℕ)
 evaluation_shown (Ok outcome) = Ok (results_line outcome)
 evaluation_shown (Err fault) = Err (fault_line (fault_name fault.fault) fault.place)
 
--- how the writing of what is shown ends
+-- how the writing of an output ends
 abbrev pub Writes : Option (List ℕ) → Option (List ℕ) → Result (List ℕ) (List ℕ) → End → Type 0
 Writes before taken shown Done = (text : List ℕ) × (shown ≡ Ok text) × Gains before taken text
 Writes before taken shown Fault = (text : List ℕ) × (shown ≡ Err text) × Gains before taken text

@@ -7,12 +7,12 @@ pub enum End {
     Done,
     /// The formula's fault was written.
     Fault,
-    /// The source gave more than 8,192 bytes; nothing was written.
+    /// The source has more than `LIMIT` bytes; nothing was written.
     TooLong,
     /// The source failed; nothing was written.
     SourceFault,
-    /// The sink failed; a front of what was to be written may have been.
+    /// The sink failed; a prefix of the output may have been written.
     SinkFault,
-    /// Want of memory; a front of what was to be written may have been.
+    /// Out of memory; a prefix of the output may have been written.
     Memory,
 }

@@ -1,5 +1,5 @@
-//! The command `formula`: a formula that the source gives is evaluated over metrics without samples and without current values,
-//! and its results, or its fault with its place, are written to the sink. It knows no keeper and no tables.
+//! The command `formula`: the formula of a source is evaluated over metrics without samples and without current values, and its
+//! results, or its fault with its place, are written to the sink. It uses no keeper and no tables.
 #![tactic(auto)]
 
 mod end;

@@ -1,4 +1,4 @@
-//! The command.
+//! The command `formula`.
 ghost use Rattle.std.specs.Prelude.{◌≡◌, ◌≤◌, IfSome};
 ghost use Rattle.bt_base.specs.Causes.{Rose};
 ghost use Rattle.cli_formula.specs.Showing.{FormulaRan};
@@ -11,10 +11,10 @@ use bt_base::{NoMemory, ReadFault, Sink, Source, read_all, write_all};
 use cli_words::FormulaOptions;
 use std::alloc::Global;
 
-/// The bytes that a formula may have.
-const LIMIT: usize = 8_192;
+/// The greatest number of bytes of a formula (Azure Batch documentation of automatic scaling: a formula cannot exceed 8 KB).
+pub const LIMIT: usize = 8_192;
 
-/// Writes what is shown.
+/// Writes the results or the fault of a formula.
 fn write_shown<W: Sink>(shown: &Shown, sink: &mut W) -> End
     ensures wrote { Writes (W.taken sink.old) (W.taken sink.new) (shown_of shown.now) result }
     ensures sink_fault { result ≡ End.SinkFault → Rose (W.faults sink.old) (W.faults sink.new) }
@@ -29,9 +29,9 @@ fn write_shown<W: Sink>(shown: &Shown, sink: &mut W) -> End
     }
 }
 
-/// Reads a formula of at most 8,192 bytes from the source to its end, evaluates it over metrics without samples and without
-/// current values, and writes the results text, or `error`, the name of the first fault and its place; then LF. A place counts the
-/// text's bytes from 0. Bytes that are not UTF-8 are `BadCharacter` where their longest front that is UTF-8 ends.
+/// Reads a formula of at most `LIMIT` bytes from the source to its end, evaluates it over metrics without samples and without current
+/// values, and writes the results text, or `error`, the name of the first fault and its place; then LF. A place counts the text's
+/// bytes from 0. Bytes that are not UTF-8 are `BadCharacter` at the end of their longest prefix that is UTF-8.
 pub fn run_formula<R: Source, W: Sink>(
     alloc: Global,
     options: FormulaOptions,

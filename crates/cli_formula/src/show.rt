@@ -1,4 +1,4 @@
-//! From the bytes of a formula to what is written of it.
+//! From the bytes of a formula to its output.
 ghost use Rattle.std.specs.Prelude.{◌≡◌, ℕ, List, Result, IfOk};
 ghost use Rattle.formula_trees.specs.View.{statements_of};
 ghost use Rattle.formula_metrics.specs.Parts.{blank_metrics};
@@ -14,7 +14,7 @@ use formula_metrics::Metrics;
 use formula_types::{Formula, compile, one_answer};
 use std::alloc::Global;
 
-/// What is written of a formula, as it is evaluated.
+/// The output of a formula, from its evaluation.
 fn show_formula(
     alloc: Global,
     options: FormulaOptions,
@@ -38,7 +38,7 @@ fn show_formula(
     }
 }
 
-/// What is written of a text.
+/// The output of a text.
 fn show_text(alloc: Global, options: FormulaOptions, text: &str) -> Result<Shown, NoMemory>
     ensures { IfOk result (λ shown. Shows options.now options.dedicated text.now (shown_of shown)) }
 {
@@ -49,7 +49,7 @@ fn show_text(alloc: Global, options: FormulaOptions, text: &str) -> Result<Shown
     }
 }
 
-/// What is written of these bytes.
+/// The output of these bytes.
 pub fn show(alloc: Global, options: FormulaOptions, bytes: &[u8]) -> Result<Shown, NoMemory>
     ensures { IfOk result (λ shown. Shows options.now options.dedicated bytes.now (shown_of shown)) }
 {
@@ -59,7 +59,7 @@ pub fn show(alloc: Global, options: FormulaOptions, bytes: &[u8]) -> Result<Show
     }
 }
 
-/// Of the same bytes, at the same moment and with the same nodes wanted before, one thing is written.
+/// The same bytes have one output at a moment and with a number of nodes wanted before.
 pub fn one_showing()
     ensures { (now nodes : ℕ) (bytes : List ℕ) (one other : Result (List ℕ) (List ℕ)) → Shows now nodes bytes one → Shows now nodes bytes other → one ≡ other }
 {

@@ -1,4 +1,4 @@
-//! What is written of a formula.
+//! The output of a formula.
 ghost use Rattle.std.specs.Prelude.{◌≡◌, Ok, Err, IfOk, string_bytes};
 ghost use Rattle.bt_base.specs.Content.{Gains, GainsFront};
 ghost use Rattle.cli_formula.specs.Showing.{fault_line, results_line};
@@ -8,7 +8,7 @@ use bt_base::{NoMemory, Text};
 use formula_eval::{Outcome, results_text};
 use std::alloc::{AllocError, Global};
 
-/// What is written of a formula, with the line's end.
+/// The output of a formula, with the line's end.
 #[derive(Drop)]
 pub enum Shown {
     /// The results text.
@@ -40,7 +40,7 @@ fn results_line(alloc: Global, outcome: &Outcome) -> Result<String, NoMemory>
     Ok(line)
 }
 
-/// What is written of the fault of this name at this place.
+/// The output of the fault of this name at this place.
 pub fn of_fault(alloc: Global, name: &str, place: usize) -> Result<Shown, NoMemory>
     ensures { IfOk result (λ shown. shown_of shown ≡ Err (fault_line name.now place)) }
 {
@@ -48,7 +48,7 @@ pub fn of_fault(alloc: Global, name: &str, place: usize) -> Result<Shown, NoMemo
     Ok(Shown::Fault(Text::of_string(line)))
 }
 
-/// What is written of these results.
+/// The output of these results.
 pub fn of_outcome(alloc: Global, outcome: &Outcome) -> Result<Shown, NoMemory>
     ensures { IfOk result (λ shown. shown_of shown ≡ Ok (results_line outcome.now)) }
 {

@@ -1,4 +1,4 @@
-//! What formulas write. Expected texts are written by hand.
+//! Outputs of formulas. The expected texts are worked out by hand from the language's rules.
 use crate::end::End;
 use crate::run::run_formula;
 use bt_base::{MemorySink, MemorySource, Moment};
@@ -12,8 +12,8 @@ fn at_start() -> Option<FormulaOptions> {
     Some(FormulaOptions { now, dedicated: 0 })
 }
 
-/// Whether the formula ends so, and writes this and a line's end, or nothing.
-fn gives(
+/// Whether the formula has this end, and writes this and a line's end, or nothing.
+fn writes(
     alloc: Global,
     options: FormulaOptions,
     formula: &[u8],
@@ -34,7 +34,7 @@ fn gives(
 const PLAIN: &str =
     "$TargetDedicatedNodes=0;$TargetLowPriorityNodes=0;$NodeDeallocationOption=requeue";
 
-/// The number 1 in so many parentheses.
+/// The number 1 in `depth` pairs of parentheses.
 fn in_groups(alloc: Global, depth: usize) -> Result<String, AllocError> {
     let mut text = String::from_str(alloc, "x = ")?;
     for _ in 0..depth {
@@ -59,14 +59,14 @@ fn a_pool_is_scaled_by_its_tasks(rt: HostRuntime) -> Result<(), Fail> {
         $NodeDeallocationOption=taskcompletion;$samples=0;$tasks=0;$targetVMs=2;$cappedPoolSize=20";
     let now = Moment::of_ms(1_800_000_000_000).ok_or("no moment")?;
     let options = FormulaOptions { now, dedicated: 4 };
-    assert!(rt; gives(rt.alloc(), options, formula.as_bytes(), End::Done, wanted)?);
+    assert!(rt; writes(rt.alloc(), options, formula.as_bytes(), End::Done, wanted)?);
     Ok(())
 }
 
 #[test]
 fn faults_have_names_and_places(rt: HostRuntime) -> Result<(), Fail> {
     let options = at_start().ok_or("no moment")?;
-    let rows: [(&[u8], &str); 10] = [
+    let rows: [(&[u8], &str); 23] = [
         (b"x = avg($CPUPercent.GetSample(1));", "error EmptyVector 4"),
         (b"x = 1/0;", "error DivideByZero 5"),
         (b"x = 1; x = \"a\";", "error TypeMismatch 7"),
@@ -77,10 +77,23 @@ fn faults_have_names_and_places(rt: HostRuntime) -> Result<(), Fail> {
         (b"x = \"\xc3\xa9\xe2\x82", "error BadCharacter 7"),
         (b"x = \"a\n\xff", "error BadCharacter 7"),
         (b"x = \"\xc3\xa9\"; y", "error UnknownName 10"),
+        (b"max = foo(1 + \"a\")", "error TypeMismatch 12"),
+        (b"max = foo(1)", "error UnknownName 6"),
+        (b"max = len(1)", "error WrongArguments 6"),
+        (b"max = 1", "error ReadOnly 0"),
+        (b"x = stop()", "error TypeMismatch 0"),
+        (b"x = [stop()]", "error TypeMismatch 4"),
+        (b"x = \"a\" ? 1 : y", "error UnknownName 14"),
+        (b"x = time().years", "error UnknownName 11"),
+        (b"x = 1; x.Count(1)", "error TypeMismatch 9"),
+        (b"$CPUPercent.Count(1)", "error WrongArguments 12"),
+        (b"y; x = )", "error UnexpectedToken 7"),
+        (b"x = \"a", "error OpenString 4"),
+        (b"$x = 1; y = x", "error UnknownName 12"),
     ];
     for (formula, wanted) in rows {
         assert!(rt;
-            gives(rt.alloc(), options, formula, End::Fault, wanted)?,
+            writes(rt.alloc(), options, formula, End::Fault, wanted)?,
             "{wanted}"
         );
     }
@@ -100,7 +113,7 @@ fn results_are_written(rt: HostRuntime) -> Result<(), Fail> {
     for (formula, variables) in rows {
         let wanted = format!(in alloc; "{PLAIN}{variables}")?;
         assert!(rt;
-            gives(
+            writes(
                 alloc,
                 options,
                 formula.as_bytes(),
@@ -112,7 +125,7 @@ fn results_are_written(rt: HostRuntime) -> Result<(), Fail> {
     }
     let groups = in_groups(alloc, 65)?;
     assert!(rt;
-        gives(
+        writes(
             alloc,
             options,
             groups.as_bytes(),
@@ -123,7 +136,29 @@ fn results_are_written(rt: HostRuntime) -> Result<(), Fail> {
     Ok(())
 }
 
-/// This text again and again, and so many bytes in all.
+/// 64 calls that are open at one place, each the right side of an operator of each strength. The innermost item is 1. Where a call
+/// is of 1, its operators are `1 * 1`, `1 + 1`, `1 < 2`, `1 == 1`, `1 && 1` and `0 || 1`, so that its whole is 1 again.
+#[test]
+fn the_deepest_formula_is_evaluated(rt: HostRuntime) -> Result<(), Fail> {
+    let alloc = rt.alloc();
+    let options = at_start().ok_or("no moment")?;
+    let opened = "0||1&&1==1<1+1*max(".repeat(alloc, 64)?;
+    let closed = ")".repeat(alloc, 64)?;
+    let formula = format!(in alloc; "x={opened}1{closed}")?;
+    let wanted = format!(in alloc; "{PLAIN};$x=1")?;
+    assert!(rt;
+        writes(
+            alloc,
+            options,
+            formula.as_bytes(),
+            End::Done,
+            wanted.as_str()
+        )?
+    );
+    Ok(())
+}
+
+/// This text again and again, `length` bytes in all.
 fn repeated(alloc: Global, part: &str, length: usize) -> Result<Vec<u8>, AllocError> {
     let mut bytes = Vec::new(alloc);
     for _ in 0..length {
@@ -148,13 +183,13 @@ fn long_formulas_end(rt: HostRuntime) -> Result<(), Fail> {
     ];
     for (part, length, end, wanted) in rows {
         let formula = repeated(alloc, part, length)?;
-        assert!(rt; gives(alloc, options, &formula, end, wanted)?, "{part}");
+        assert!(rt; writes(alloc, options, &formula, end, wanted)?, "{part}");
     }
     Ok(())
 }
 
 #[test]
-fn stream_faults_are_told(rt: HostRuntime) -> Result<(), Fail> {
+fn stream_faults_are_returned(rt: HostRuntime) -> Result<(), Fail> {
     let alloc = rt.alloc();
     let options = at_start().ok_or("no moment")?;
     let rows: [(&[u64], &[u64], End); 2] = [

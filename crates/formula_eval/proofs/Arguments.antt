@@ -21,20 +21,26 @@ use Rattle.formula_eval.specs.Evaluation.{values_of, call_at, method_at, metric_
 use Rattle.formula_eval.specs.Walks.{node_value}
 
 module _ (text : List ℕ) (metrics : Metrics) (now : ℕ) (set : Outcome) where
-  pub call_known : (node : Expr) (p : Span) (args : Vec Expr Global) (items : List Expr) (first : Value) → node ≡ Call p args → items ≡ args.items → node_value text metrics now set (tree_of node) first ≡ (values_of text metrics now set (trees_of items) >>= call_at now p (function_named (part text p)))
+  pub call_known : (node : Expr) (p : Span) (args : Vec Expr Global) (items : List Expr) (first : Value) → node ≡ Call p args → items ≡ args.items →
+      node_value text metrics now set (tree_of node) first ≡ (values_of text metrics now set (trees_of items) >>= call_at now p (function_named (part text p)))
   call_known node p args items first is same =
       ap (λ e. node_value text metrics now set (tree_of e) first) is
       ∙ ap (λ t. node_value text metrics now set t first) (tree_of-Call p args)
       ∙ ap (λ es. values_of text metrics now set (trees_of es) >>= call_at now p (function_named (part text p))) (sym same)
 
-  pub list_known : (node : Expr) (p : Span) (args : Vec Expr Global) (items : List Expr) (first : Value) → node ≡ Items p args → items ≡ args.items → node_value text metrics now set (tree_of node) first ≡ (values_of text metrics now set (trees_of items) >>= (λ values. Ok (DoubleVec (flattened values))))
+  pub list_known : (node : Expr) (p : Span) (args : Vec Expr Global) (items : List Expr) (first : Value) → node ≡ Items p args → items ≡ args.items →
+      node_value text metrics now set (tree_of node) first ≡ (values_of text metrics now set (trees_of items) >>= (λ values. Ok (DoubleVec (flattened values))))
   list_known node p args items first is same =
       ap (λ e. node_value text metrics now set (tree_of e) first) is
       ∙ ap (λ t. node_value text metrics now set t first) (tree_of-List p args)
       ∙ ap (λ es. values_of text metrics now set (trees_of es) >>= (λ values. Ok (DoubleVec (flattened values)))) (sym same)
 
-  pub method_known : (node : Expr) (operand : Box Expr Global) (p : Span) (args : Vec Expr Global) (items : List Expr) (first : Value) → node ≡ Method operand p args → items ≡ args.items → node_value text metrics now set (tree_of node) first ≡ (values_of text metrics now set (trees_of items) >>= method_at metrics now p (metric_of text (tree_of operand.value)) (method_named (part text p)))
+  pub method_known : (node : Expr) (operand : Box Expr Global) (p : Span) (args : Vec Expr Global) (items : List Expr) (first : Value) →
+      node ≡ Method operand p args → items ≡ args.items →
+      node_value text metrics now set (tree_of node) first
+      ≡ (values_of text metrics now set (trees_of items) >>= method_at metrics now p (metric_of text (tree_of operand.value)) (method_named (part text p)))
   method_known node operand p args items first is same =
       ap (λ e. node_value text metrics now set (tree_of e) first) is
       ∙ ap (λ t. node_value text metrics now set t first) (ap (tree.Method (tree_of operand.value) p) (row_items p args))
-      ∙ ap (λ es. values_of text metrics now set (trees_of es) >>= method_at metrics now p (metric_of text (tree_of operand.value)) (method_named (part text p))) (sym same)
+      ∙ ap (λ es. values_of text metrics now set (trees_of es) >>= method_at metrics now p (metric_of text (tree_of operand.value))
+      (method_named (part text p))) (sym same)

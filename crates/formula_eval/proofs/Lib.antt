@@ -1,3 +1,3 @@
 pub mod Arguments
 pub mod Nodes
-pub mod Variables
+pub mod VariableLists

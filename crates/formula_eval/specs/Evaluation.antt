@@ -1,5 +1,5 @@
--- The value of an expression, or what ends its evaluation: a stop, or the first fault. Operands go from the left. A fault's place
--- is where the part of the text begins that is the node's token: an operator, or the name of a function, a method or a metric.
+-- The value of an expression, or what ends its evaluation: a stop, or the first fault. Operands are evaluated from the left. A fault's
+-- place is the beginning of the node's token: an operator, or the name of a function, a method or a metric.
 use Rattle.std.specs.Prelude.{ℕ, ◌-◌, true, false, List, [], ◌∷◌, ◌++◌, length, take, drop, Option, Some, None, Result, Ok, Err, if◌then◌else◌}
 use Rattle.bt_base.specs.Fails.{◌>>=◌}
 use Rattle.formula_lex.specs.declared.token.Span.{Span}
@@ -23,18 +23,18 @@ use Rattle.formula_values.specs.Members.{member_value}
 use Rattle.formula_metrics.specs.declared.metrics.Metrics.{Metrics}
 use Rattle.formula_metrics.specs.Parts.{part_of}
 use Rattle.formula_metrics.specs.Methods.{method_value}
-use Rattle.formula_eval.specs.declared.fault.Halt.{Halt}
-use Rattle.formula_eval.specs.declared.fault.Halt.TheVariants.{Stop, Fault}
+use Rattle.formula_eval.specs.declared.fault.Interrupt.{Interrupt}
+use Rattle.formula_eval.specs.declared.fault.Interrupt.TheVariants.{Stop, Fault}
 use Rattle.formula_eval.specs.declared.outcome.Outcome.{Outcome}
 use Rattle.formula_eval.specs.Outcomes.{text_in}
 use Rattle.formula_eval.specs.Names.{name_value}
 
 -- a fault, with the place of a token
-abbrev pub fault_at : Span → ValueFault → Halt
+abbrev pub fault_at : Span → ValueFault → Interrupt
 fault_at p why = Fault (record { fault = why; place = p.from })
 
--- the answer of what stands at a token
-abbrev pub at : {X : Type 0} → Span → Result X ValueFault → Result X Halt
+-- a result, whose fault is at a token
+abbrev pub at : {X : Type 0} → Span → Result X ValueFault → Result X Interrupt
 at p (Ok x) = Ok x
 at p (Err why) = Err (fault_at p why)
 
@@ -42,15 +42,17 @@ at p (Err why) = Err (fault_at p why)
 abbrev pub unquoted : List ℕ → List ℕ
 unquoted bytes = take (length bytes - 2) (drop 1 bytes)
 
+-- a string with its two quotes
 abbrev pub string_value : List ℕ → Value
 string_value bytes = Text (text_in (unquoted bytes))
 
 -- a function of these arguments; `stop()` ends the evaluation
-abbrev pub call_at : ℕ → Span → Option Function → List Value → Result Value Halt
+abbrev pub call_at : ℕ → Span → Option Function → List Value → Result Value Interrupt
 call_at now p (Some functions.Stop) args = Err Stop
 call_at now p (Some f) args = at p (function_value f args now)
 call_at now p None args = at p no_value
 
+-- a member of a value
 abbrev pub member_at : Option AMember → Value → Value
 member_at (Some m) operand = member_value m operand
 member_at None operand = whole_value 0
@@ -61,31 +63,32 @@ metric_of text (Variable p) = metric_named (part text p)
 metric_of text _ = None
 
 -- a method of a metric, with these arguments
-abbrev pub method_at : Metrics → ℕ → Span → Option Metric → Option AMethod → List Value → Result Value Halt
+abbrev pub method_at : Metrics → ℕ → Span → Option Metric → Option AMethod → List Value → Result Value Interrupt
 method_at metrics now p (Some metric) (Some m) args = at p (method_value (part_of metrics metric) m args now)
 method_at metrics now p _ _ args = at p no_value
 
--- what the left side of `&&` or `||` decides alone
+-- the result of `&&` or `||`, if the left side decides it alone
 abbrev pub decided : BinaryOperator → Value → Option Value
 decided And left = if is_true left then None else Some (truth false)
 decided Or left = if is_true left then Some (truth true) else None
 decided _ left = None
 
-abbrev pub unless_decided : Option Value → Result Value Halt → Result Value Halt
+-- the result that is decided, or another
+abbrev pub unless_decided : Option Value → Result Value Interrupt → Result Value Interrupt
 unless_decided (Some known) other = Ok known
 unless_decided None other = other
 
--- an operator looks at its right side only where the left one does not decide
-abbrev pub binary_at : BinaryOperator → Span → Value → Result Value Halt → Result Value Halt
+-- an operator evaluates its right side only if the left one does not decide
+abbrev pub binary_at : BinaryOperator → Span → Value → Result Value Interrupt → Result Value Interrupt
 binary_at o p left right = unless_decided (decided o left) (right >>= (λ known. at p (binary_value o left known)))
 
--- a ternary looks at one of its branches
-abbrev pub branch : Value → Result Value Halt → Result Value Halt → Result Value Halt
+-- a ternary evaluates one of its branches
+abbrev pub branch : Value → Result Value Interrupt → Result Value Interrupt → Result Value Interrupt
 branch condition met unmet = if is_true condition then met else unmet
 
 abbrev mutual
-  -- the value of an expression of a text, where this is set
-  pub value_of : List ℕ → Metrics → ℕ → Outcome → Tree → Result Value Halt
+  -- the value of an expression of a text, if this is set
+  pub value_of : List ℕ → Metrics → ℕ → Outcome → Tree → Result Value Interrupt
   value_of text metrics now set (Numeral n p) = Ok (Double n)
   value_of text metrics now set (Quoted p) = Ok (string_value (part text p))
   value_of text metrics now set (Variable p) = at p (name_value metrics set (part text p))
@@ -101,7 +104,7 @@ abbrev mutual
       value_of text metrics now set c >>= (λ condition. branch condition (value_of text metrics now set y) (value_of text metrics now set n))
 
   -- the values of arguments or items
-  pub values_of : List ℕ → Metrics → ℕ → Outcome → Trees → Result (List Value) Halt
+  pub values_of : List ℕ → Metrics → ℕ → Outcome → Trees → Result (List Value) Interrupt
   values_of text metrics now set none = Ok []
   values_of text metrics now set (more front last) =
       values_of text metrics now set front >>= (λ values. value_of text metrics now set last >>= (λ known. Ok (values ++ known ∷ [])))

@@ -1,7 +1,7 @@
+pub mod Contexts
 pub mod Evaluation
 pub mod Names
 pub mod Outcomes
 pub mod Results
-pub mod Scenes
 pub mod Statements
 pub mod Walks

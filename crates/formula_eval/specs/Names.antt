@@ -27,7 +27,7 @@ abbrev pub metric_or : Metrics → Option Metric → Result Value ValueFault →
 metric_or metrics (Some metric) other = current_value (part_of metrics metric)
 metric_or metrics None other = other
 
--- a constant timeinterval of so many units
+-- a constant timeinterval, in units of 100 ns
 abbrev pub interval_or : Option ℕ → Result Value ValueFault → Result Value ValueFault
 interval_or (Some units) other = interval_value (pos units)
 interval_or None other = other
@@ -37,10 +37,12 @@ abbrev pub word_or : Option Dealloc → Result Value ValueFault → Result Value
 word_or (Some chosen) other = Ok (Text (option_word chosen))
 word_or None other = other
 
+-- what a setting is so far
 abbrev pub setting_or : Outcome → Option Setting → Result Value ValueFault → Result Value ValueFault
 setting_or set (Some setting) other = Ok (setting_value set setting)
 setting_or set None other = other
 
+-- the value of a variable
 abbrev pub variable_or : Option Value → Result Value ValueFault → Result Value ValueFault
 variable_or (Some known) other = Ok known
 variable_or None other = other
@@ -49,7 +51,7 @@ variable_or None other = other
 abbrev pub constant_value : Outcome → List ℕ → Result Value ValueFault
 constant_value set name =
     interval_or (interval_named name) (word_or (option_named name)
-    (setting_or set (setting_named name) (variable_or (value_among set.others name) no_value)))
+    (setting_or set (setting_named name) (variable_or (value_among set.variables name) no_value)))
 
 -- the value of a name: of a metric, a constant, a setting or a variable
 abbrev pub name_value : Metrics → Outcome → List ℕ → Result Value ValueFault

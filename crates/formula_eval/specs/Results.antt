@@ -1,8 +1,8 @@
--- How results are written.
+-- The text of results.
 use Rattle.std.specs.Prelude.{ℕ, ◌==◌, Bool, false, codes, List, [], ◌∷◌, ◌++◌, if◌then◌else◌}
 use Rattle.std.specs.Fmt.{decimal}
 use Rattle.formula_values.specs.Texts.{value_text}
-use Rattle.formula_eval.specs.declared.outcome.Other.{Other}
+use Rattle.formula_eval.specs.declared.outcome.Variable.{Variable}
 use Rattle.formula_eval.specs.declared.outcome.Outcome.{Outcome}
 use Rattle.bt_base.specs.DeallocOptions.{option_word}
 
@@ -11,17 +11,18 @@ abbrev pub has_dollar : List ℕ → Bool
 has_dollar [] = false
 has_dollar (b ∷ name) = b == 36
 
--- a name, with a `$` if it has none
+-- a name, with a `$` before it if it has none
 abbrev pub shown_name : List ℕ → List ℕ
 shown_name name = if has_dollar name then name else 36 ∷ name
 
 -- a variable: `;`, its name, `=` and its value
-abbrev pub other_text : Other → List ℕ
-other_text other = 59 ∷ shown_name other.name ++ 61 ∷ value_text other.value
+abbrev pub variable_text : Variable → List ℕ
+variable_text variable = 59 ∷ shown_name variable.name ++ 61 ∷ value_text variable.value
 
-abbrev pub others_text : List Other → List ℕ
-others_text [] = []
-others_text (other ∷ others) = other_text other ++ others_text others
+-- the variables, one after the variable
+abbrev pub variables_text : List Variable → List ℕ
+variables_text [] = []
+variables_text (variable ∷ variables) = variable_text variable ++ variables_text variables
 
 -- the three settings
 unfoldable pub settings_text : ℕ → ℕ → List ℕ → List ℕ
@@ -30,7 +31,7 @@ settings_text dedicated low word =
     ++ (codes ";$TargetLowPriorityNodes=" ++ (decimal low
     ++ (codes ";$NodeDeallocationOption=" ++ word))))
 
--- the settings, then the variables in order of first setting
+-- the settings, then the variables in the order of their first settings
 abbrev pub results_text : Outcome → List ℕ
 results_text outcome =
-    settings_text outcome.targets.dedicated outcome.targets.low (option_word outcome.option) ++ others_text outcome.others
+    settings_text outcome.targets.dedicated outcome.targets.low (option_word outcome.option) ++ variables_text outcome.variables

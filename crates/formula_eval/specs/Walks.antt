@@ -20,7 +20,7 @@ use Rattle.formula_values.specs.Operators.{unary_value, binary_value}
 use Rattle.formula_values.specs.Functions.{flattened}
 use Rattle.formula_metrics.specs.declared.metrics.Metrics.{Metrics}
 use Rattle.formula_eval.specs.declared.fault.EvalFault.{EvalFault}
-use Rattle.formula_eval.specs.declared.fault.Halt.{Halt}
+use Rattle.formula_eval.specs.declared.fault.Interrupt.{Interrupt}
 use Rattle.formula_eval.specs.declared.outcome.Outcome.{Outcome}
 use Rattle.formula_eval.specs.Evaluation.{at, call_at, member_at, method_at, binary_at, branch, value_of, values_of}
 use Rattle.formula_eval.specs.Statements.{statements_done}
@@ -33,25 +33,25 @@ first_of (Binary o p l r) = Some l
 first_of (Ternary p c y n) = Some c
 first_of _ = None
 
--- what a function of these arguments gives
-abbrev pub call_value : List ℕ → Metrics → ℕ → Outcome → Span → Trees → Result Value Halt
+-- the result of a function of these arguments
+abbrev pub call_value : List ℕ → Metrics → ℕ → Outcome → Span → Trees → Result Value Interrupt
 call_value text metrics now set p args = values_of text metrics now set args >>= call_at now p (function_named (part text p))
 
 -- a vector of these items
-abbrev pub list_value : List ℕ → Metrics → ℕ → Outcome → Trees → Result Value Halt
+abbrev pub list_value : List ℕ → Metrics → ℕ → Outcome → Trees → Result Value Interrupt
 list_value text metrics now set items = values_of text metrics now set items >>= (λ values. Ok (DoubleVec (flattened values)))
 
--- what a method of a metric with these arguments gives
-abbrev pub method_value : List ℕ → Metrics → ℕ → Outcome → Span → Option Metric → Trees → Result Value Halt
+-- the result of a method of a metric with these arguments
+abbrev pub method_value : List ℕ → Metrics → ℕ → Outcome → Span → Option Metric → Trees → Result Value Interrupt
 method_value text metrics now set p metric args =
     values_of text metrics now set args >>= method_at metrics now p metric (method_named (part text p))
 
--- what a binary operator gives, where its left side does not decide
-abbrev pub right_value : List ℕ → Metrics → ℕ → Outcome → BinaryOperator → Span → Value → Tree → Result Value Halt
+-- the result of a binary operator whose left side does not decide it
+abbrev pub right_value : List ℕ → Metrics → ℕ → Outcome → BinaryOperator → Span → Value → Tree → Result Value Interrupt
 right_value text metrics now set o p left r = value_of text metrics now set r >>= (λ known. at p (binary_value o left known))
 
 -- the value of a node whose first operand has this value, if it has one
-abbrev pub node_value : List ℕ → Metrics → ℕ → Outcome → Tree → Value → Result Value Halt
+abbrev pub node_value : List ℕ → Metrics → ℕ → Outcome → Tree → Value → Result Value Interrupt
 node_value text metrics now set (Member t p) first = Ok (member_at (member_named (part text p)) first)
 node_value text metrics now set (Unary o p t) first = at p (unary_value o first)
 node_value text metrics now set (Binary o p l r) first = binary_at o p first (value_of text metrics now set r)
@@ -60,20 +60,21 @@ node_value text metrics now set t first = value_of text metrics now set t
 
 -- the value of the first of these nodes, each of which is the first operand of the one before it, from that of the last one's
 -- first operand
-abbrev pub through : List ℕ → Metrics → ℕ → Outcome → List (Bor Expr) → Result Value Halt → Result Value Halt
+abbrev pub through : List ℕ → Metrics → ℕ → Outcome → List (Bor Expr) → Result Value Interrupt → Result Value Interrupt
 through text metrics now set [] innermost = innermost
 through text metrics now set (e ∷ es) innermost = through text metrics now set es innermost >>= node_value text metrics now set (tree_of e.now)
 
--- the values of arguments, behind those of others
-abbrev pub values_behind : List ℕ → Metrics → ℕ → Outcome → List Value → List Expr → Result (List Value) Halt
-values_behind text metrics now set values [] = Ok values
-values_behind text metrics now set values (e ∷ es) =
-    value_of text metrics now set (tree_of e) >>= (λ known. values_behind text metrics now set (values ++ known ∷ []) es)
+-- the values of arguments, after those of others
+abbrev pub values_after : List ℕ → Metrics → ℕ → Outcome → List Value → List Expr → Result (List Value) Interrupt
+values_after text metrics now set values [] = Ok values
+values_after text metrics now set values (e ∷ es) =
+    value_of text metrics now set (tree_of e) >>= (λ known. values_after text metrics now set (values ++ known ∷ []) es)
 
--- one statement is done: whatever statements come behind it, what all set is what those set behind it, or what is set where it
--- stops, or its fault, unless memory ran out
+-- one statement is done: whatever statements follow it, what all set is what those set after it, or what is set if it stops, or its
+-- fault, unless memory ran out
 abbrev pub IsDone : List ℕ → Metrics → ℕ → Outcome → StatementTree → Outcome → Result Bool (Fail EvalFault) → Type 0
-IsDone text metrics now old s new (Ok true) = (ss : List StatementTree) → statements_done text metrics now old (s ∷ ss) ≡ statements_done text metrics now new ss
+IsDone text metrics now old s new (Ok true) = (ss : List StatementTree) →
+    statements_done text metrics now old (s ∷ ss) ≡ statements_done text metrics now new ss
 IsDone text metrics now old s new (Ok false) = (ss : List StatementTree) → statements_done text metrics now old (s ∷ ss) ≡ Ok new
 IsDone text metrics now old s new (Err Memory) = Unit {0}
 IsDone text metrics now old s new (Err (Why fault)) = (ss : List StatementTree) → statements_done text metrics now old (s ∷ ss) ≡ Err fault

@@ -1,4 +1,4 @@
-//! What stands at a token, once its operands or arguments have values.
+//! The value at a token, once its operands or arguments have values.
 ghost use Rattle.std.specs.Prelude.{◌≡◌};
 ghost use Rattle.bt_base.specs.Fails.{Gives};
 ghost use Rattle.formula_names.specs.Names.{function_named, member_named};
@@ -7,11 +7,11 @@ ghost use Rattle.formula_trees.specs.View.{tree_of};
 ghost use Rattle.formula_values.specs.Operators.{unary_value, binary_value};
 ghost use Rattle.formula_values.specs.Functions.{function_value};
 ghost use Rattle.formula_eval.specs.Evaluation.{at, call_at, member_at, metric_of, decided};
-ghost use Rattle.formula_eval.specs.Scenes.{name_in, method_of_values};
+ghost use Rattle.formula_eval.specs.Contexts.{name_in, method_of_values};
 
-use crate::fault::{EvalFault, Halt};
+use crate::context::EvalContext;
+use crate::fault::{EvalFault, Interrupt};
 use crate::names::name_value;
-use crate::scene::Scene;
 use bt_base::{Fail, Moment};
 use formula_lex::{BinaryOperator, Span};
 use formula_names::{Function, Metric, function_named, member_named, method_named, metric_named};
@@ -21,33 +21,38 @@ use formula_values::{Value, ValueFault, binary, call, is_true, member, truth, un
 use std::alloc::Global;
 
 /// A fault, with the place of a token.
-pub fn fault_at(span: Span, fault: ValueFault) -> Halt
-    ensures { result ≡ Halt.Fault (record { fault = fault; place = span.from }) }
+pub fn fault_at(span: Span, fault: ValueFault) -> Interrupt
+    ensures { result ≡ Interrupt.Fault (record { fault = fault; place = span.from }) }
 {
-    Halt::Fault(EvalFault {
+    Interrupt::Fault(EvalFault {
         fault,
         place: span.from,
     })
 }
 
 /// The value of a name alone.
-pub fn name_at(alloc: Global, scene: &Scene, span: Span) -> Result<Value, Fail<Halt>>
-    ensures { Gives result (name_in scene.entry.now span) }
+pub fn name_at(alloc: Global, context: &EvalContext, span: Span) -> Result<Value, Fail<Interrupt>>
+    ensures { Gives result (name_in context.entry.now span) }
 {
-    match name_value(alloc, scene.metrics, scene.set, part(scene.text, span)) {
+    match name_value(
+        alloc,
+        context.metrics,
+        context.set,
+        part(context.text, span),
+    ) {
         Ok(found) => Ok(found),
         Err(Fail::Memory) => Err(Fail::Memory),
         Err(Fail::Why(fault)) => Err(Fail::Why(fault_at(span, fault))),
     }
 }
 
-/// What a unary operator gives.
+/// The result of a unary operator.
 pub fn unary_at(
     alloc: Global,
     operator: UnaryOperator,
     span: Span,
     operand: &Value,
-) -> Result<Value, Fail<Halt>>
+) -> Result<Value, Fail<Interrupt>>
     ensures { Gives result (at span (unary_value operator operand.now)) }
 {
     match unary(alloc, operator, operand) {
@@ -57,14 +62,14 @@ pub fn unary_at(
     }
 }
 
-/// What a binary operator gives.
+/// The result of a binary operator.
 pub fn binary_at(
     alloc: Global,
     operator: BinaryOperator,
     span: Span,
     left: &Value,
     right: &Value,
-) -> Result<Value, Fail<Halt>>
+) -> Result<Value, Fail<Interrupt>>
     ensures { Gives result (at span (binary_value operator left.now right.now)) }
 {
     match binary(alloc, operator, left, right) {
@@ -74,7 +79,7 @@ pub fn binary_at(
     }
 }
 
-/// What the left side of `&&` or `||` decides alone.
+/// The result of `&&` or `||`, if the left side decides it alone.
 pub fn decided(operator: BinaryOperator, left: &Value) -> Option<Value>
     ensures { result ≡ decided operator left.now }
 {
@@ -97,14 +102,14 @@ pub fn decided(operator: BinaryOperator, left: &Value) -> Option<Value>
     }
 }
 
-/// What a function of these arguments gives.
+/// The result of a function of these arguments.
 fn function_at(
     alloc: Global,
     now: Moment,
     span: Span,
     function: Function,
     arguments: &[Value],
-) -> Result<Value, Fail<Halt>>
+) -> Result<Value, Fail<Interrupt>>
     ensures { Gives result (at span (function_value function arguments.now now)) }
 {
     match call(alloc, function, arguments, now) {
@@ -114,24 +119,24 @@ fn function_at(
     }
 }
 
-/// What the function of this name gives with these arguments; `stop()` ends the evaluation.
+/// The result of the function of this name with these arguments. `stop()` ends the evaluation.
 pub fn call_at(
     alloc: Global,
     text: &[u8],
     now: Moment,
     span: Span,
     arguments: &[Value],
-) -> Result<Value, Fail<Halt>>
+) -> Result<Value, Fail<Interrupt>>
     ensures { Gives result (call_at now span (function_named (part_of text.now span)) arguments.now) }
 {
     match function_named(part(text, span)) {
-        Some(Function::Stop) => Err(Fail::Why(Halt::Stop)),
+        Some(Function::Stop) => Err(Fail::Why(Interrupt::Stop)),
         Some(function) => function_at(alloc, now, span, function, arguments),
         None => Ok(whole(0)),
     }
 }
 
-/// What the member of this name gives.
+/// The value of the member of this name.
 pub fn member_at(text: &[u8], span: Span, operand: &Value) -> Value
     ensures { result ≡ member_at (member_named (part_of text.now span)) operand.now }
 {
@@ -151,26 +156,26 @@ pub fn metric_of(text: &[u8], operand: &Expr) -> Option<Metric>
     }
 }
 
-/// What the method of this name gives with these arguments.
+/// The result of the method of this name with these arguments.
 pub fn method_at(
     alloc: Global,
-    scene: &Scene,
+    context: &EvalContext,
     span: Span,
     metric: Option<Metric>,
     arguments: &[Value],
-) -> Result<Value, Fail<Halt>>
-    ensures { Gives result (method_of_values scene.entry.now span metric arguments.now) }
+) -> Result<Value, Fail<Interrupt>>
+    ensures { Gives result (method_of_values context.entry.now span metric arguments.now) }
 {
     let Some(metric) = metric else {
         return Ok(whole(0));
     };
-    let Some(method) = method_named(part(scene.text, span)) else {
+    let Some(method) = method_named(part(context.text, span)) else {
         return Ok(whole(0));
     };
-    match scene
+    match context
         .metrics
         .part(metric)
-        .call(alloc, method, arguments, scene.now)
+        .call(alloc, method, arguments, context.now)
     {
         Ok(found) => Ok(found),
         Err(Fail::Memory) => Err(Fail::Memory),

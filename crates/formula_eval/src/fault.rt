@@ -6,8 +6,8 @@ use bt_base::Fail;
 use formula_lex::Span;
 use formula_values::ValueFault;
 
-/// The first fault of a formula's evaluation, with its place, which counts the text's bytes from 0: that of the operator, of the
-/// name of the function, method or metric, or of the name that is set.
+/// The first fault of a formula's evaluation, with its place, which counts the text's bytes from 0: that of the operator, of the name
+/// of the function, method or metric, or of the name that is set.
 #[derive(Clone, Copy, Debug, PartialEq, Eq)]
 pub struct EvalFault {
     pub fault: ValueFault,
@@ -15,14 +15,14 @@ pub struct EvalFault {
 }
 
 impl EvalFault {
-    /// The fault's name. It takes no memory.
+    /// The fault's name. It does not allocate.
     pub fn name(self) -> &'static str
         ensures { result.now ≡ fault_name self.fault }
     {
         self.fault.name()
     }
 
-    /// The fault's place. It takes no memory.
+    /// The fault's place. It does not allocate.
     pub fn place(self) -> usize
         ensures { result ≡ self.place }
     {
@@ -32,7 +32,7 @@ impl EvalFault {
 
 /// What ends the evaluation of an expression without a value.
 #[derive(Clone, Copy, Debug, PartialEq, Eq)]
-pub enum Halt {
+pub enum Interrupt {
     /// `stop()`
     Stop,
     Fault(EvalFault),

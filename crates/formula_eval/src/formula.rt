@@ -6,9 +6,9 @@ ghost use Rattle.formula_eval.specs.Outcomes.{at_start};
 ghost use Rattle.formula_eval.specs.Statements.{expression_of, evaluated};
 ghost use Rattle.formula_eval.specs.Walks.{IsDone};
 
-use crate::fault::{EvalFault, Halt};
-use crate::outcome::{Others, Outcome, Targets};
-use crate::scene::Scene;
+use crate::context::EvalContext;
+use crate::fault::{EvalFault, Interrupt};
+use crate::outcome::{Outcome, Targets, Variables};
 use crate::settings::settle;
 use crate::values::value_of;
 use bt_base::{Dealloc, Fail, Moment};
@@ -24,7 +24,7 @@ fn at_start(alloc: Global, start: Targets) -> Outcome
     Outcome {
         targets: start,
         option: Dealloc::Requeue,
-        others: Others::empty(alloc),
+        variables: Variables::empty(alloc),
     }
 }
 
@@ -38,7 +38,7 @@ fn expression(statement: &Statement) -> &Expr
     }
 }
 
-/// Does a statement behind those before it. False where `stop()` ends the evaluation.
+/// Evaluates a statement after those before it. False if `stop()` ends the evaluation.
 fn step(
     alloc: Global,
     text: &[u8],
@@ -49,26 +49,26 @@ fn step(
 ) -> Result<bool, Fail<EvalFault>>
     ensures { IsDone text.now metrics.now now set.old (statement_of statement.now) set.new result }
 {
-    let scene = Scene {
+    let context = EvalContext {
         text,
         metrics,
         now,
         set,
     };
-    match value_of(alloc, &scene, expression(statement)) {
+    match value_of(alloc, &context, expression(statement)) {
         Ok(value) => {
             settle(alloc, text, set, statement, value)?;
             Ok(true)
         }
         Err(Fail::Memory) => Err(Fail::Memory),
-        Err(Fail::Why(Halt::Stop)) => Ok(false),
-        Err(Fail::Why(Halt::Fault(fault))) => Err(Fail::Why(fault)),
+        Err(Fail::Why(Interrupt::Stop)) => Ok(false),
+        Err(Fail::Why(Interrupt::Fault(fault))) => Err(Fail::Why(fault)),
     }
 }
 
-/// What a formula sets, from these metrics, at this moment and with these targets at first. `EvalFault` is its first fault:
-/// operands go from the left, and `&&`, `||` and the ternary look only at what they need. `stop()` ends the evaluation with what
-/// was set before.
+/// Evaluates a formula with these metrics, at this moment and with these targets at first. The error is the formula's first fault, or
+/// out of memory: operands are evaluated from the left, and `&&`, `||` and the ternary evaluate only what they need. `stop()` ends
+/// the evaluation with what was set before.
 pub fn evaluate(
     alloc: Global,
     formula: &Formula,

@@ -3,12 +3,12 @@
 #![tactic(auto)]
 
 mod calls;
+mod context;
 mod fault;
 mod formula;
 mod names;
 mod outcome;
 mod results;
-mod scene;
 mod settings;
 mod spine;
 mod strings;
@@ -16,7 +16,7 @@ mod values;
 
 pub use fault::EvalFault;
 pub use formula::evaluate;
-pub use outcome::{Other, Others, Outcome, Targets};
+pub use outcome::{Outcome, Targets, Variable, Variables};
 pub use results::results_text;
 
 #[cfg(test)]

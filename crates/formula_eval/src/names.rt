@@ -27,11 +27,11 @@ fn setting_value(alloc: Global, set: &Outcome, setting: Setting) -> Result<Value
 
 /// The value of a setting or of a variable.
 fn variable_value(alloc: Global, set: &Outcome, name: &[u8]) -> Result<Value, Fail<ValueFault>>
-    ensures { Gives result (setting_or set.now (setting_named name.now) (variable_or (value_among set.now.others name.now) no_value)) }
+    ensures { Gives result (setting_or set.now (setting_named name.now) (variable_or (value_among set.now.variables name.now) no_value)) }
 {
     match setting_named(name) {
         Some(setting) => Ok(setting_value(alloc, set, setting)?),
-        None => match set.others.value(name) {
+        None => match set.variables.value(name) {
             Some(known) => Ok(known.copy()?),
             None => Ok(whole(0)),
         },

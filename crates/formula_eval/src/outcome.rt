@@ -10,7 +10,7 @@ use name_index::NameIndex;
 use std::alloc::Global;
 use std::marker::Model;
 
-/// How many nodes a pool is to have: dedicated ones, from 0 to 1,000, and low-priority ones, always 0.
+/// The number of nodes that a pool is to have: dedicated ones, from 0 to 1,000, and low-priority ones, always 0.
 #[derive(Clone, Copy, Debug, PartialEq, Eq)]
 pub struct Targets {
     pub dedicated: u32,
@@ -19,24 +19,24 @@ pub struct Targets {
 
 /// A variable of the formula's own, and its value.
 #[derive(Debug, Drop)]
-pub struct Other {
+pub struct Variable {
     pub name: Text,
     pub value: Value,
 }
 
-/// Variables with names that differ, in the order in which they were set first. Contracts see them as a list. A name is found
-/// through an index, so that a look-up among n variables takes about log n comparisons.
+/// Variables with different names, in the order of their first settings. Contracts see them as a list. A name is found through an
+/// index, so that a look-up among n variables takes about log n comparisons.
 #[derive(Debug, Drop)]
-pub struct Others {
-    items: Vec<Other>,
+pub struct Variables {
+    items: Vec<Variable>,
     places: NameIndex,
 }
 
-impl Model for Others {
+impl Model for Variables {
     ghost use Rattle.std.specs.Prelude.{List as Items};
-    ghost use Rattle.formula_eval.specs.declared.outcome.Other.{Other};
+    ghost use Rattle.formula_eval.specs.declared.outcome.Variable.{Variable};
 
-    ghost Value = { Items Other };
+    ghost Value = { Items Variable };
 
     ghost view = { λ o. o.items.items };
 
@@ -46,77 +46,77 @@ impl Model for Others {
     ghost invariant = { λ o. ArePlaces is_named o.places o.items.items };
 }
 
-/// What a formula has set: the targets, what becomes of the tasks of a node that leaves, and its own variables.
+/// What a formula has set: the targets, the node deallocation option, and its own variables.
 #[derive(Debug, Drop)]
 pub struct Outcome {
     pub targets: Targets,
     pub option: Dealloc,
-    pub others: Others,
+    pub variables: Variables,
 }
 
-impl Others {
+impl Variables {
     /// No variables.
-    pub fn empty(alloc: Global) -> Others
+    pub fn empty(alloc: Global) -> Variables
         ensures { result ≡ [] }
     {
-        Others {
+        Variables {
             items: Vec::new(alloc),
             places: NameIndex::new(alloc),
         }
     }
 
-    /// The variables in order. It takes no memory.
-    pub fn as_slice(&self) -> &[Other]
+    /// The variables in order. It does not allocate.
+    pub fn as_slice(&self) -> &[Variable]
         ensures { result.now ≡ self.now }
     {
         self.items.as_slice()
     }
 
-    /// The value of the variable of this name, if it is set. It takes no memory.
+    /// The value of the variable of this name, if it is set. It does not allocate.
     pub fn value(&self, name: &[u8]) -> Option<&Value>
         ensures { option_map (λ known. known.now) result ≡ value_among self.now name.now }
     {
         let place = self.places.number(name)?;
-        let other = self.items.as_slice().get(place)?;
-        Some(&other.value)
+        let variable = self.items.as_slice().get(place)?;
+        Some(&variable.value)
     }
 
-    /// Gives the variable of this name a value; it comes last if it was not set before. Where memory runs out, nothing changes.
+    /// Sets the variable of this name to a value. It comes last if it was not set before. If memory runs out, nothing changes.
     pub fn set(&mut self, alloc: Global, name: Text, value: Value) -> Result<(), NoMemory>
         ensures set { IfOk result (λ _. self.new ≡ with_value self.old name value) }
         ensures unchanged { OnErr result (self.new ≡ self.old) }
     {
-        let other = Other { name, value };
-        match self.places.number(other.name.as_str().as_bytes()) {
-            Some(place) => put_at(&mut self.items, place, other),
-            None => append(alloc, &mut self.items, &mut self.places, other)?,
+        let variable = Variable { name, value };
+        match self.places.number(variable.name.as_str().as_bytes()) {
+            Some(place) => put_at(&mut self.items, place, variable),
+            None => append(alloc, &mut self.items, &mut self.places, variable)?,
         }
         Ok(())
     }
 }
 
-fn put_at(others: &mut Vec<Other>, place: usize, other: Other)
-    requires { place < vec_len others.old }
-    ensures { others.new.items ≡ slice_set others.old.items place other }
+fn put_at(variables: &mut Vec<Variable>, place: usize, variable: Variable)
+    requires { place < vec_len variables.old }
+    ensures { variables.new.items ≡ slice_set variables.old.items place variable }
 {
-    others[place] = other;
+    variables[place] = variable;
 }
 
-/// Appends a variable whose name is not there. Where memory runs out, nothing changes.
+/// Appends a variable whose name is not there. If memory runs out, nothing changes.
 fn append(
     alloc: Global,
-    others: &mut Vec<Other>,
+    variables: &mut Vec<Variable>,
     places: &mut NameIndex,
-    other: Other,
+    variable: Variable,
 ) -> Result<(), NoMemory>
-    requires places { ArePlaces is_named places.old others.old.items }
-    requires absent { position (is_named other.name) others.old.items ≡ None }
-    ensures appended { IfOk result (λ _. others.new.items ≡ others.old.items ++ other ∷ []) }
-    ensures unchanged { OnErr result (others.new.items ≡ others.old.items) }
-    ensures places { ArePlaces is_named places.new others.new.items }
+    requires places { ArePlaces is_named places.old variables.old.items }
+    requires absent { position (is_named variable.name) variables.old.items ≡ None }
+    ensures appended { IfOk result (λ _. variables.new.items ≡ variables.old.items ++ variable ∷ []) }
+    ensures unchanged { OnErr result (variables.new.items ≡ variables.old.items) }
+    ensures places { ArePlaces is_named places.new variables.new.items }
 {
-    others.reserve(1)?;
-    places.put(alloc, other.name.as_str().as_bytes(), others.len())?;
-    others.push(other)?;
+    variables.reserve(1)?;
+    places.put(alloc, variable.name.as_str().as_bytes(), variables.len())?;
+    variables.push(variable)?;
     Ok(())
 }

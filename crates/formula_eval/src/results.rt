@@ -1,9 +1,9 @@
 //! The text of results.
 ghost use Rattle.std.specs.Prelude.{◌≡◌, ◌++◌, IfOk, string_bytes};
-ghost use Rattle.formula_eval.specs.Results.{has_dollar, shown_name, other_text, others_text, settings_text, results_text};
+ghost use Rattle.formula_eval.specs.Results.{has_dollar, shown_name, variable_text, variables_text, settings_text, results_text};
 ghost use Rattle.bt_base.specs.DeallocOptions.{option_word};
 
-use crate::outcome::{Other, Outcome};
+use crate::outcome::{Outcome, Variable};
 use bt_base::{NoMemory, Text, option_word};
 use std::alloc::{AllocError, Global};
 
@@ -16,7 +16,7 @@ fn has_dollar(name: &[u8]) -> bool
     }
 }
 
-/// Appends a name, with a `$` if it has none.
+/// Appends a name, with a `$` before it if it has none.
 fn push_name(text: &mut String, name: &str) -> Result<(), NoMemory>
     ensures { IfOk result (λ _. string_bytes text.new ≡ string_bytes text.old ++ shown_name name.now) }
 {
@@ -28,22 +28,22 @@ fn push_name(text: &mut String, name: &str) -> Result<(), NoMemory>
 }
 
 /// Appends a variable: `;`, its name, `=` and its value.
-fn push_other(alloc: Global, text: &mut String, other: &Other) -> Result<(), NoMemory>
-    ensures { IfOk result (λ _. string_bytes text.new ≡ string_bytes text.old ++ other_text other.now) }
+fn push_variable(alloc: Global, text: &mut String, variable: &Variable) -> Result<(), NoMemory>
+    ensures { IfOk result (λ _. string_bytes text.new ≡ string_bytes text.old ++ variable_text variable.now) }
 {
-    let value = other.value.text(alloc)?;
+    let value = variable.value.text(alloc)?;
     text.push(';')?;
-    push_name(text, other.name.as_str())?;
+    push_name(text, variable.name.as_str())?;
     text.push('=')?;
     text.push_str(value.as_str())?;
     Ok(())
 }
 
-fn push_others(alloc: Global, text: &mut String, others: &[Other]) -> Result<(), NoMemory>
-    ensures { IfOk result (λ _. string_bytes text.new ≡ string_bytes text.old ++ others_text others.now) }
+fn push_variables(alloc: Global, text: &mut String, variables: &[Variable]) -> Result<(), NoMemory>
+    ensures { IfOk result (λ _. string_bytes text.new ≡ string_bytes text.old ++ variables_text variables.now) }
 {
-    for other in others {
-        push_other(alloc, text, other)?;
+    for variable in variables {
+        push_variable(alloc, text, variable)?;
     }
     Ok(())
 }
@@ -59,14 +59,14 @@ fn settings_text(alloc: Global, dedicated: u32, low: u32, word: &str) -> Result<
     format!(in alloc; "{dedicated_name}{dedicated}{low_name}{low}{option_name}{word}")
 }
 
-/// What a formula has set, as text: the targets, the word for what becomes of the tasks of a node that leaves, then its variables
-/// in the order in which they were set first, each with a `$` before its name.
+/// What a formula has set, as text: the targets, the node deallocation option, then its variables in the order of their first
+/// settings, each with a `$` before its name.
 pub fn results_text(alloc: Global, outcome: &Outcome) -> Result<Text, NoMemory>
     ensures { IfOk result (λ text. text ≡ results_text outcome.now) }
 {
     let word = option_word(outcome.option);
     let targets = outcome.targets;
     let mut text = settings_text(alloc, targets.dedicated, targets.low, word)?;
-    push_others(alloc, &mut text, outcome.others.as_slice())?;
+    push_variables(alloc, &mut text, outcome.variables.as_slice())?;
     Ok(Text::of_string(text))
 }

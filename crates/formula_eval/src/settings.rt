@@ -18,13 +18,13 @@ use formula_types::part;
 use formula_values::{Value, ValueFault, floor_of};
 use std::alloc::Global;
 
-/// The greatest number of dedicated nodes.
-const GREATEST_DEDICATED: u32 = 1000;
+/// The greatest target of dedicated nodes.
+pub const GREATEST_DEDICATED: u32 = 1000;
 
-/// The greatest number of low-priority nodes.
-const GREATEST_LOW: u32 = 0;
+/// The greatest target of low-priority nodes: a pool has none.
+pub const GREATEST_LOW: u32 = 0;
 
-/// A double as a target of at most so many nodes: it is floored.
+/// A double as a target of at most `most` nodes: it is floored.
 fn target_of(most: u32, number: Num) -> Result<u32, ValueFault>
     ensures { result ≡ target_of most number }
 {
@@ -84,7 +84,7 @@ fn set_name(
         },
         None => {
             let name = text_in(alloc, name)?;
-            set.others.set(alloc, name, value)?;
+            set.variables.set(alloc, name, value)?;
             Ok(())
         }
     }

@@ -1,48 +1,47 @@
-//! Tests of what no clause says: values from outside, and that each call can succeed.
+//! Formulas and their results. The expected texts are worked out by hand from the language's rules.
 use super::*;
-use bt_base::{Fail, Moment, NoMemory, Text};
+use bt_base::{Fail, Moment, NoMemory, Num, Text};
 use formula_metrics::Metrics;
+use formula_names::Metric;
 use formula_types::compile;
 use std::alloc::Global;
 use std::test::Fail as TestFail;
 
-// What a formula sets over no samples and no current values, or `error`, its fault's name and place.
-fn shown(alloc: Global, text: &str, ms: u64, dedicated: u32) -> Result<Text, TestFail> {
+const SETTINGS: &str =
+    "$TargetDedicatedNodes=4;$TargetLowPriorityNodes=0;$NodeDeallocationOption=requeue";
+
+// What a formula sets over these metrics, at this moment and with 4 dedicated nodes before, or `error`, its fault's name and place.
+fn shown(alloc: Global, metrics: &Metrics, ms: u64, text: &str) -> Result<Text, TestFail> {
     let now = Moment::of_ms(ms).ok_or(NoMemory)?;
-    let metrics = Metrics::new(alloc)?;
+    let start = Targets {
+        dedicated: 4,
+        low: 0,
+    };
     let formula = compile(alloc, text)?;
-    match evaluate(
-        alloc,
-        &formula,
-        &metrics,
-        now,
-        Targets { dedicated, low: 0 },
-    ) {
+    match evaluate(alloc, &formula, metrics, now, start) {
         Ok(outcome) => Ok(results_text(alloc, &outcome)?),
         Err(Fail::Memory) => Err(TestFail::from(NoMemory)),
-        Err(Fail::Why(fault)) => Ok(fault_text(alloc, fault)?),
+        Err(Fail::Why(fault)) => {
+            let name = fault.name();
+            let place = fault.place();
+            Ok(Text::of_string(format!(in alloc; "error {name} {place}")?))
+        }
     }
 }
 
-fn fault_text(alloc: Global, fault: EvalFault) -> Result<Text, NoMemory> {
-    let name = fault.name();
-    let place = fault.place();
-    Ok(Text::of_string(format!(in alloc; "error {name} {place}")?))
-}
-
-const SCALED: &str =
-    "$samples = $ActiveTasks.GetSamplePercent(TimeInterval_Minute * 15); $tasks = $samples < 70 ? max(0, $ActiveTasks.GetSample(1)) : max($ActiveTasks.GetSample(1), avg($ActiveTasks.GetSample(TimeInterval_Minute * 15))); $targetVMs = $tasks > 0 ? $tasks : max(0, $TargetDedicatedNodes / 2); cappedPoolSize = 20; $TargetDedicatedNodes = max(0, min($targetVMs, cappedPoolSize)); $NodeDeallocationOption = taskcompletion;";
-
 #[test]
-fn formulas_have_results(rt: HostRuntime) -> Result<(), TestFail> {
+fn formulas_set_targets_and_options(rt: HostRuntime) -> Result<(), TestFail> {
+    let metrics = Metrics::new(rt.alloc())?;
     let table = [
         (
-            SCALED,
-            "$TargetDedicatedNodes=2;$TargetLowPriorityNodes=0;$NodeDeallocationOption=taskcompletion;$samples=0;$tasks=0;$targetVMs=2;$cappedPoolSize=20",
+            "$TargetDedicatedNodes = 2.9; a = 0 && 1/0; b = 7 || 1/0; c = 1 && 7; d = 0 || 0",
+            "$TargetDedicatedNodes=2;$TargetLowPriorityNodes=0;$NodeDeallocationOption=requeue;$a=0;$b=1;$c=1;$d=0",
         ),
-        ("x = avg($CPUPercent.GetSample(1));", "error EmptyVector 4"),
+        (
+            "$NodeDeallocationOption = taskcompletion; 1 ? stop() : 0; $TargetDedicatedNodes = 0",
+            "$TargetDedicatedNodes=4;$TargetLowPriorityNodes=0;$NodeDeallocationOption=taskcompletion",
+        ),
         ("x = $CPUPercent", "error EmptyVector 4"),
-        ("x = 1/0;", "error DivideByZero 5"),
         ("$TargetDedicatedNodes = -1;", "error NegativeTarget 0"),
         (
             "y = 1; $TargetDedicatedNodes = 1001;",
@@ -53,40 +52,159 @@ fn formulas_have_results(rt: HostRuntime) -> Result<(), TestFail> {
             "$NodeDeallocationOption = \"Requeue\"",
             "error NotAnOption 0",
         ),
-        ("x = [1,2] + [1]", "error LengthsDiffer 10"),
-        (
-            "x = 0 ? 1/0 : 2",
-            "$TargetDedicatedNodes=4;$TargetLowPriorityNodes=0;$NodeDeallocationOption=requeue;$x=2",
-        ),
-        (
-            "$TargetDedicatedNodes = 2.9; a = 0 && 1/0; b = 7 || 1/0; c = 1 && 7; d = 0 || 0",
-            "$TargetDedicatedNodes=2;$TargetLowPriorityNodes=0;$NodeDeallocationOption=requeue;$a=0;$b=1;$c=1;$d=0",
-        ),
-        (
-            "x = \"Requeue\"; $x = [1, -2.5]; x = \"b\"; 1 ? stop() : 0; $TargetDedicatedNodes = 0",
-            "$TargetDedicatedNodes=4;$TargetLowPriorityNodes=0;$NodeDeallocationOption=requeue;$x=b;$x=[1,-2.5]",
-        ),
-        (
-            "bb = 1; a = bb + 1; b = a * 10; bb = b + a + bb; $b = bb",
-            "$TargetDedicatedNodes=4;$TargetLowPriorityNodes=0;$NodeDeallocationOption=requeue;$bb=23;$a=2;$b=20;$b=23",
-        ),
-        (
-            "z = TimeInterval_Minute + time(); y = TimeInterval_Year; h = time().hour; o = $NodeDeallocationOption",
-            "$TargetDedicatedNodes=4;$TargetLowPriorityNodes=0;$NodeDeallocationOption=requeue;$z=2027-01-15T08:01:00.0000000Z;$y=315360000000000;$h=8;$o=requeue",
-        ),
     ];
     for (text, wanted) in table {
-        let found = shown(rt.alloc(), text, 1_800_000_000_000, 4)?;
+        let found = shown(rt.alloc(), &metrics, 0, text)?;
         assert_eq!(rt; found.as_str(), wanted, "of {text}");
     }
     Ok(())
 }
 
 #[test]
-fn long_chains_of_operators_have_values(rt: HostRuntime) -> Result<(), TestFail> {
-    let mut text = "1+".repeat(rt.alloc(), 4_094)?;
-    text.push_str("1/0")?;
-    let found = shown(rt.alloc(), text.as_str(), 0, 0)?;
-    assert_eq!(rt; found.as_str(), "error DivideByZero 8189");
+fn expressions_have_values(rt: HostRuntime) -> Result<(), TestFail> {
+    let alloc = rt.alloc();
+    let metrics = Metrics::new(alloc)?;
+    let table = [
+        (
+            "bb = 1; a = bb + 1; b = a * 10; bb = b + a + bb; $b = bb",
+            "$bb=23;$a=2;$b=20;$b=23",
+        ),
+        (
+            "x = \"Requeue\"; $x = [1, -2.5]; x = \"b\"",
+            "$x=b;$x=[1,-2.5]",
+        ),
+        (
+            "x = [avg(1, 5, [2]), avg(-0.000001, 0), sum(1, [5, 2]), max([1, 5], 2), min([1, 5]), range([1, 5, 2])]",
+            "$x=[2.666666,0,8,5,1,4]",
+        ),
+        (
+            "v = [4, 1, 3, 2]; x = [len(v), norm([1, -1]), percentile(v, 50), percentile(v, 0), percentile(v, 100), val(v, 1.9)]",
+            "$v=[4,1,3,2];$x=[4,1.414213,2,1,4,1]",
+        ),
+        (
+            "x = [round(-2.5), round(2.499999), floor(-2.5), ceil(-2.5), ceil(0.000001)]",
+            "$x=[-3,2,-3,-2,1]",
+        ),
+        (
+            "x = [2.5, 0.000001] * [-2, 0.5]; y = 2 / [1, -3]; z = [1, -3] - 2; w = -[1, -3]",
+            "$x=[-5,0];$y=[2,-0.666666];$z=[-1,-5];$w=[-1,3]",
+        ),
+        (
+            "x = time(\"2024-02-29T01:02:03.4567891Z\"); y = [x.year, x.month, x.day, x.weekday, x.hour, x.minute, x.second]",
+            "$x=2024-02-29T01:02:03.4567891Z;$y=[2024,2,29,4,1,2,3]",
+        ),
+        (
+            "z = TimeInterval_Minute + time(); y = TimeInterval_Year / -2; h = time().hour; o = $NodeDeallocationOption",
+            "$z=2027-01-15T08:01:00.0000000Z;$y=-157680000000000;$h=8;$o=requeue",
+        ),
+    ];
+    for (text, variables) in table {
+        let found = shown(alloc, &metrics, 1_800_000_000_000, text)?;
+        let wanted = format!(in alloc; "{SETTINGS};{variables}")?;
+        assert_eq!(rt; found.as_str(), wanted.as_str(), "of {text}");
+    }
+    Ok(())
+}
+
+#[test]
+fn the_first_fault_counts(rt: HostRuntime) -> Result<(), TestFail> {
+    let metrics = Metrics::new(rt.alloc())?;
+    let table = [
+        ("x = [1,2] + [1]", "error LengthsDiffer 10"),
+        ("x = [1] / [0, 0]", "error LengthsDiffer 8"),
+        ("x = [1] / [0]", "error DivideByZero 8"),
+        ("x = sum(1000000000000, 1)", "error TooLarge 4"),
+        ("x = percentile([], -1)", "error EmptyVector 4"),
+        ("x = percentile([1], 100.000001)", "error IndexOutOfRange 4"),
+        ("x = val([1], 1)", "error IndexOutOfRange 4"),
+        ("x = time(\"1969-12-31\")", "error TimeOutOfRange 4"),
+        ("x = time(\"now\")", "error BadTimeText 4"),
+        ("x = TimeInterval_Year * 10001", "error TimeOutOfRange 22"),
+    ];
+    for (text, wanted) in table {
+        let found = shown(rt.alloc(), &metrics, 0, text)?;
+        assert_eq!(rt; found.as_str(), wanted, "of {text}");
+    }
+    Ok(())
+}
+
+// Metrics with samples 1, 2 and 3 of one metric at 0, 30 and 60 seconds.
+fn sampled(alloc: Global) -> Result<Metrics, TestFail> {
+    let mut metrics = Metrics::new(alloc)?;
+    for (label, value) in [(0, 1), (30_000, 2), (60_000, 3)] {
+        let number = Num::of_whole(value).map_err(|_| "a number")?;
+        metrics
+            .push(Metric::ActiveTasks, label, number)
+            .map_err(|_| "a push was refused")?;
+    }
+    Ok(metrics)
+}
+
+#[test]
+fn methods_read_samples(rt: HostRuntime) -> Result<(), TestFail> {
+    let alloc = rt.alloc();
+    let metrics = sampled(alloc)?;
+    let table = [
+        ("GetSample(2.9)", "[3,2]"),
+        ("GetSample(0)", "[]"),
+        ("GetSample(1000000000000)", "[3,2,1]"),
+        ("GetSample(TimeInterval_Minute)", "[3,2]"),
+        ("GetSample(time(\"1970-01-01T00:01:00Z\"))", "[3]"),
+        ("GetSample(1000 * TimeInterval_Second)", "[3,2,1]"),
+        (
+            "GetSample(TimeInterval_Minute, 90 * TimeInterval_Second)",
+            "[2,1]",
+        ),
+        (
+            "GetSample(time(\"1970-01-01\"), TimeInterval_Minute)",
+            "[2,1]",
+        ),
+        (
+            "GetSample(31 * TimeInterval_Second, 59 * TimeInterval_Second)",
+            "[]",
+        ),
+        ("GetSample(TimeInterval_Minute, 66.666666)", "[3,2]"),
+        (
+            "GetSample(TimeInterval_Minute, TimeInterval_Zero, 66.666666)",
+            "[3,2]",
+        ),
+        (
+            "GetSample(100 * TimeInterval_Second, 200 * TimeInterval_Second, 0)",
+            "[]",
+        ),
+        ("GetSamplePercent(TimeInterval_Minute)", "66.666666"),
+        ("GetSamplePercent(1000 * TimeInterval_Second)", "75"),
+        (
+            "GetSamplePercent(100 * TimeInterval_Second, 200 * TimeInterval_Second)",
+            "0",
+        ),
+        ("GetSamplePeriod()", "300000000"),
+        ("Count()", "3"),
+        ("HistoryBeginTime()", "1970-01-01T00:00:00.0000000Z"),
+    ];
+    for (call, wanted) in table {
+        let text = format!(in alloc; "x = $ActiveTasks.{call}")?;
+        let found = shown(alloc, &metrics, 90_000, text.as_str())?;
+        let wanted = format!(in alloc; "{SETTINGS};$x={wanted}")?;
+        assert_eq!(rt; found.as_str(), wanted.as_str(), "of {call}");
+    }
+    let table = [
+        (
+            "x = $ActiveTasks.GetSample(-0.000001)",
+            "error IndexOutOfRange 17",
+        ),
+        (
+            "x = $ActiveTasks.GetSample(TimeInterval_Minute, 66.666667)",
+            "error NotEnoughSamples 17",
+        ),
+        (
+            "x = $FailedTasks.HistoryBeginTime()",
+            "error EmptyVector 17",
+        ),
+    ];
+    for (text, wanted) in table {
+        let found = shown(alloc, &metrics, 90_000, text)?;
+        assert_eq!(rt; found.as_str(), wanted, "of {text}");
+    }
     Ok(())
 }

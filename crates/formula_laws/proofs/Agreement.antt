@@ -19,7 +19,7 @@ use Rattle.formula_values.specs.Values.{no_value, interval_value}
 use Rattle.formula_metrics.specs.declared.metrics.Metrics.{Metrics}
 use Rattle.formula_metrics.specs.Methods.{value_or_none}
 use Rattle.formula_metrics.specs.Parts.{part_of}
-use Rattle.formula_eval.specs.declared.outcome.Other.{Other}
+use Rattle.formula_eval.specs.declared.outcome.Variable.{Variable}
 use Rattle.formula_eval.specs.declared.outcome.Outcome.{Outcome}
 use Rattle.formula_eval.specs.Names.{metric_or, interval_or, word_or, setting_or, variable_or, setting_value, name_value}
 use Rattle.bt_base.specs.DeallocOptions.{option_named}
@@ -32,11 +32,13 @@ agree_first name = refl
 
 module _ (name : List ℕ) (known : Value) where
   -- the values of all names once one is set
-  value_set : (others : List Other) (any : List ℕ) → value_among (with_value others name known) any ≡ cond (bytes_eq name any) (Some known) (value_among others any)
+  value_set : (variables : List Variable) (any : List ℕ) →
+      value_among (with_value variables name known) any ≡ cond (bytes_eq name any) (Some known) (value_among variables any)
   value_set [] any = refl
-  value_set (other ∷ others) any = either (bytes_eq other.name name) refl (value_set others any)
+  value_set (variable ∷ variables) any = either (bytes_eq variable.name name) refl (value_set variables any)
     where
-      later : (o n : Bool) (v : Value) (rest next : Option Value) → next ≡ cond n (Some known) rest → (o ≡ true → n ≡ true → ⊥) → cond o (Some v) next ≡ cond n (Some known) (cond o (Some v) rest)
+      later : (o n : Bool) (v : Value) (rest next : Option Value) → next ≡ cond n (Some known) rest → (o ≡ true → n ≡ true → ⊥) →
+          cond o (Some v) next ≡ cond n (Some known) (cond o (Some v) rest)
       later true true v rest next e none = absurd (none refl refl)
       later true false v rest next e none = refl
       later false n v rest next e none = e
@@ -47,25 +49,31 @@ module _ (name : List ℕ) (known : Value) where
       here true false v rest e = cc
       here false true v rest e = cc
 
-      either : (b : Bool) → bytes_eq other.name name ≡ b → value_among (with_value others name known) any ≡ cond (bytes_eq name any) (Some known) (value_among others any) → value_among (cond b (record { name = name; value = known } ∷ others) (other ∷ with_value others name known)) any ≡ cond (bytes_eq name any) (Some known) (cond (bytes_eq other.name any) (Some other.value) (value_among others any))
-      either true e rest = here (bytes_eq other.name any) (bytes_eq name any) other.value (value_among others any) (ap (λ bytes. bytes_eq bytes any) ((bytes_decides other.name name).0 e))
-      either false e rest = later (bytes_eq other.name any) (bytes_eq name any) other.value (value_among others any) _ rest
-          (λ one two. let same : other.name ≡ name = (bytes_decides other.name any).0 one ∙ sym ((bytes_decides name any).0 two) in
-          let told : bytes_eq other.name name ≡ true = (bytes_decides other.name name).1 same in cc)
+      either : (b : Bool) → bytes_eq variable.name name ≡ b →
+          value_among (with_value variables name known) any ≡ cond (bytes_eq name any) (Some known) (value_among variables any) →
+          value_among (cond b (record { name = name; value = known } ∷ variables) (variable ∷ with_value variables name known)) any
+          ≡ cond (bytes_eq name any) (Some known) (cond (bytes_eq variable.name any) (Some variable.value) (value_among variables any))
+      either true e rest = here (bytes_eq variable.name any) (bytes_eq name any) variable.value (value_among variables any)
+          (ap (λ bytes. bytes_eq bytes any) ((bytes_decides variable.name name).0 e))
+      either false e rest = later (bytes_eq variable.name any) (bytes_eq name any) variable.value (value_among variables any) _ rest
+          (λ one two. let same : variable.name ≡ name = (bytes_decides variable.name any).0 one ∙ sym ((bytes_decides name any).0 two) in
+          let told : bytes_eq variable.name name ≡ true = (bytes_decides variable.name name).1 same in cc)
 
   -- a name that has a value for the first time, or one of another type
-  pub agree_set : (set : Variables) (others : List Other) (value : ValueType) → Agree set others → type_of_value known ≡ value → Agree (with_variable set name value) (with_value others name known)
-  agree_set set others value h e any = ap (option_map type_of_value) (value_set others any) ∙ either (bytes_eq name any)
+  pub agree_set : (set : Variables) (variables : List Variable) (value : ValueType) → Agree set variables → type_of_value known ≡ value →
+      Agree (with_variable set name value) (with_value variables name known)
+  agree_set set variables value h e any = ap (option_map type_of_value) (value_set variables any) ∙ either (bytes_eq name any)
     where
-      either : (b : Bool) → option_map type_of_value (cond b (Some known) (value_among others any)) ≡ cond b (Some value) (set any)
+      either : (b : Bool) → option_map type_of_value (cond b (Some known) (value_among variables any)) ≡ cond b (Some value) (set any)
       either true = ap Some e
       either false = h any
 
   -- a name that has a value of the type that it had
-  pub agree_kept : (set : Variables) (others : List Other) → Agree set others → set name ≡ Some (type_of_value known) → Agree set (with_value others name known)
-  agree_kept set others h e any = ap (option_map type_of_value) (value_set others any) ∙ either (bytes_eq name any) refl
+  pub agree_kept : (set : Variables) (variables : List Variable) → Agree set variables → set name ≡ Some (type_of_value known) →
+      Agree set (with_value variables name known)
+  agree_kept set variables h e any = ap (option_map type_of_value) (value_set variables any) ∙ either (bytes_eq name any) refl
     where
-      either : (b : Bool) → bytes_eq name any ≡ b → option_map type_of_value (cond b (Some known) (value_among others any)) ≡ set any
+      either : (b : Bool) → bytes_eq name any ≡ b → option_map type_of_value (cond b (Some known) (value_among variables any)) ≡ set any
       either true is = sym e ∙ ap set ((bytes_decides name any).0 is)
       either false is = h any
 
@@ -74,7 +82,7 @@ words_named : (name : List ℕ) → is_option_word name ≡ is_some (option_name
 unfolding is_option_word
 words_named name = refl
 
--- the type of an answer, where there is a value
+-- the type of a result, if there is a value
 type_given : ValueType → Result Value ValueFault → ValueType
 type_given other (Ok known) = type_of_value known
 type_given other (Err why) = other
@@ -85,7 +93,7 @@ unfolding type_given
 metric_value None v e = ap (type_given types.Double) e
 metric_value (Some n) v e = ap (type_given types.Double) e
 
--- a timeinterval of so many units
+-- a timeinterval, in units of 100 ns
 interval_given : (n : ℤ) (v : Value) → interval_value n ≡ Ok v → types.TimeInterval ≡ type_of_value v
 unfolding type_given
 interval_given n v e = either (is_interval n) e
@@ -102,9 +110,12 @@ module _ (metrics : Metrics) (o : Outcome) (v : Value) (type : ValueType) where
   setting_kept Deallocation t e = let same : types.Text ≡ type = cc in sym same ∙ ap (type_given types.Text) e
 
   -- a name's value by what the name is, and the type by the same
-  by_parts : (m : Option Metric) (i : Option ℕ) (w : Option Dealloc) (s : Option Setting) (own : Option ValueType) (value : Option Value) → option_map type_of_value value ≡ own →
+  by_parts : (m : Option Metric) (i : Option ℕ) (w : Option Dealloc) (s : Option Setting) (own : Option ValueType) (value : Option Value) →
+      option_map type_of_value value ≡ own →
       metric_or metrics m (interval_or i (word_or w (setting_or o s (variable_or value no_value)))) ≡ Ok v →
-      or_else (cond (is_some m) (Some types.Double) (cond (is_some i) (Some types.TimeInterval) (cond (is_some w) (Some types.Text) (option_map setting_type s)))) own ≡ Some type → type ≡ type_of_value v
+      or_else (cond (is_some m) (Some types.Double)
+      (cond (is_some i) (Some types.TimeInterval) (cond (is_some w) (Some types.Text) (option_map setting_type s)))) own ≡ Some type →
+      type ≡ type_of_value v
   unfolding type_given
   by_parts (Some m) i w s own value h e t = let same : types.Double ≡ type = cc in sym same ∙ metric_value (part_of metrics m).current v e
   by_parts None (Some n) w s own value h e t = let same : types.TimeInterval ≡ type = cc in sym same ∙ interval_given (pos n) v e
@@ -114,8 +125,11 @@ module _ (metrics : Metrics) (o : Outcome) (v : Value) (type : ValueType) where
   by_parts None None None None own None h e t = cc
 
   -- the value of a name has the name's type
-  pub name_kept : (set : Variables) (name : List ℕ) → Agree set o.others → name_value metrics o name ≡ Ok v → name_type set name ≡ Some type → type ≡ type_of_value v
+  pub name_kept : (set : Variables) (name : List ℕ) → Agree set o.variables → name_value metrics o name ≡ Ok v → name_type set name ≡ Some type →
+      type ≡ type_of_value v
   unfolding fixed_type
   name_kept set name h e t =
-      by_parts (metric_named name) (interval_named name) (option_named name) (setting_named name) (set name) (value_among o.others name) (h name) e
-      (ap (λ b. or_else (cond (is_some (metric_named name)) (Some types.Double) (cond (is_some (interval_named name)) (Some types.TimeInterval) (cond b (Some types.Text) (option_map setting_type (setting_named name))))) (set name)) (sym (words_named name)) ∙ t)
+      by_parts (metric_named name) (interval_named name) (option_named name) (setting_named name) (set name) (value_among o.variables name) (h name) e
+      (ap (λ b. or_else (cond (is_some (metric_named name)) (Some types.Double)
+      (cond (is_some (interval_named name)) (Some types.TimeInterval) (cond b (Some types.Text) (option_map setting_type (setting_named name)))))
+      (set name)) (sym (words_named name)) ∙ t)

@@ -2,8 +2,10 @@ pub mod Agreement
 pub mod Calls
 pub mod Expressions
 pub mod Formulas
+pub mod Lexemes
 pub mod Methods
 pub mod NameTexts
 pub mod Operands
 pub mod Operations
+pub mod Quotes
 pub mod Reachings

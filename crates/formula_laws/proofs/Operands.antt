@@ -26,7 +26,7 @@ use Rattle.formula_laws.specs.Operands.{GoTogether, AllGoTogether, EachGoTogethe
 use Rattle.formula_types.proofs.Found.{both, passed, matched, named, called, member_found, method_found}
 use Rattle.formula_laws.proofs.Expressions.{same_type, metric_found, found_value, right_valued, kept, all_kept}
 
--- where there is a type of a value, there is the value
+-- if there is a type of a value, there is the value
 valued_there : (o : Option Value) (v : ValueType) → option_map type_of_value o ≡ Some v → IsSome o
 valued_there None v e = cc
 valued_there (Some known) v e = refl
@@ -40,8 +40,9 @@ own_typed (Some other) own v e is = cc
 unary_takes : (o : UnaryOperator) (a : ValueType) (operand type : ExprType) → operand ≡ V a → unary_type o operand ≡ Some type → IsSome (names.unary_value o a)
 unary_takes o a operand type is h = ap is_some (found_value (names.unary_value o a) type (ap (unary_type o) (sym is) ∙ h)).1
 
--- the types that an operator takes behind a left operand of this type
-binary_takes : (o : BinaryOperator) (a : ValueType) (left right type : ExprType) → left ≡ V a → binary_type o left right ≡ Some type → (b : ValueType) × (right ≡ V b) × IsSome (names.binary_value o a b)
+-- the types that an operator takes after a left operand of this type
+binary_takes : (o : BinaryOperator) (a : ValueType) (left right type : ExprType) → left ≡ V a → binary_type o left right ≡ Some type →
+    (b : ValueType) × (right ≡ V b) × IsSome (names.binary_value o a b)
 binary_takes o a left right type first h =
     let t = right_valued o a right type (ap (λ t. binary_type o t right) (sym first) ∙ h) in
     (t.0, t.2, ap is_some t.3)
@@ -57,14 +58,15 @@ double_condition types.TimeInterval a b type e = cc
 ternary_takes : (v : ValueType) (condition a b type : ExprType) → condition ≡ V v → ternary_type condition a b ≡ Some type → v ≡ types.Double
 ternary_takes v condition a b type is h = double_condition v a b type (ap (λ t. ternary_type t a b) (sym is) ∙ h)
 
-module _ (text : List ℕ) (metrics : Metrics) (now : ℕ) (set : Outcome) (variables : Variables) (agree : Agree variables set.others) where
+module _ (text : List ℕ) (metrics : Metrics) (now : ℕ) (set : Outcome) (variables : Variables) (agree : Agree variables set.variables) where
   -- one step of each kind of expression: its operands have the types that were found for them
   operands_kept : (t : Tree) (found : ExprType) → type_of text variables t ≡ Ok found → GoTogether text metrics now set t
   operands_kept (Numeral n p) found h = tt
   operands_kept (Quoted p) found h = tt
   operands_kept (Variable p) found h = λ is.
       let t = named p (name_type variables (part text p)) found h in
-      valued_there (value_among set.others (part text p)) t.0 (agree (part text p) ∙ own_typed (fixed_type (part text p)) (variables (part text p)) t.0 t.1 is)
+      valued_there (value_among set.variables (part text p)) t.0
+      (agree (part text p) ∙ own_typed (fixed_type (part text p)) (variables (part text p)) t.0 t.1 is)
   operands_kept (Call p args) found h = λ known e.
       let t = both (types_of text variables args) (typing.call_at p (function_named (part text p))) found h in
       let f = called p (function_named (part text p)) t.0 found t.2 in
@@ -78,7 +80,8 @@ module _ (text : List ℕ) (metrics : Metrics) (now : ℕ) (set : Outcome) (vari
       let m = member_found p (member_named (part text p)) t.0 found t.2 in
       (m.0, m.1, same_type (type_of_value a) types.Timestamp (sym (kept text metrics now set variables agree u a t.0 e t.1) ∙ m.2))
   operands_kept (Method u p args) found h = λ known e.
-      let operand = both (type_of text variables u) (λ operand. types_of text variables args >>= typing.method_at p (method_named (part text p)) (is_metric text u)) found h in
+      let operand = both (type_of text variables u)
+      (λ operand. types_of text variables args >>= typing.method_at p (method_named (part text p)) (is_metric text u)) found h in
       let t = both (types_of text variables args) (typing.method_at p (method_named (part text p)) (is_metric text u)) found operand.2 in
       let m = method_found p (method_named (part text p)) (is_metric text u) t.0 found t.2 in
       let metric = metric_found text u m.2 in
@@ -89,16 +92,20 @@ module _ (text : List ℕ) (metrics : Metrics) (now : ℕ) (set : Outcome) (vari
   operands_kept (Binary o p l r) found h = λ a left.
       let t = both (type_of text variables l) (λ first. type_of text variables r >>= (λ second. or_mismatch p (binary_type o first second))) found h in
       let u = both (type_of text variables r) (λ second. or_mismatch p (binary_type o t.0 second)) found t.2 in
-      let b = binary_takes o (type_of_value a) t.0 u.0 found (kept text metrics now set variables agree l a t.0 left t.1) (matched p (binary_type o t.0 u.0) found u.2) in
+      let b = binary_takes o (type_of_value a) t.0 u.0 found (kept text metrics now set variables agree l a t.0 left t.1)
+      (matched p (binary_type o t.0 u.0) found u.2) in
       (b.0, b.2, λ known right. same_type (type_of_value known) b.0 (sym (kept text metrics now set variables agree r known u.0 right u.1) ∙ b.1))
   operands_kept (Ternary p c y n) found h = λ a e.
-      let t = both (type_of text variables c) (λ condition. type_of text variables y >>= (λ first. type_of text variables n >>= (λ second. or_mismatch p (ternary_type condition first second)))) found h in
+      let t = both (type_of text variables c)
+      (λ condition. type_of text variables y >>= (λ first. type_of text variables n >>= (λ second. or_mismatch p (ternary_type condition first second))))
+      found h in
       let u = both (type_of text variables y) (λ first. type_of text variables n >>= (λ second. or_mismatch p (ternary_type t.0 first second))) found t.2 in
       let w = both (type_of text variables n) (λ second. or_mismatch p (ternary_type t.0 u.0 second)) found u.2 in
-      ternary_takes (type_of_value a) t.0 u.0 w.0 found (kept text metrics now set variables agree c a t.0 e t.1) (matched p (ternary_type t.0 u.0 w.0) found w.2)
+      ternary_takes (type_of_value a) t.0 u.0 w.0 found (kept text metrics now set variables agree c a t.0 e t.1)
+      (matched p (ternary_type t.0 u.0 w.0) found w.2)
 
   mutual
-    -- the same of all parts, which have types where the whole has one
+    -- the same of all parts, which have types if the whole has one
     pub all_operands_kept : (t : Tree) (found : ExprType) → type_of text variables t ≡ Ok found → AllGoTogether text metrics now set t
     all_operands_kept (Numeral n p) found h = tt
     all_operands_kept (Quoted p) found h = tt
@@ -113,7 +120,8 @@ module _ (text : List ℕ) (metrics : Metrics) (now : ℕ) (set : Outcome) (vari
         let t = both (type_of text variables u) (typing.member_at p (member_named (part text p))) found h in
         (operands_kept (Member u p) found h, all_operands_kept u t.0 t.1)
     all_operands_kept (Method u p args) found h =
-        let operand = both (type_of text variables u) (λ operand. types_of text variables args >>= typing.method_at p (method_named (part text p)) (is_metric text u)) found h in
+        let operand = both (type_of text variables u)
+        (λ operand. types_of text variables args >>= typing.method_at p (method_named (part text p)) (is_metric text u)) found h in
         let t = both (types_of text variables args) (typing.method_at p (method_named (part text p)) (is_metric text u)) found operand.2 in
         (operands_kept (Method u p args) found h, each_kept args t.0 t.1)
     all_operands_kept (Unary o p u) found h =
@@ -124,7 +132,9 @@ module _ (text : List ℕ) (metrics : Metrics) (now : ℕ) (set : Outcome) (vari
         let u = both (type_of text variables r) (λ second. or_mismatch p (binary_type o t.0 second)) found t.2 in
         (operands_kept (Binary o p l r) found h, all_operands_kept l t.0 t.1, all_operands_kept r u.0 u.1)
     all_operands_kept (Ternary p c y n) found h =
-        let t = both (type_of text variables c) (λ condition. type_of text variables y >>= (λ first. type_of text variables n >>= (λ second. or_mismatch p (ternary_type condition first second)))) found h in
+        let t = both (type_of text variables c)
+        (λ condition. type_of text variables y >>= (λ first. type_of text variables n >>= (λ second. or_mismatch p (ternary_type condition first second))))
+        found h in
         let u = both (type_of text variables y) (λ first. type_of text variables n >>= (λ second. or_mismatch p (ternary_type t.0 first second))) found t.2 in
         let w = both (type_of text variables n) (λ second. or_mismatch p (ternary_type t.0 u.0 second)) found u.2 in
         (operands_kept (Ternary p c y n) found h, all_operands_kept c t.0 t.1, all_operands_kept y u.0 u.1, all_operands_kept n w.0 w.1)

@@ -1,11 +1,12 @@
--- Operators keep types: what they give has the type that was found for their operands.
+-- Operators keep types: their results have the types that were found for their operands.
 use Rattle.std.proofs.Common.{◌≡◌, ℤ, Bool, true, false, cond, List, length, Option, Some, None, Result, Ok, Err, refl, ap, ◌∙◌, subst}
 use Rattle.std.specs.Prelude.{◌==◌, pos, ◌+ℤ◌, ◌-ℤ◌, ◌*ℤ◌}
 use Rattle.std.specs.Ordering.{int_eq}
 use Rattle.bt_base.specs.declared.number.NumFault.{NumFault}
 use Rattle.bt_base.specs.Numbers.{cut, sum_of, difference_of, product_of, quotient_of}
 use Rattle.formula_lex.specs.declared.token.BinaryOperator.{BinaryOperator}
-use Rattle.formula_lex.specs.declared.token.BinaryOperator.TheVariants.{Or, And, Equal, NotEqual, Less, AtMost, Greater, AtLeast, Add, Subtract, Multiply, Divide}
+use Rattle.formula_lex.specs.declared.token.BinaryOperator.TheVariants.{Or, And, Equal, NotEqual, Less, AtMost, Greater, AtLeast, Add, Subtract, Multiply}
+use Rattle.formula_lex.specs.declared.token.BinaryOperator.TheVariants.{Divide}
 use Rattle.formula_trees.specs.declared.tree.UnaryOperator.{UnaryOperator}
 use Rattle.formula_trees.specs.declared.tree.UnaryOperator.TheVariants.{Negate, Invert}
 use Rattle.formula_names.specs.declared.value_types.ValueType.{ValueType}
@@ -18,7 +19,8 @@ use Rattle.formula_values.specs.declared.value.Value.TheVariants.{Double, Double
 use Rattle.formula_values.specs.Times.{is_timestamp, is_interval}
 use Rattle.formula_values.specs.Values.{truth, is_true, double_of, interval_value, timestamp_value}
 use Rattle.formula_values.specs.Operators as values
-use Rattle.formula_values.specs.Operators.{each, each_two, vector_of, both_vectors, numeric, sum_value, difference_value, product_value, interval_over, quotient_value, negated, inverted}
+use Rattle.formula_values.specs.Operators.{each, each_two, vector_of, both_vectors, numeric, sum_value, difference_value, product_value, interval_over}
+use Rattle.formula_values.specs.Operators.{quotient_value, negated, inverted}
 use Rattle.formula_eval.specs.Evaluation.{decided}
 use Rattle.formula_laws.specs.ValueTypes.{type_of_value}
 
@@ -27,7 +29,7 @@ abbrev pub IsOf : ValueType → Result Value ValueFault → Type 0
 IsOf c (Ok v) = c ≡ type_of_value v
 IsOf c (Err why) = Unit {0}
 
--- the same, where there is a type
+-- the same, if there is a type
 abbrev pub Fits : Option ValueType → Result Value ValueFault → Type 0
 Fits None r = Unit {0}
 Fits (Some c) r = IsOf c r
@@ -38,7 +40,7 @@ has_type c r v h e = subst (IsOf c) e h
 pub fitting : (o : Option ValueType) (r : Result Value ValueFault) (v : Value) (c : ValueType) → Fits o r → r ≡ Ok v → o ≡ Some c → c ≡ type_of_value v
 fitting o r v c h e is = subst (IsOf c) e (subst (λ q. Fits q r) is h)
 
--- what each of two branches gives
+-- the results of two branches
 pub either_is : (c : ValueType) (b : Bool) (r s : Result Value ValueFault) → IsOf c r → IsOf c s → IsOf c (cond b r s)
 either_is c true r s h g = h
 either_is c false r s h g = g
@@ -96,7 +98,7 @@ quotient_fits : (a b : Value) → Fits (quotient_type (type_of_value a) (type_of
 quotient_fits (TimeInterval a) (Double b) = over_is a b
 quotient_fits a b = numeric_fits quotient_of a b
 
--- comparisons and logic give 1 or 0
+-- comparisons and logic are 1 or 0
 comparison_fits : (a b : ValueType) (holds : Bool) → Fits (comparison_type a b) (Ok (truth holds))
 comparison_fits types.Double types.Double holds = truth_is holds
 comparison_fits types.Text types.Text holds = truth_is holds
@@ -129,12 +131,14 @@ unary_fits Negate (TimeInterval a) = interval_is (pos 0 -ℤ a)
 unary_fits Invert (Double a) = truth_is _
 unary_fits _ _ = tt
 
--- what a unary operator gives has the type that was found
-pub unary_kept : (o : UnaryOperator) (a v : Value) (c : ValueType) → values.unary_value o a ≡ Ok v → names.unary_value o (type_of_value a) ≡ Some c → c ≡ type_of_value v
+-- the result of a unary operator has the type that was found
+pub unary_kept : (o : UnaryOperator) (a v : Value) (c : ValueType) → values.unary_value o a ≡ Ok v → names.unary_value o (type_of_value a) ≡ Some c →
+    c ≡ type_of_value v
 unary_kept o a v c e is = fitting (names.unary_value o (type_of_value a)) (values.unary_value o a) v c (unary_fits o a) e is
 
--- what a binary operator gives has the type that was found
-pub binary_kept : (o : BinaryOperator) (a b v : Value) (c : ValueType) → values.binary_value o a b ≡ Ok v → names.binary_value o (type_of_value a) (type_of_value b) ≡ Some c → c ≡ type_of_value v
+-- the result of a binary operator has the type that was found
+pub binary_kept : (o : BinaryOperator) (a b v : Value) (c : ValueType) → values.binary_value o a b ≡ Ok v →
+    names.binary_value o (type_of_value a) (type_of_value b) ≡ Some c → c ≡ type_of_value v
 binary_kept o a b v c e is = fitting (names.binary_value o (type_of_value a) (type_of_value b)) (values.binary_value o a b) v c (binary_fits o a b) e is
 
 -- what is decided is 1 or 0
@@ -154,7 +158,8 @@ logic_double types.Double types.Double c e = cc
 logic_double _ _ c e = cc
 
 -- what the left side decides alone has the type that was found for both sides
-pub decided_kept : (o : BinaryOperator) (a v : Value) (b c : ValueType) → decided o a ≡ Some v → names.binary_value o (type_of_value a) b ≡ Some c → c ≡ type_of_value v
+pub decided_kept : (o : BinaryOperator) (a v : Value) (b c : ValueType) → decided o a ≡ Some v → names.binary_value o (type_of_value a) b ≡ Some c →
+    c ≡ type_of_value v
 decided_kept And a v b c e is = logic_double (type_of_value a) b c is ∙ decided_false (is_true a) v e
 decided_kept Or a v b c e is = logic_double (type_of_value a) b c is ∙ decided_true (is_true a) v e
 decided_kept _ a v b c e is = cc

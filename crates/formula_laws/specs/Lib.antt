@@ -1,3 +1,4 @@
 pub mod Operands
 pub mod Reaching
+pub mod Strings
 pub mod ValueTypes

@@ -30,7 +30,7 @@ types_of_values values = map (λ known. exprs.Value (type_of_value known)) value
 abbrev pub GoTogether : List ℕ → Metrics → ℕ → Outcome → Tree → Type 0
 GoTogether text metrics now set (Numeral n p) = Unit {0}
 GoTogether text metrics now set (Quoted p) = Unit {0}
-GoTogether text metrics now set (Variable p) = fixed_type (part text p) ≡ None → IsSome (value_among set.others (part text p))
+GoTogether text metrics now set (Variable p) = fixed_type (part text p) ≡ None → IsSome (value_among set.variables (part text p))
 GoTogether text metrics now set (Call p args) =
     (values : List Value) → values_of text metrics now set args ≡ Ok values →
     (f : Function) × (function_named (part text p) ≡ Some f) × (function_takes f (types_of_values values) ≡ true)
@@ -40,13 +40,15 @@ GoTogether text metrics now set (Member t p) =
     (a : Value) → value_of text metrics now set t ≡ Ok a → (m : AMember) × (member_named (part text p) ≡ Some m) × (type_of_value a ≡ types.Timestamp)
 GoTogether text metrics now set (Method t p args) =
     (values : List Value) → values_of text metrics now set args ≡ Ok values →
-    (metric : Metric) × (metric_of text t ≡ Some metric) × (m : AMethod) × (method_named (part text p) ≡ Some m) × (method_takes m (types_of_values values) ≡ true)
+    (metric : Metric) × (metric_of text t ≡ Some metric) × (m : AMethod) × (method_named (part text p) ≡ Some m)
+    × (method_takes m (types_of_values values) ≡ true)
 GoTogether text metrics now set (Unary o p t) =
     (a : Value) → value_of text metrics now set t ≡ Ok a → IsSome (names.unary_value o (type_of_value a))
 -- what the left side decides alone is decided by an operand that goes together with some other
 GoTogether text metrics now set (Binary o p l r) =
     (a : Value) → value_of text metrics now set l ≡ Ok a →
-    (b : ValueType) × IsSome (names.binary_value o (type_of_value a) b) × ((known : Value) → value_of text metrics now set r ≡ Ok known → type_of_value known ≡ b)
+    (b : ValueType) × IsSome (names.binary_value o (type_of_value a) b)
+    × ((known : Value) → value_of text metrics now set r ≡ Ok known → type_of_value known ≡ b)
 GoTogether text metrics now set (Ternary p c y n) =
     (a : Value) → value_of text metrics now set c ≡ Ok a → type_of_value a ≡ types.Double
 
@@ -64,7 +66,8 @@ abbrev mutual
   AllGoTogether text metrics now set (Binary o p l r) =
       GoTogether text metrics now set (Binary o p l r) × AllGoTogether text metrics now set l × AllGoTogether text metrics now set r
   AllGoTogether text metrics now set (Ternary p c y n) =
-      GoTogether text metrics now set (Ternary p c y n) × AllGoTogether text metrics now set c × AllGoTogether text metrics now set y × AllGoTogether text metrics now set n
+      GoTogether text metrics now set (Ternary p c y n) × AllGoTogether text metrics now set c × AllGoTogether text metrics now set y
+      × AllGoTogether text metrics now set n
 
   pub EachGoTogether : List ℕ → Metrics → ℕ → Outcome → Trees → Type 0
   EachGoTogether text metrics now set none = Unit {0}

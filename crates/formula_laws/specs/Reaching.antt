@@ -9,4 +9,6 @@ use Rattle.formula_eval.specs.Statements.{expression_of, settled}
 
 pub data Reaches : List ℕ → Metrics → ℕ → Outcome → List StatementTree → Outcome → Type 0 where
   there : {text : List ℕ} {metrics : Metrics} {now : ℕ} {set : Outcome} → Reaches text metrics now set [] set
-  on : {text : List ℕ} {metrics : Metrics} {now : ℕ} {set next end : Outcome} {s : StatementTree} {ss : List StatementTree} (known : Value) → value_of text metrics now set (expression_of s) ≡ Ok known → settled text set s known ≡ Ok next → Reaches text metrics now next ss end → Reaches text metrics now set (s ∷ ss) end
+  on : {text : List ℕ} {metrics : Metrics} {now : ℕ} {set next end : Outcome} {s : StatementTree} {ss : List StatementTree} (known : Value) →
+      value_of text metrics now set (expression_of s) ≡ Ok known → settled text set s known ≡ Ok next → Reaches text metrics now next ss end →
+      Reaches text metrics now set (s ∷ ss) end

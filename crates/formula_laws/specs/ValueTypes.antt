@@ -5,7 +5,7 @@ use Rattle.formula_names.specs.declared.value_types.ValueType.TheVariants as typ
 use Rattle.formula_types.specs.Scopes.{Variables}
 use Rattle.formula_values.specs.declared.value.Value.{Value}
 use Rattle.formula_values.specs.declared.value.Value.TheVariants.{Double, DoubleVec, Text, Timestamp, TimeInterval}
-use Rattle.formula_eval.specs.declared.outcome.Other.{Other}
+use Rattle.formula_eval.specs.declared.outcome.Variable.{Variable}
 use Rattle.formula_eval.specs.Outcomes.{value_among}
 
 -- the type of a value
@@ -17,5 +17,5 @@ type_of_value (Timestamp t) = types.Timestamp
 type_of_value (TimeInterval t) = types.TimeInterval
 
 -- the variables that have types are those that have values, and each value has its variable's type
-abbrev pub Agree : Variables → List Other → Type 0
-Agree set others = (name : List ℕ) → option_map type_of_value (value_among others name) ≡ set name
+abbrev pub Agree : Variables → List Variable → Type 0
+Agree set variables = (name : List ℕ) → option_map type_of_value (value_among variables name) ≡ set name

@@ -21,23 +21,23 @@ ghost use Rattle.formula_laws.specs.ValueTypes.{type_of_value, Agree};
 ghost use Rattle.formula_laws.specs.Operands.{AllGoTogether};
 ghost use Rattle.formula_laws.specs.Reaching.{Reaches};
 
-/// Where variables have values of their types, each expression with a type and a value has a value of that type, and in it and
-/// all its parts only operands and arguments meet that go together; each setting gets values of its type; and variables have values
-/// of their types before each statement of a formula that its evaluation reaches.
+/// If variables have values of their types, each expression with a type and a value has a value of that type, and in it and all its
+/// parts only operands and arguments meet that go together; each setting gets values of its type; and variables have values of their
+/// types before each statement of a formula that its evaluation reaches.
 pub fn values_have_types()
     ensures expressions { (text : List ℕ) (metrics : AllMetrics) (now : ℕ) (set : AnOutcome) (variables : Variables) (tree : Tree) (known : AValue) (found : AType) →
-        Agree variables set.others → value_of text metrics now set tree ≡ Ok known → type_of text variables tree ≡ Ok found → found ≡ Value (type_of_value known) }
+        Agree variables set.variables → value_of text metrics now set tree ≡ Ok known → type_of text variables tree ≡ Ok found → found ≡ Value (type_of_value known) }
     ensures operands { (text : List ℕ) (metrics : AllMetrics) (now : ℕ) (set : AnOutcome) (variables : Variables) (tree : Tree) (found : AType) →
-        Agree variables set.others → type_of text variables tree ≡ Ok found → AllGoTogether text metrics now set tree }
+        Agree variables set.variables → type_of text variables tree ≡ Ok found → AllGoTogether text metrics now set tree }
     ensures settings { (text : List ℕ) (metrics : AllMetrics) (now : ℕ) (set : AnOutcome) (variables after : Variables) (span : ASpan) (tree : Tree) (known : AValue) (setting : ASetting) →
-        Agree variables set.others → value_of text metrics now set tree ≡ Ok known → statement_typed text variables (Sets span tree) ≡ Ok after →
+        Agree variables set.variables → value_of text metrics now set tree ≡ Ok known → statement_typed text variables (Sets span tree) ≡ Ok after →
         setting_named (part text span) ≡ Some setting → setting_type setting ≡ type_of_value known }
     ensures statements { (text : List ℕ) (metrics : AllMetrics) (now : ℕ) (start : SomeTargets) (set : AnOutcome) (variables : Variables) (front rest : List StatementTree) →
-        IsFormula text (front ++ rest) → Reaches text metrics now (at_start start) front set → typed text nothing front ≡ Ok variables → Agree variables set.others }
+        IsFormula text (front ++ rest) → Reaches text metrics now (at_start start) front set → typed text nothing front ≡ Ok variables → Agree variables set.variables }
 {}
 
-/// What statements set is what those behind the reached ones set from what is set there; and either all statements are reached, or
-/// the evaluation ends among them, whatever comes behind.
+/// What statements set is what those after the reached ones set from what is set there; and either all statements are reached, or
+/// the evaluation ends among them, whatever follows.
 pub fn statements_are_reached()
     ensures goes_on { (text : List ℕ) (metrics : AllMetrics) (now : ℕ) (set end : AnOutcome) (front rest : List StatementTree) →
         Reaches text metrics now set front end → statements_done text metrics now set (front ++ rest) ≡ statements_done text metrics now end rest }

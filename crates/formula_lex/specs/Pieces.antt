@@ -1,5 +1,6 @@
--- What stands at a place of a formula's text: blanks, comments, tokens, or a fault. Bytes are numbers.
-use Rattle.std.specs.Prelude.{ℕ, ◌+◌, ◌==◌, Bool, true, false, not, ◌&&◌, ◌||◌, ℤ, pos, List, [], ◌∷◌, ◌++◌, length, take, drop, Option, Some, None, if◌then◌else◌}
+-- What a formula's text has at a place: blanks, comments, tokens, or a fault. Bytes are numbers.
+use Rattle.std.specs.Prelude.{ℕ, ◌+◌, ◌==◌, Bool, true, false, not, ◌&&◌, ◌||◌, ℤ, pos, List, [], ◌∷◌, ◌++◌, length, take, drop, Option, Some, None}
+use Rattle.std.specs.Prelude.{if◌then◌else◌}
 use Rattle.std.specs.List.{position}
 use Rattle.std.specs.Char.{is_ascii_digit, is_ascii_alphabetic, is_ascii_alphanumeric}
 use Rattle.bt_base.specs.Ids.{decimal_from}
@@ -8,11 +9,13 @@ use Rattle.formula_lex.specs.declared.fault.LexFault.{LexFault}
 use Rattle.formula_lex.specs.declared.fault.LexFault.TheVariants.{BadCharacter, OpenString, NumberTooLarge}
 use Rattle.formula_lex.specs.declared.piece.Piece.{Piece}
 use Rattle.formula_lex.specs.declared.piece.Piece.TheVariants.{Gap, Lexeme, Wrong}
-use Rattle.formula_lex.specs.declared.token.BinaryOperator.TheVariants.{Or, And, Equal, NotEqual, Less, AtMost, Greater, AtLeast, Add, Subtract, Multiply, Divide}
+use Rattle.formula_lex.specs.declared.token.BinaryOperator.TheVariants.{Or, And, Equal, NotEqual, Less, AtMost, Greater, AtLeast, Add, Subtract, Multiply}
+use Rattle.formula_lex.specs.declared.token.BinaryOperator.TheVariants.{Divide}
 use Rattle.formula_lex.specs.declared.token.Kind.{Kind}
-use Rattle.formula_lex.specs.declared.token.Kind.TheVariants.{Number, Text, Name, Infix, Bang, Question, Colon, Comma, Semicolon, Assign, Dot, OpenGroup, CloseGroup, OpenList, CloseList}
+use Rattle.formula_lex.specs.declared.token.Kind.TheVariants.{Number, Text, Name, Infix, Bang, Question, Colon, Comma, Semicolon, Assign, Dot, OpenGroup}
+use Rattle.formula_lex.specs.declared.token.Kind.TheVariants.{CloseGroup, OpenList, CloseList}
 
--- how many bytes a piece has beyond its first
+-- the number of bytes of a piece after its first
 abbrev pub more_of : Piece → ℕ
 more_of (Gap more) = more
 more_of (Lexeme kind more) = more
@@ -34,25 +37,25 @@ is_line_end b = b == 10
 abbrev pub is_string_end : ℕ → Bool
 is_string_end b = b == 34 || b == 10
 
--- the first byte, or 0 where there is none
+-- the first byte, or 0 if there is none
 abbrev pub next_byte : List ℕ → ℕ
 next_byte [] = 0
 next_byte (b ∷ rest) = b
 
--- a place, or a length where there is none
+-- a place, or a length if there is none
 abbrev pub or_all : ℕ → Option ℕ → ℕ
 or_all all None = all
 or_all all (Some place) = place
 
--- how many bytes stand before the first that passes a test, or before the end
+-- the number of bytes before the first that passes a test, or before the end
 abbrev pub up_to : (ℕ → Bool) → List ℕ → ℕ
 up_to test text = or_all (length text) (position test text)
 
--- how many digits a text begins with
+-- the number of digits that a text begins with
 abbrev pub digits_in : List ℕ → ℕ
 digits_in text = up_to (λ b. not (is_ascii_digit b)) text
 
--- the digits behind a point, where the text begins with one
+-- the digits after a point; none if the text does not begin with one
 abbrev pub decimals_of : List ℕ → List ℕ
 decimals_of rest = if next_byte rest == 46 then take (digits_in (drop 1 rest)) (drop 1 rest) else []
 
@@ -60,7 +63,7 @@ decimals_of rest = if next_byte rest == 46 then take (digits_in (drop 1 rest)) (
 abbrev pub zeros : List ℕ
 zeros = 48 ∷ 48 ∷ 48 ∷ 48 ∷ 48 ∷ 48 ∷ []
 
--- the number with these digits before its point and these behind it, of which those past the sixth are cut
+-- the number with these digits before its point and these after it, of which those past the sixth are cut; none if it is over 10^12
 abbrev pub literal_of : List ℕ → List ℕ → Option ℤ
 literal_of whole decimals = in_bounds (pos (decimal_from 0 (whole ++ take 6 (decimals ++ zeros))))
 
@@ -69,7 +72,7 @@ abbrev pub number_or_fault : ℕ → Option ℤ → ℕ → Piece
 number_or_fault place None more = Wrong (NumberTooLarge place)
 number_or_fault place (Some number) more = Lexeme (Number number) more
 
--- the bytes of a point and the decimals behind it, where there are decimals
+-- the number of bytes of a point and the decimals after it, if there are decimals
 abbrev pub decimals_length : List ℕ → ℕ
 decimals_length [] = 0
 decimals_length (b ∷ decimals) = 1 + length (b ∷ decimals)
@@ -79,13 +82,15 @@ abbrev pub number_with : ℕ → ℕ → ℕ → List ℕ → Piece
 number_with place digit whole rest =
     number_or_fault place (literal_of (digit ∷ take whole rest) (decimals_of (drop whole rest))) (whole + decimals_length (decimals_of (drop whole rest)))
 
+-- the number that begins with this digit
 abbrev pub number_at : ℕ → ℕ → List ℕ → Piece
 number_at place digit rest = number_with place digit (digits_in rest) rest
 
--- the bytes behind a quote up to the next, which stands on the same line
+-- the bytes after a quote up to the next, which is on the same line
 abbrev pub string_with : ℕ → ℕ → List ℕ → Piece
 string_with place length rest = if next_byte (drop length rest) == 34 then Lexeme Text (length + 1) else Wrong (OpenString place)
 
+-- the string that begins with a quote at this place
 abbrev pub string_at : ℕ → List ℕ → Piece
 string_at place rest = string_with place (up_to is_string_end rest) rest
 
@@ -132,15 +137,17 @@ abbrev pub or_else : Option Kind → Option Kind → Option Kind
 or_else None other = other
 or_else (Some kind) other = Some kind
 
+-- the operator or other mark of one byte
 abbrev pub one_mark : ℕ → Option Kind
 one_mark b = or_else (one_operator b) (other_mark b)
 
--- the longest mark, where two bytes or one are one
+-- the longest mark, of two bytes or one
 abbrev pub mark_of : ℕ → Option Kind → Option Kind → Piece
 mark_of place (Some two) one = Lexeme two 1
 mark_of place None (Some one) = Lexeme one 0
 mark_of place None None = Wrong (BadCharacter place)
 
+-- the mark at this place
 abbrev pub mark_at : ℕ → ℕ → List ℕ → Piece
 mark_at place b rest = mark_of place (two_marks b (next_byte rest)) (one_mark b)
 
@@ -152,7 +159,7 @@ begins_comment b next = b == 47 && next == 47
 abbrev pub begins_name : ℕ → ℕ → Bool
 begins_name b next = is_ascii_alphabetic b || (b == 36 && is_ascii_alphabetic next)
 
--- what stands at this place, where the text has this byte and the rest behind it
+-- what a text has at this place, which has this byte and then the rest
 unfoldable pub piece_at : ℕ → ℕ → List ℕ → Piece
 piece_at place b rest =
     if is_blank b then Gap 0

@@ -12,8 +12,8 @@ use crate::token::Token;
 use bt_base::Fail;
 use std::alloc::Global;
 
-/// The tokens of a formula's text in their order, or its first fault. Spaces, tabs, CR and LF part tokens, and `//` begins a
-/// comment up to the end of the line. A name is a `$` that may be left out, a letter, then letters, digits and `_`; a number
+/// The tokens of a formula's text in their order, or its first fault. Spaces, tabs, CR and LF separate tokens, and `//` begins a
+/// comment that ends with its line. A name is a `$` that may be left out, a letter, then letters, digits and `_`; a number
 /// is digits, and a point and digits that may be left out; a string is any bytes but `"` and LF between two `"`.
 pub fn lex(alloc: Global, text: &str) -> Result<Vec<Token>, Fail<LexFault>>
     ensures { GivesAs (λ tokens. tokens.items) result (lexed text.now) }
@@ -31,7 +31,7 @@ pub fn lex(alloc: Global, text: &str) -> Result<Vec<Token>, Fail<LexFault>>
     Ok(tokens)
 }
 
-/// Puts what stands at a place behind the tokens before it, and answers how many bytes it has beyond its first.
+/// Adds the token at a place, if it is one, and returns the number of its bytes after the first.
 fn take(tokens: &mut Vec<Token>, at: usize, found: Piece) -> Result<usize, Fail<LexFault>>
     requires { at + 1 + more_of found < 2 ^ 64 }
     ensures { (go : ℕ → Result (List AToken) AFault) → Takes tokens.old.items tokens.new.items at found go result }

@@ -5,13 +5,14 @@ ghost use Rattle.formula_lex.specs.Pieces.{literal_of};
 
 use bt_base::Num;
 
-/// One more than the greatest number, in millionths: what stands for each number past it while a text is read.
+/// One more than the greatest number, in millionths. While a text is read it represents each number past the greatest, so that the
+/// sum of digits stays within 64 bits.
 const PAST: u64 = 1_000_000_000_000_000_001;
 
 const ZEROS: [u8; 6] = *b"000000";
 
-/// The number with this digit and these before its point, and these behind it, of which those past the sixth are cut;
-/// none if it is over 10^12.
+/// The number with this digit and these before its point, and these after it, of which those past the sixth are cut.
+/// None if it is over 10^12.
 pub fn literal(digit: u8, whole: &[u8], decimals: &[u8]) -> Option<Num>
     ensures { result ≡ literal_of (digit ∷ whole.now) decimals.now }
 {
@@ -23,7 +24,7 @@ pub fn literal(digit: u8, whole: &[u8], decimals: &[u8]) -> Option<Num>
     Num::of_millionths(millionths as i64)
 }
 
-/// The number that the digits show behind those that show `before`, up to `PAST`.
+/// The number that these digits make after those that make `before`, up to `PAST`.
 fn shown(before: u64, digits: &[u8]) -> u64
     requires { before ≤ PAST }
     ensures { result ≡ min (decimal_from before digits.now) PAST }

@@ -1,4 +1,4 @@
-//! What stands at a place of a formula's text.
+//! What a formula's text has at a place.
 ghost use Rattle.std.specs.Prelude.{◌≡◌, ◌∷◌, ◌≤◌, ◌==◌, ◌+◌, length};
 ghost use Rattle.formula_lex.specs.Pieces.{more_of, piece_at, mark_at, string_at, number_at, next_byte, decimals_of, is_blank as is_blank_byte};
 
@@ -8,18 +8,18 @@ use crate::marks::{one_mark, two_marks};
 use crate::run::{digits_length, line_length, name_length, string_length};
 use crate::token::Kind;
 
-/// What stands at a place of a text, with how many bytes it has beyond its first.
+/// What a text has at a place, with the number of its bytes after the first.
 #[derive(Clone, Copy, Debug)]
 pub enum Piece {
     /// A blank, or a comment.
     Gap(usize),
     /// A token.
     Lexeme(Kind, usize),
-    /// Nothing that a formula can have.
+    /// What no formula has.
     Wrong(LexFault),
 }
 
-/// What stands at this place, where the text has this byte and the rest behind it.
+/// What a text has at this place, which has this byte and then the rest.
 #[tactic(auto, unfolding(crate::specs::Pieces::piece_at))]
 pub fn find_piece(place: usize, byte: u8, rest: &[u8]) -> Piece
     ensures value { result ≡ piece_at place byte rest.now }
@@ -46,7 +46,7 @@ fn is_blank(byte: u8) -> bool
     byte == b' ' || byte == b'\t' || byte == b'\r' || byte == b'\n'
 }
 
-/// The first byte, or 0 where there is none.
+/// The first byte, or 0 if there is none.
 fn next(rest: &[u8]) -> u8
     ensures { result ≡ next_byte rest.now }
 {
@@ -74,13 +74,13 @@ fn number(place: usize, digit: u8, rest: &[u8]) -> Piece
     }
 }
 
-/// The digits behind a point, where the text begins with one.
+/// The digits after a point. None if the text does not begin with one.
 fn decimals(rest: &[u8]) -> &[u8]
     ensures { result.now ≡ decimals_of rest.now }
 {
     if next(rest) == b'.' {
-        let behind = &rest[1..];
-        &behind[..digits_length(behind)]
+        let after = &rest[1..];
+        &after[..digits_length(after)]
     } else {
         &rest[..0]
     }
@@ -99,7 +99,7 @@ fn string(place: usize, rest: &[u8]) -> Piece
     }
 }
 
-/// An operator or another mark: the longest that stands here.
+/// The longest operator or other mark here.
 fn mark(place: usize, byte: u8, rest: &[u8]) -> Piece
     ensures value { result ≡ mark_at place byte rest.now }
     ensures within { more_of result ≤ length rest.now }

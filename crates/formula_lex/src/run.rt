@@ -1,10 +1,10 @@
-//! How far parts of a formula's text go.
+//! The lengths of digits, names, lines and strings in a formula's text, in bytes.
 ghost use Rattle.std.specs.Prelude.{◌≡◌, ◌≤◌, ◌<◌, ◌==◌, ◌||◌, Option, not, length, IfSome};
 ghost use Rattle.std.specs.List.{position};
 ghost use Rattle.std.specs.Char.{is_ascii_digit};
 ghost use Rattle.formula_lex.specs.Pieces.{up_to, or_all, digits_in, is_name_byte as is_name_byte_of, is_line_end, is_string_end};
 
-/// How many digits the text begins with.
+/// The number of digits that the text begins with.
 pub fn digits_length(text: &[u8]) -> usize
     ensures value { result ≡ digits_in text.now }
     ensures within { result ≤ length text.now }
@@ -12,7 +12,7 @@ pub fn digits_length(text: &[u8]) -> usize
     or_length(first_other(text), text)
 }
 
-/// The first byte that is no digit.
+/// The first byte that is not a digit.
 fn first_other(text: &[u8]) -> Option<usize>
     ensures value { result ≡ position (λ b. not (is_ascii_digit b)) text.now }
     ensures within { IfSome result (λ place. place < length text.now) }
@@ -20,7 +20,7 @@ fn first_other(text: &[u8]) -> Option<usize>
     text.iter().position(|byte| !byte.is_ascii_digit())
 }
 
-/// How many letters, digits and `_` the text begins with.
+/// The number of letters, digits and `_` that the text begins with.
 pub fn name_length(text: &[u8]) -> usize
     ensures value { result ≡ up_to (λ b. not (is_name_byte_of b)) text.now }
     ensures within { result ≤ length text.now }
@@ -36,7 +36,7 @@ fn name_end(text: &[u8]) -> Option<usize>
     text.iter().position(|byte| !is_name_byte(*byte))
 }
 
-/// How many bytes stand before the end of the line.
+/// The number of bytes before the end of the line.
 pub fn line_length(text: &[u8]) -> usize
     ensures value { result ≡ up_to is_line_end text.now }
     ensures within { result ≤ length text.now }
@@ -52,7 +52,7 @@ fn line_end(text: &[u8]) -> Option<usize>
     text.iter().position(|byte| *byte == b'\n')
 }
 
-/// How many bytes stand before a quote or the end of the line.
+/// The number of bytes before a quote or the end of the line.
 pub fn string_length(text: &[u8]) -> usize
     ensures value { result ≡ up_to is_string_end text.now }
     ensures within { result ≤ length text.now }
@@ -74,7 +74,7 @@ fn is_name_byte(byte: u8) -> bool
     byte.is_ascii_alphanumeric() || byte == b'_'
 }
 
-/// A place in the text, or its length where there is none.
+/// A place in the text, or its length if there is none.
 fn or_length(place: Option<usize>, text: &[u8]) -> usize
     ensures { result ≡ or_all (length text.now) place }
 {

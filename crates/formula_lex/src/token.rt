@@ -4,7 +4,7 @@ ghost use Rattle.formula_lex.specs.Spans.{span_of};
 
 use bt_base::Num;
 
-/// A part of a text: from one byte's place up to another's, which is no longer in it. Places count from 0.
+/// A part of a text: the bytes from the place `from`, without the one at `to`. Places count from 0.
 #[derive(Clone, Copy, PartialEq, Eq, Debug)]
 pub struct Span {
     pub from: usize,
@@ -37,7 +37,7 @@ pub enum Kind {
     Text,
     /// A name, with its `$` if it has one.
     Name,
-    /// An operator that stands between two operands. `-` is `Subtract` also where it negates.
+    /// An operator between two operands. `-` is `Subtract` also where it negates.
     Infix(BinaryOperator),
     /// `!`
     Bang,

@@ -1,8 +1,9 @@
--- What is known of each metric of a pool.
+-- The metrics of a pool.
 use Rattle.std.specs.Prelude.{ℕ, ℤ, [], Option, None}
 use Rattle.bt_samples.specs.Histories.{pushed}
 use Rattle.bt_base.specs.declared.pool_metric.Metric.{Metric}
-use Rattle.bt_base.specs.declared.pool_metric.Metric.TheVariants.{CpuPercent, ActiveTasks, RunningTasks, PendingTasks, SucceededTasks, FailedTasks, TaskSlotsPerNode, CurrentDedicatedNodes, CurrentLowPriorityNodes, PreemptedNodeCount}
+use Rattle.bt_base.specs.declared.pool_metric.Metric.TheVariants.{CpuPercent, ActiveTasks, RunningTasks, PendingTasks, SucceededTasks, FailedTasks}
+use Rattle.bt_base.specs.declared.pool_metric.Metric.TheVariants.{TaskSlotsPerNode, CurrentDedicatedNodes, CurrentLowPriorityNodes, PreemptedNodeCount}
 use Rattle.formula_metrics.specs.declared.metrics.MetricPart.{MetricPart}
 use Rattle.formula_metrics.specs.declared.metrics.Metrics.{Metrics}
 
@@ -25,7 +26,7 @@ blank_metrics = record {
   preempted_node_count = blank;
 }
 
--- what is known of one metric
+-- one of the metrics
 abbrev pub part_of : Metrics → Metric → MetricPart
 part_of metrics CpuPercent = metrics.cpu_percent
 part_of metrics ActiveTasks = metrics.active_tasks
@@ -38,7 +39,7 @@ part_of metrics CurrentDedicatedNodes = metrics.current_dedicated_nodes
 part_of metrics CurrentLowPriorityNodes = metrics.current_low_priority_nodes
 part_of metrics PreemptedNodeCount = metrics.preempted_node_count
 
--- the metrics, of which one has changed
+-- the metrics, of which this one has changed
 abbrev pub with_part : Metrics → Metric → MetricPart → Metrics
 with_part metrics CpuPercent part = record metrics { cpu_percent = part }
 with_part metrics ActiveTasks part = record metrics { active_tasks = part }

@@ -1,14 +1,14 @@
-//! Times that arguments name, and the ranges of labels between two of them.
+//! The times of arguments, and the ranges of labels between two times.
 ghost use Rattle.std.specs.Prelude.{◌≡◌};
 ghost use Rattle.formula_metrics.specs.Methods.{present, time_of, labels_between as range_between, labels_from, raised};
 
 use bt_base::Moment;
 use formula_values::{Timestamp, Value};
 
-/// Labels of samples in milliseconds since 1970, from the first to the second, both included; none where no label can be.
+/// Labels of samples in milliseconds since 1970, from the first to the second, both included. None if there can be no label.
 pub type Labels = Option<(u64, u64)>;
 
-/// The units of a millisecond.
+/// The units of 100 ns in a millisecond.
 const MILLISECOND: i64 = 10_000;
 
 /// Now, in units of 100 ns since 1970.
@@ -18,8 +18,8 @@ pub fn present(now: Moment) -> i64
     Timestamp::of_moment(now).units()
 }
 
-/// The time that a value names, in units of 100 ns since 1970: a timestamp, or a timeinterval that is counted back from
-/// now. It may lie before 1970 or after the year 9999.
+/// The time of an argument, in units of 100 ns since 1970: a timestamp, or a timeinterval that is counted back from now. It may be
+/// before 1970 or after the year 9999.
 pub fn time_of(now: Moment, value: &Value) -> i64
     ensures { result ≡ time_of now value.now }
 {
@@ -31,15 +31,15 @@ pub fn time_of(now: Moment, value: &Value) -> i64
     }
 }
 
-/// The labels between two times, of which the lesser is the start. Both are cut to milliseconds, toward zero, and a start
-/// before 1970 is its begin.
+/// The labels between two times, of which the lesser is the start. Both are cut to milliseconds, toward zero, and a start before 1970
+/// is the beginning of 1970.
 pub fn labels_between(a: i64, b: i64) -> Labels
     ensures { result ≡ range_between a b }
 {
     labels_from(raised(a.min(b) / MILLISECOND), b.max(a) / MILLISECOND)
 }
 
-/// The labels from a start to an end; none has an end before 1970.
+/// The labels from a start to an end. None if the end is before 1970.
 fn labels_from(start: u64, end: i64) -> Labels
     ensures { result ≡ labels_from start end }
 {
@@ -50,7 +50,7 @@ fn labels_from(start: u64, end: i64) -> Labels
     }
 }
 
-/// A start before 1970 is its begin.
+/// A start before 1970 is the beginning of 1970.
 fn raised(start: i64) -> u64
     ensures { result ≡ raised start }
 {

@@ -1,4 +1,4 @@
-//! The metrics of a pool: their current values and samples, and what a formula asks of them.
+//! The metrics of a pool: their current values, their samples, and the methods by which a formula reads them.
 #![tactic(auto)]
 
 mod labels;

@@ -1,4 +1,4 @@
-//! What a formula asks of a metric.
+//! The methods of metrics.
 ghost use Rattle.std.specs.Prelude.{◌≡◌};
 ghost use Rattle.bt_base.specs.Fails.{Gives};
 ghost use Rattle.formula_metrics.specs.Methods.{begin_value, current_value, method_value};
@@ -13,7 +13,7 @@ use formula_values::{TimeInterval, Value, ValueFault, timestamp_value, whole};
 use std::alloc::Global;
 
 impl MetricPart {
-    /// The metric's value now; `EmptyVector` where it has none. It takes no memory.
+    /// The metric's value now. `EmptyVector` if it has none. It does not allocate.
     pub fn value(&self) -> Result<Value, ValueFault>
         ensures { result ≡ current_value self.now }
     {
@@ -23,8 +23,8 @@ impl MetricPart {
         }
     }
 
-    /// What a method gives at this moment with these arguments. `IndexOutOfRange`, `NotEnoughSamples`, `EmptyVector` and
-    /// `TimeOutOfRange` come as they are defined.
+    /// The result of a method at this moment with these arguments. `IndexOutOfRange`, `NotEnoughSamples`, `EmptyVector` and
+    /// `TimeOutOfRange` come as `ValueFault` says.
     pub fn call(
         &self,
         alloc: Global,
@@ -47,10 +47,10 @@ impl MetricPart {
 /// The units of 100 ns of a millisecond.
 const MILLISECOND: i128 = 10_000;
 
-/// The time from a sample to the next, in units of 100 ns.
-const PERIOD: i64 = 300_000_000;
+/// The time from one sample to the next, 30 seconds, in units of 100 ns.
+pub const PERIOD: i64 = 300_000_000;
 
-/// What `GetSamplePeriod` gives.
+/// The result of `GetSamplePeriod`.
 fn period() -> Value
     ensures { result ≡ Value.TimeInterval PERIOD }
 {
@@ -60,7 +60,7 @@ fn period() -> Value
     }
 }
 
-/// What `HistoryBeginTime` gives: the label of the oldest sample; `EmptyVector` where there is none.
+/// The result of `HistoryBeginTime`: the label of the oldest sample. `EmptyVector` if there is none.
 fn begin_value(history: &History) -> Result<Value, ValueFault>
     ensures { result ≡ begin_value (oldest history.now) }
 {

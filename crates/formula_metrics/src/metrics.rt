@@ -8,14 +8,14 @@ use bt_samples::{History, SampleTooOld};
 use formula_names::Metric;
 use std::alloc::Global;
 
-/// What is known of one metric: its value now, if it has one, and its last samples.
+/// One metric: its value now, if it has one, and its last samples.
 #[derive(Debug, Drop)]
 pub struct MetricPart {
     pub current: Option<Num>,
     pub history: History,
 }
 
-/// What is known of each metric of a pool.
+/// The metrics of a pool.
 #[derive(Debug, Drop)]
 pub struct Metrics {
     pub cpu_percent: MetricPart,
@@ -31,7 +31,7 @@ pub struct Metrics {
 }
 
 impl MetricPart {
-    /// A metric without a current value and without samples. It takes the memory of all samples that are ever kept.
+    /// A metric without a current value and without samples. It allocates the memory of all samples that are ever kept.
     pub fn new(alloc: Global) -> Result<MetricPart, NoMemory>
         ensures { IfOk result (λ part. part ≡ blank) }
     {
@@ -43,7 +43,7 @@ impl MetricPart {
 }
 
 impl Metrics {
-    /// Metrics without current values and without samples. It takes the memory of all samples that are ever kept.
+    /// Metrics without current values and without samples. It allocates the memory of all samples that are ever kept.
     pub fn new(alloc: Global) -> Result<Metrics, NoMemory>
         ensures { IfOk result (λ metrics. metrics ≡ blank_metrics) }
     {
@@ -61,7 +61,7 @@ impl Metrics {
         })
     }
 
-    /// What is known of a metric. It takes no memory.
+    /// One of the metrics. It does not allocate.
     pub fn part(&self, metric: Metric) -> &MetricPart
         ensures { result.now ≡ part_of self.now metric }
     {
@@ -79,7 +79,7 @@ impl Metrics {
         }
     }
 
-    /// Sets a metric's value now, or takes it away. It takes no memory.
+    /// Sets a metric's value now, or removes it. It does not allocate.
     pub fn set_current(&mut self, metric: Metric, current: Option<Num>)
         ensures { self.new ≡ with_part self.old metric (with_current (part_of self.old metric) current) }
     {
@@ -97,8 +97,8 @@ impl Metrics {
         }
     }
 
-    /// Adds a metric's newest sample; past 2,880 the oldest goes. `SampleTooOld` exactly where the label, in milliseconds since
-    /// 1970, is not above the newest, and then nothing changes. It takes no memory.
+    /// Adds a metric's newest sample, and removes the oldest past 2,880. `SampleTooOld` exactly if the label, in milliseconds since
+    /// 1970, is not above the newest; then nothing changes. It does not allocate.
     pub fn push(&mut self, metric: Metric, label: u64, value: Num) -> Result<(), SampleTooOld>
         ensures answer { result ≡ push_answer (part_of self.old metric).history label }
         ensures samples { self.new ≡ with_part self.old metric (with_sample (part_of self.old metric) label value) }

@@ -1,4 +1,4 @@
-//! `GetSample` in its forms, and the percentage of samples that there are.
+//! `GetSample` in its forms, and `GetSamplePercent`.
 ghost use Rattle.std.specs.Prelude.{◌≡◌, pos, Ok, IfOk};
 ghost use Rattle.bt_base.specs.Fails.{Gives};
 ghost use Rattle.bt_samples.specs.Histories.{last_values};
@@ -10,7 +10,7 @@ use bt_samples::History;
 use formula_values::{Value, ValueFault, floor_of, whole};
 use std::alloc::Global;
 
-/// What `GetSample` gives.
+/// The result of `GetSample`.
 pub fn sample_value(
     alloc: Global,
     history: &History,
@@ -30,7 +30,7 @@ pub fn sample_value(
     }
 }
 
-/// The newest samples, where the argument is their number; else those from a time to now.
+/// The newest samples, if the argument is their number; else those from a time to now.
 fn samples_since(
     alloc: Global,
     history: &History,
@@ -48,7 +48,7 @@ fn samples_since(
     }
 }
 
-/// The samples between a time and the other end, or, where the argument is a percentage, to now.
+/// The samples between a time and the other end, or to now if the argument is a percentage.
 fn samples_to(
     alloc: Global,
     history: &History,
@@ -69,7 +69,7 @@ fn samples_to(
     }
 }
 
-/// The newest samples, at most so many; `IndexOutOfRange` below 0.
+/// The newest samples, at most `count`. `IndexOutOfRange` below 0.
 fn newest_values(history: &History, count: i64) -> Result<Value, Fail<ValueFault>>
     ensures { Gives result (newest_values history.now count) }
 {
@@ -86,8 +86,8 @@ fn last_values(history: &History, count: u64) -> Result<Vec<Num>, NoMemory>
     history.last(count.min(u64::from(history.count())) as u32)
 }
 
-/// The samples with these labels; `NotEnoughSamples` where the percentage of them that there are is below the one that
-/// is asked for.
+/// The samples with these labels. `NotEnoughSamples` if the percentage of labels that have a sample is below the one that is asked
+/// for.
 fn enough_at(
     alloc: Global,
     history: &History,
@@ -103,7 +103,7 @@ fn enough_at(
     Ok(vector(values_at(alloc, history, labels)?))
 }
 
-/// What `GetSamplePercent` gives.
+/// The result of `GetSamplePercent`.
 pub fn percent_value(history: &History, arguments: &[Value], now: Moment) -> Value
     ensures { percent_value now history.now arguments.now ≡ Ok result }
 {

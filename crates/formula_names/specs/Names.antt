@@ -57,6 +57,7 @@ setting_named name =
     else if bytes_eq name (codes "$NodeDeallocationOption") then Some Deallocation
     else None
 
+-- the function of this name
 unfoldable pub function_named : List ℕ → Option Function
 function_named name =
     if bytes_eq name (codes "avg") then Some functions.Avg
@@ -97,6 +98,7 @@ member_named name =
     else if bytes_eq name (codes "second") then Some members.Second
     else None
 
+-- the type of a setting
 abbrev pub setting_type : Setting → ValueType
 setting_type DedicatedNodes = Double
 setting_type LowPriorityNodes = Double

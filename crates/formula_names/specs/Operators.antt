@@ -1,7 +1,8 @@
--- The types that operators take, and those that they give.
+-- The types of the operands and results of operators.
 use Rattle.std.specs.Prelude.{Option, Some, None}
 use Rattle.formula_lex.specs.declared.token.BinaryOperator.{BinaryOperator}
-use Rattle.formula_lex.specs.declared.token.BinaryOperator.TheVariants.{Or, And, Equal, NotEqual, Less, AtMost, Greater, AtLeast, Add, Subtract, Multiply, Divide}
+use Rattle.formula_lex.specs.declared.token.BinaryOperator.TheVariants.{Or, And, Equal, NotEqual, Less, AtMost, Greater, AtLeast, Add, Subtract, Multiply}
+use Rattle.formula_lex.specs.declared.token.BinaryOperator.TheVariants.{Divide}
 use Rattle.formula_trees.specs.declared.tree.UnaryOperator.{UnaryOperator}
 use Rattle.formula_trees.specs.declared.tree.UnaryOperator.TheVariants.{Negate, Invert}
 use Rattle.formula_names.specs.declared.value_types.ValueType.{ValueType}
@@ -9,7 +10,7 @@ use Rattle.formula_names.specs.declared.value_types.ValueType.TheVariants.{Doubl
 use Rattle.formula_names.specs.declared.value_types.ExprType.{ExprType}
 use Rattle.formula_names.specs.declared.value_types.ExprType.TheVariants.{Value, Stop}
 
--- two doubles give a double; a vector goes with a double or a vector, element by element
+-- arithmetic of two doubles is a double; a vector goes with a double or a vector, element by element
 abbrev pub numeric_type : ValueType → ValueType → Option ValueType
 numeric_type Double Double = Some Double
 numeric_type Double DoubleVec = Some DoubleVec
@@ -42,7 +43,7 @@ abbrev pub quotient_type : ValueType → ValueType → Option ValueType
 quotient_type TimeInterval Double = Some TimeInterval
 quotient_type a b = numeric_type a b
 
--- the type that both have
+-- the type that both have, if it is one type
 abbrev pub common_type : ValueType → ValueType → Option ValueType
 common_type Double Double = Some Double
 common_type DoubleVec DoubleVec = Some DoubleVec
@@ -51,7 +52,7 @@ common_type Timestamp Timestamp = Some Timestamp
 common_type TimeInterval TimeInterval = Some TimeInterval
 common_type _ _ = None
 
--- like types but vectors can be compared; a comparison gives 1 or 0
+-- like types but vectors can be compared; a comparison is 1 or 0
 abbrev pub comparison_type : ValueType → ValueType → Option ValueType
 comparison_type Double Double = Some Double
 comparison_type Text Text = Some Double
@@ -64,7 +65,7 @@ abbrev pub logic_type : ValueType → ValueType → Option ValueType
 logic_type Double Double = Some Double
 logic_type _ _ = None
 
--- the type that a binary operator gives with values of these types
+-- the type of a binary operator with values of these types
 abbrev pub binary_value : BinaryOperator → ValueType → ValueType → Option ValueType
 binary_value Or a b = logic_type a b
 binary_value And a b = logic_type a b
@@ -79,7 +80,7 @@ binary_value Subtract a b = difference_type a b
 binary_value Multiply a b = product_type a b
 binary_value Divide a b = quotient_type a b
 
--- `-` on a double, a vector or a timeinterval, and `!` on a double, give the same type
+-- `-` takes a double, a vector or a timeinterval, and `!` a double; the result has the same type
 abbrev pub unary_value : UnaryOperator → ValueType → Option ValueType
 unary_value Negate Double = Some Double
 unary_value Negate DoubleVec = Some DoubleVec
@@ -92,11 +93,12 @@ abbrev pub valued : Option ValueType → Option ExprType
 valued None = None
 valued (Some value) = Some (Value value)
 
--- the same for expressions: what stops the evaluation is no operand
+-- the same for expressions: what stops the evaluation is not an operand
 abbrev pub binary_type : BinaryOperator → ExprType → ExprType → Option ExprType
 binary_type o (Value a) (Value b) = valued (binary_value o a b)
 binary_type _ _ _ = None
 
+-- a unary operator with an operand
 abbrev pub unary_type : UnaryOperator → ExprType → Option ExprType
 unary_type o (Value a) = valued (unary_value o a)
 unary_type _ Stop = None

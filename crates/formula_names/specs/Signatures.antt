@@ -1,4 +1,4 @@
--- The arguments that functions and methods take, and the types that they give.
+-- The types of the arguments and results of functions and methods.
 use Rattle.std.specs.Prelude.{Bool, true, false, ◌&&◌, ◌||◌, List, [], ◌∷◌, Option, Some, None, if◌then◌else◌}
 use Rattle.std.specs.List.{list_all}
 use Rattle.formula_names.specs.declared.names.Function.{Function}
@@ -9,18 +9,22 @@ use Rattle.formula_names.specs.declared.value_types.ValueType.TheVariants.{Doubl
 use Rattle.formula_names.specs.declared.value_types.ExprType.{ExprType}
 use Rattle.formula_names.specs.declared.value_types.ExprType.TheVariants.{Value, Stop as Stops}
 
+-- the argument is a double
 abbrev pub is_double : ExprType → Bool
 is_double (Value Double) = true
 is_double _ = false
 
+-- the argument is a vector of doubles
 abbrev pub is_vector : ExprType → Bool
 is_vector (Value DoubleVec) = true
 is_vector _ = false
 
+-- the argument is a text
 abbrev pub is_text : ExprType → Bool
 is_text (Value Text) = true
 is_text _ = false
 
+-- the argument is a timestamp
 abbrev pub is_timestamp : ExprType → Bool
 is_timestamp (Value Timestamp) = true
 is_timestamp _ = false
@@ -31,24 +35,28 @@ is_moment (Value Timestamp) = true
 is_moment (Value TimeInterval) = true
 is_moment _ = false
 
--- a double, or a vector of some
+-- a double, or a vector of doubles
 abbrev pub is_numeric : ExprType → Bool
 is_numeric (Value Double) = true
 is_numeric (Value DoubleVec) = true
 is_numeric _ = false
 
+-- no arguments
 abbrev pub are_none : List ExprType → Bool
 are_none [] = true
 are_none _ = false
 
+-- one argument that passes a test
 abbrev pub are_one : (ExprType → Bool) → List ExprType → Bool
 are_one p (a ∷ []) = p a
 are_one p _ = false
 
+-- two arguments that pass a test each
 abbrev pub are_two : (ExprType → Bool) → (ExprType → Bool) → List ExprType → Bool
 are_two p q (a ∷ b ∷ []) = p a && q b
 are_two p q _ = false
 
+-- three arguments that pass a test each
 abbrev pub are_three : (ExprType → Bool) → (ExprType → Bool) → (ExprType → Bool) → List ExprType → Bool
 are_three p q r (a ∷ b ∷ c ∷ []) = p a && (q b && r c)
 are_three p q r _ = false
@@ -75,11 +83,11 @@ function_takes Round args = are_one is_double args
 function_takes Time args = are_none args || are_one is_text args
 function_takes Stop args = are_none args
 
--- what a function gives. `stop()` has no value: it ends the evaluation.
-abbrev pub function_gives : Function → ExprType
-function_gives Time = Value Timestamp
-function_gives Stop = Stops
-function_gives _ = Value Double
+-- the type of a function's result. `stop()` has no value: it ends the evaluation.
+abbrev pub function_result : Function → ExprType
+function_result Time = Value Timestamp
+function_result Stop = Stops
+function_result _ = Value Double
 
 -- a metric's method takes these arguments
 abbrev pub method_takes : Method → List ExprType → Bool
@@ -94,10 +102,10 @@ method_takes GetSamplePeriod args = are_none args
 method_takes Count args = are_none args
 method_takes HistoryBeginTime args = are_none args
 
--- what a metric's method gives
-abbrev pub method_gives : Method → ExprType
-method_gives GetSample = Value DoubleVec
-method_gives GetSamplePercent = Value Double
-method_gives GetSamplePeriod = Value TimeInterval
-method_gives Count = Value Double
-method_gives HistoryBeginTime = Value Timestamp
+-- the type of the result of a metric's method
+abbrev pub method_result : Method → ExprType
+method_result GetSample = Value DoubleVec
+method_result GetSamplePercent = Value Double
+method_result GetSamplePeriod = Value TimeInterval
+method_result Count = Value Double
+method_result HistoryBeginTime = Value Timestamp

@@ -1,4 +1,4 @@
-//! The names of the formula language, and the types that operators, functions and methods take and give.
+//! The names of the formula language, and the types of operands, arguments and results.
 #![tactic(auto)]
 
 mod names;
@@ -13,7 +13,7 @@ pub use names::{
 };
 pub use operators::{binary_type, common_type, ternary_type, unary_type};
 pub use signatures::{
-    are_doubles, function_gives, function_takes, is_double, is_timestamp, method_gives,
+    are_doubles, function_result, function_takes, is_double, is_timestamp, method_result,
     method_takes,
 };
 pub use value_types::{ExprType, ValueType};

@@ -260,7 +260,7 @@ pub fn setting_type(setting: Setting) -> ValueType
     }
 }
 
-/// The type of a name that is no variable of the formula's own: of a metric, a constant or a setting.
+/// The type of a name that is not a variable of the formula's own: of a metric, a constant or a setting.
 #[tactic(auto, unfolding(crate::specs::Names::fixed_type))]
 pub fn fixed_type(name: &[u8]) -> Option<ValueType>
     ensures { result ≡ fixed_type name.now }

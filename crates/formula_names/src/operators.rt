@@ -1,4 +1,4 @@
-//! The types that operators take, and those that they give.
+//! The types of the operands and results of operators.
 ghost use Rattle.std.specs.Prelude.{◌≡◌};
 ghost use Rattle.formula_names.specs.Operators.{numeric_type, sum_type, difference_type, product_type, quotient_type, common_type, comparison_type, logic_type, binary_value, unary_value, binary_type, unary_type, branch_type, ternary_type, valued};
 
@@ -6,7 +6,7 @@ use crate::value_types::{ExprType, ValueType};
 use formula_lex::BinaryOperator;
 use formula_trees::UnaryOperator;
 
-/// Two doubles give a double; a vector goes with a double or a vector.
+/// Arithmetic of two doubles is a double; a vector goes with a double or a vector.
 fn numeric_type(a: ValueType, b: ValueType) -> Option<ValueType>
     ensures { result ≡ numeric_type a b }
 {
@@ -64,7 +64,7 @@ fn quotient_type(a: ValueType, b: ValueType) -> Option<ValueType>
     }
 }
 
-/// The type that both have.
+/// The type that both have, if it is one type.
 pub fn common_type(a: ValueType, b: ValueType) -> Option<ValueType>
     ensures { result ≡ common_type a b }
 {
@@ -101,7 +101,7 @@ fn logic_type(a: ValueType, b: ValueType) -> Option<ValueType>
     }
 }
 
-/// The type that a binary operator gives with values of these types.
+/// The type of a binary operator with values of these types. None if they do not go together.
 fn binary_value(operator: BinaryOperator, a: ValueType, b: ValueType) -> Option<ValueType>
     ensures { result ≡ binary_value operator a b }
 {
@@ -120,7 +120,7 @@ fn binary_value(operator: BinaryOperator, a: ValueType, b: ValueType) -> Option<
     }
 }
 
-/// The type that a unary operator gives with a value of this type.
+/// The type of a unary operator with a value of this type. None if it does not take one.
 fn unary_value(operator: UnaryOperator, a: ValueType) -> Option<ValueType>
     ensures { result ≡ unary_value operator a }
 {
@@ -133,7 +133,7 @@ fn unary_value(operator: UnaryOperator, a: ValueType) -> Option<ValueType>
     }
 }
 
-/// The type of a binary operator with two operands; none where they do not go together.
+/// The type of a binary operator with two operands. None if they do not go together.
 pub fn binary_type(operator: BinaryOperator, left: ExprType, right: ExprType) -> Option<ExprType>
     ensures { result ≡ binary_type operator left right }
 {
@@ -143,7 +143,7 @@ pub fn binary_type(operator: BinaryOperator, left: ExprType, right: ExprType) ->
     }
 }
 
-/// The type of a unary operator with an operand; none where it does not take one.
+/// The type of a unary operator with an operand. None if it does not take one.
 pub fn unary_type(operator: UnaryOperator, operand: ExprType) -> Option<ExprType>
     ensures { result ≡ unary_type operator operand }
 {
@@ -174,7 +174,7 @@ fn branch_type(yes: ExprType, other: ExprType) -> Option<ExprType>
     }
 }
 
-/// The type of a ternary, whose condition is a double; none where its parts do not go together.
+/// The type of a ternary, whose condition is a double. None if its parts do not go together.
 pub fn ternary_type(condition: ExprType, yes: ExprType, other: ExprType) -> Option<ExprType>
     ensures { result ≡ ternary_type condition yes other }
 {

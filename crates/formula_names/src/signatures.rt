@@ -1,11 +1,12 @@
-//! The arguments that functions and methods take, and the types that they give.
+//! The types of the arguments and results of functions and methods.
 ghost use Rattle.std.specs.Prelude.{◌≡◌, Bool};
 ghost use Rattle.std.specs.List.{list_all};
-ghost use Rattle.formula_names.specs.Signatures.{is_double, is_vector, is_text, is_timestamp, is_moment, is_numeric, are_none, are_one, are_two, are_three, are_numeric, function_takes, function_gives, method_takes, method_gives};
+ghost use Rattle.formula_names.specs.Signatures.{is_double, is_vector, is_text, is_timestamp, is_moment, is_numeric, are_none, are_one, are_two, are_three, are_numeric, function_takes, function_result, method_takes, method_result};
 
 use crate::names::{Function, Method};
 use crate::value_types::{ExprType, ValueType};
 
+/// Whether an argument is a double.
 pub fn is_double(argument: ExprType) -> bool
     ensures { result ≡ is_double argument }
 {
@@ -24,6 +25,7 @@ fn is_text(argument: ExprType) -> bool
     matches!(argument, ExprType::Value(ValueType::Text))
 }
 
+/// Whether an argument is a timestamp.
 pub fn is_timestamp(argument: ExprType) -> bool
     ensures { result ≡ is_timestamp argument }
 {
@@ -41,7 +43,7 @@ fn is_moment(argument: ExprType) -> bool
     }
 }
 
-/// A double, or a vector of some.
+/// A double, or a vector of doubles.
 fn is_numeric(argument: ExprType) -> bool
     ensures { result ≡ is_numeric argument }
 {
@@ -182,9 +184,9 @@ pub fn function_takes(function: Function, arguments: &[ExprType]) -> bool
     }
 }
 
-/// What a function gives. `stop()` has no value.
-pub fn function_gives(function: Function) -> ExprType
-    ensures { result ≡ function_gives function }
+/// The type of a function's result. `stop()` has no value.
+pub fn function_result(function: Function) -> ExprType
+    ensures { result ≡ function_result function }
 {
     match function {
         Function::Time => ExprType::Value(ValueType::Timestamp),
@@ -210,9 +212,9 @@ pub fn method_takes(method: Method, arguments: &[ExprType]) -> bool
     }
 }
 
-/// What a metric's method gives.
-pub fn method_gives(method: Method) -> ExprType
-    ensures { result ≡ method_gives method }
+/// The type of the result of a metric's method.
+pub fn method_result(method: Method) -> ExprType
+    ensures { result ≡ method_result method }
 {
     match method {
         Method::GetSample => ExprType::Value(ValueType::DoubleVec),

@@ -7,3 +7,4 @@ pub mod Agrees
 pub mod Main
 pub mod Depths
 pub mod Faults
+pub mod Taken

@@ -8,9 +8,13 @@ use Rattle.formula_lex.specs.declared.token.Kind.{Kind}
 use Rattle.formula_lex.specs.declared.token.Kind.TheVariants.{Name, Infix, Question, Colon, Comma, Dot, OpenGroup, CloseGroup, CloseList}
 use Rattle.formula_lex.specs.declared.token.Token.{Token}
 use Rattle.formula_trees.specs.Tree.{Tree, Numeral, Quoted, Call, Vector, Method, Unary, Binary, Ternary, Trees, none, more}
-use Rattle.formula_trees.specs.Grammar.{level_of, sign_of, at, Reads, number, text, name, group, call, vector, member, method, unary, binary, ternary, stronger, ReadsItems, no_items, items, ReadsSome, first, next}
-use Rattle.formula_syntax.specs.Parser.{Callee, Free, Of, applied, Frame, InGroup, InCall, InList, InUnary, InBinary, AfterQuestion, AfterColon, Stack, State, Want, First, Named, Have, Dotted, completed, go_on, close, strength, act, or_call, on_comma, step, and_run, run, settled}
-use Rattle.formula_syntax.proofs.Running.{run_then_one, steps_on, level_low, level_high, Below, close_unary, close_binary, close_colon, below_unary, below_binary, below_colon, first_as_want}
+use Rattle.formula_trees.specs.Grammar.{level_of, sign_of, at, Reads, number, text, name, group, call, vector, member, method, unary, binary, ternary, stronger}
+use Rattle.formula_trees.specs.Grammar.{ReadsItems, no_items, items, ReadsSome, first, next}
+use Rattle.formula_syntax.specs.Parser.{Callee, Free, Of, applied, Frame, InGroup, InCall, InList, InUnary, InBinary, AfterQuestion, AfterColon, Stack, State}
+use Rattle.formula_syntax.specs.Parser.{Want, First, Named, Have, Dotted, completed, go_on, close, strength, act, or_call, on_comma, step, and_run, run}
+use Rattle.formula_syntax.specs.Parser.{settled}
+use Rattle.formula_syntax.proofs.Running.{run_then_one, steps_on, level_low, level_high, Below, close_unary, close_binary, close_colon, below_unary}
+use Rattle.formula_syntax.proofs.Running.{below_binary, below_colon, first_as_want}
 
 pub record Reaches (k : ℕ) (s : Stack) (ts : List Token) (t : Tree) : Type 0 where
   pub state : State
@@ -51,7 +55,8 @@ record ReachesSome (f : Trees → Frame) (s : Stack) (ts : List Token) (front : 
   runs : run ts (Want (f none ∷ s)) ≡ Some state
   settles : settled 0 state ≡ Some (f front ∷ s, last)
 
-barrier : (f : Trees → Frame) (make : Trees → Tree) (k : Kind) → Collects f make k → (args : Trees) (s : Stack) (j : ℕ) (t : Tree) → close j (f args ∷ s) t ≡ (f args ∷ s, t)
+barrier : (f : Trees → Frame) (make : Trees → Tree) (k : Kind) → Collects f make k → (args : Trees) (s : Stack) (j : ℕ) (t : Tree) →
+    close j (f args ∷ s) t ≡ (f args ∷ s, t)
 barrier f make k c args s j t = ap (λ o. go_on o (close j s) (f args ∷ s, t)) (c.stays args j t)
 
 -- the sign of a unary operator
@@ -59,21 +64,25 @@ begins_sign : (o : UnaryOperator) (p : Span) (s : Stack) → step (Want s) (sign
 begins_sign Negate p s = refl
 begins_sign Invert p s = refl
 
-reaches_group : (ts : List Token) (t : Tree) (p q : Span) (s : Stack) → Reaches 0 (InGroup ∷ s) ts t → Reaches 8 s (at OpenGroup p ∷ (ts ++ at CloseGroup q ∷ [])) t
+reaches_group : (ts : List Token) (t : Tree) (p q : Span) (s : Stack) → Reaches 0 (InGroup ∷ s) ts t →
+    Reaches 8 s (at OpenGroup p ∷ (ts ++ at CloseGroup q ∷ [])) t
 reaches_group ts t p q s a = record {
   state = Have s t;
-  runs = run_then_one ts [] CloseGroup q (Want (InGroup ∷ s)) a.state (Have s t) a.runs (steps_on a.state CloseGroup q (InGroup ∷ s) t (λ s c o. refl) (a.settles 0 (lit≤ tt)));
+  runs = run_then_one ts [] CloseGroup q (Want (InGroup ∷ s)) a.state (Have s t) a.runs
+      (steps_on a.state CloseGroup q (InGroup ∷ s) t (λ s c o. refl) (a.settles 0 (lit≤ tt)));
   settles = λ j h. refl;
 }
 
-reaches_unary : (ts : List Token) (t : Tree) (o : UnaryOperator) (p : Span) (s : Stack) → Reaches 7 (InUnary o p ∷ s) ts t → Reaches 7 s (at (sign_of o) p ∷ ts) (Unary o p t)
+reaches_unary : (ts : List Token) (t : Tree) (o : UnaryOperator) (p : Span) (s : Stack) → Reaches 7 (InUnary o p ∷ s) ts t →
+    Reaches 7 s (at (sign_of o) p ∷ ts) (Unary o p t)
 reaches_unary ts t o p s a = record {
   state = a.state;
   runs = ap (λ x. and_run x (run ts)) (begins_sign o p s) ∙ a.runs;
   settles = λ j h. a.settles j h ∙ ap Some (close_unary j o p s t h);
 }
 
-reaches_binary : (ts us : List Token) (l r : Tree) (o : BinaryOperator) (p : Span) (s : Stack) → Below (level_of o) s → Reaches (level_of o) s ts l → Reaches (suc (level_of o)) (InBinary o p l ∷ s) us r → Reaches (level_of o) s (ts ++ at (Infix o) p ∷ us) (Binary o p l r)
+reaches_binary : (ts us : List Token) (l r : Tree) (o : BinaryOperator) (p : Span) (s : Stack) → Below (level_of o) s → Reaches (level_of o) s ts l →
+    Reaches (suc (level_of o)) (InBinary o p l ∷ s) us r → Reaches (level_of o) s (ts ++ at (Infix o) p ∷ us) (Binary o p l r)
 reaches_binary ts us l r o p s h a b =
     let low = level_low o in
     let high = level_high o in
@@ -86,7 +95,8 @@ reaches_binary ts us l r o p s h a b =
       settles = λ j i. b.settles j (omega arith) ∙ ap Some (close_binary j o p l s r i);
     }
 
-reaches_ternary : (ts us vs : List Token) (c y n : Tree) (p q : Span) (s : Stack) → Below 0 s → Reaches 1 s ts c → Reaches 0 (AfterQuestion p c ∷ s) us y → Reaches 0 (AfterColon p c y ∷ s) vs n → Reaches 0 s (ts ++ at Question p ∷ (us ++ at Colon q ∷ vs)) (Ternary p c y n)
+reaches_ternary : (ts us vs : List Token) (c y n : Tree) (p q : Span) (s : Stack) → Below 0 s → Reaches 1 s ts c → Reaches 0 (AfterQuestion p c ∷ s) us y →
+    Reaches 0 (AfterColon p c y ∷ s) vs n → Reaches 0 s (ts ++ at Question p ∷ (us ++ at Colon q ∷ vs)) (Ternary p c y n)
 reaches_ternary ts us vs c y n p q s h a b d =
     let settles = a.settles 1 (lit≤ tt) ∙ ap Some (h 1 c (lit≤ tt) (lit≤ tt) (omega arith)) in
     let steps = steps_on a.state Question p s c (λ s c o. refl) settles in
@@ -99,8 +109,9 @@ reaches_ternary ts us vs c y n p q s h a b d =
       settles = λ j i. d.settles j i ∙ ap Some (close_colon j p c y s n i);
     }
 
--- a dot and a name behind an operand
-run_member : (ts us : List Token) (t : Tree) (d p : Span) (s : Stack) → Below 8 s → Reaches 8 s ts t → run (ts ++ at Dot d ∷ at Name p ∷ us) (Want s) ≡ run us (Named s (Of t p))
+-- a dot and a name after an operand
+run_member : (ts us : List Token) (t : Tree) (d p : Span) (s : Stack) → Below 8 s → Reaches 8 s ts t →
+    run (ts ++ at Dot d ∷ at Name p ∷ us) (Want s) ≡ run us (Named s (Of t p))
 run_member ts us t d p s h a =
     let settles = a.settles 8 (lit≤ tt) ∙ ap Some (h 8 t (lit≤ tt) (lit≤ tt) (omega arith)) in
     let steps = steps_on a.state Dot d s t (λ s c o. refl) settles in
@@ -129,19 +140,22 @@ mutual
   }
   reaches (method {ts = ts} {us = us} {t = t} {args = args} d p q v r i) s h = record {
     state = Have s (Method t p args);
-    runs = run_member ts (at OpenGroup q ∷ (us ++ at CloseGroup v ∷ [])) t d p s h (reaches r s h) ∙ reaches_items i (InCall (Of t p)) (applied (Of t p)) CloseGroup v s (collects_call (Of t p));
+    runs = run_member ts (at OpenGroup q ∷ (us ++ at CloseGroup v ∷ [])) t d p s h (reaches r s h)
+        ∙ reaches_items i (InCall (Of t p)) (applied (Of t p)) CloseGroup v s (collects_call (Of t p));
     settles = λ j i. refl;
   }
   reaches (unary {ts = ts} {t = t} o p r) s h = reaches_unary ts t o p s (reaches r (InUnary o p ∷ s) (below_unary o p s))
   reaches (binary {ts = ts} {us = us} {l = l} {r = r} o p a b) s h =
       reaches_binary ts us l r o p s h (reaches a s h) (reaches b (InBinary o p l ∷ s) (below_binary o p l s))
   reaches (ternary {ts = ts} {us = us} {vs = vs} {c = c} {y = y} {n = n} p q a b d) s h =
-      reaches_ternary ts us vs c y n p q s h (reaches a s (λ j t x y z. h j t (omega arith) y z)) (reaches b (AfterQuestion p c ∷ s) (λ j t x y z. refl)) (reaches d (AfterColon p c y ∷ s) (below_colon p c y s))
+      reaches_ternary ts us vs c y n p q s h (reaches a s (λ j t x y z. h j t (omega arith) y z)) (reaches b (AfterQuestion p c ∷ s) (λ j t x y z. refl))
+      (reaches d (AfterColon p c y ∷ s) (below_colon p c y s))
   reaches (stronger {k = k} {ts = ts} {t = t} r) s h =
       let a = reaches r s (λ j t x y z. h j t (omega arith) y z) in
       record { state = a.state; runs = a.runs; settles = λ j i. a.settles j (omega arith) }
 
-  reaches_items : {ts : List Token} {args : Trees} → ReadsItems ts args → (f : Trees → Frame) (make : Trees → Tree) (k : Kind) (p : Span) (s : Stack) → Collects f make k → run (ts ++ at k p ∷ []) (First (f none ∷ s)) ≡ Some (Have s (make args))
+  reaches_items : {ts : List Token} {args : Trees} → ReadsItems ts args → (f : Trees → Frame) (make : Trees → Tree) (k : Kind) (p : Span) (s : Stack) →
+      Collects f make k → run (ts ++ at k p ∷ []) (First (f none ∷ s)) ≡ Some (Have s (make args))
   reaches_items no_items f make k p s c = ap (λ o. and_run o (run [])) (c.closes_none s p)
   reaches_items (items {ts = ts} {front = front} {last = last} r) f make k p s c =
       let a = reaches_some r f make k s c in
@@ -149,7 +163,8 @@ mutual
       let steps = steps_on a.state k p (f front ∷ s) last c.no_call settles ∙ c.closes_more front s last p in
       run_then_one ts [] k p (First (f none ∷ s)) a.state (Have s (make (more front last))) (first_as_want ts (f none ∷ s) a.state 0 _ a.runs a.settles) steps
 
-  reaches_some : {ts : List Token} {front : Trees} {last : Tree} → ReadsSome ts front last → (f : Trees → Frame) (make : Trees → Tree) (k : Kind) (s : Stack) → Collects f make k → ReachesSome f s ts front last
+  reaches_some : {ts : List Token} {front : Trees} {last : Tree} → ReadsSome ts front last → (f : Trees → Frame) (make : Trees → Tree) (k : Kind) (s : Stack) →
+      Collects f make k → ReachesSome f s ts front last
   reaches_some (first {ts = ts} {t = t} r) f make k s c =
       let a = reaches r (f none ∷ s) (λ j t x y z. barrier f make k c none s j t) in
       record { state = a.state; runs = a.runs; settles = a.settles 0 (lit≤ tt) ∙ ap Some (barrier f make k c none s 0 t) }

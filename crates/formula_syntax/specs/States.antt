@@ -1,4 +1,4 @@
--- The states that the program's values stand for.
+-- The states that the program's values represent.
 use Rattle.formula_lex.specs.declared.token.Span.{Span}
 use Rattle.std.specs.Prelude.{◌≡◌, ℕ, Option, Some, None, Result, Ok, Err, [], ◌∷◌, true}
 use Rattle.formula_syntax.specs.declared.expression.Position.{Position}
@@ -11,6 +11,7 @@ use Rattle.formula_trees.specs.View.{tree_of}
 use Rattle.formula_syntax.specs.Frames.{callee_of}
 use Rattle.formula_syntax.specs.Parser as parser
 
+-- a stack and the place in an expression
 abbrev pub state_of : parser.Stack → Position → parser.State
 state_of s Want = parser.Want s
 state_of s First = parser.First s

@@ -1,4 +1,4 @@
--- The states of a whole text that the program's values stand for.
+-- The states of a whole text that the program's values represent.
 use Rattle.std.specs.Prelude.{◌≡◌, ℕ, List, nat_lt, true, false, Option, Some, None, Result, Ok, Err}
 use Rattle.formula_trees.specs.declared.tree.Statement.{Statement}
 use Rattle.formula_syntax.specs.declared.formula.Target.{Target}
@@ -6,6 +6,7 @@ use Rattle.formula_syntax.specs.declared.formula.Target.TheVariants.{Nowhere, Na
 use Rattle.formula_syntax.specs.declared.formula.Progress.{Progress}
 use Rattle.formula_syntax.specs.declared.formula.Progress.TheVariants.{Between, Lone, Inside}
 use Rattle.formula_trees.specs.declared.fault.SyntaxFault.{SyntaxFault}
+use Rattle.formula_trees.specs.declared.fault.TheConstants.{DEEPEST}
 use Rattle.formula_trees.specs.declared.fault.SyntaxFault.TheVariants.{UnexpectedToken, TooDeep}
 use Rattle.bt_base.specs.declared.fail.Fail.{Fail}
 use Rattle.bt_base.specs.declared.fail.Fail.TheVariants.{Memory, Why}
@@ -15,10 +16,12 @@ use Rattle.formula_syntax.specs.Stacks.{stack_of}
 use Rattle.formula_syntax.specs.States.{state_of}
 use Rattle.formula_syntax.specs.Whole as whole
 
+-- what a statement does with its expression
 abbrev pub target_of : Target → whole.Target
 target_of Nowhere = whole.Nowhere
 target_of (Name p) = whole.Into p
 
+-- the statements before, and what is read of the last one
 abbrev pub whole_of : List StatementTree → Progress → whole.Whole
 whole_of done Between = whole.Between done
 whole_of done (Lone p) = whole.Lone done p
@@ -36,14 +39,14 @@ Ends done (Ok u) p o = o ≡ Some done
 Ends done (Err Memory) p o = Unit {0}
 Ends done (Err (Why f)) p o = (o ≡ None) × (f ≡ UnexpectedToken p)
 
--- the token isn't taken, or it opens too many marks
+-- the token is not taken, or it opens too many marks
 abbrev pub FaultAt : SyntaxFault → ℕ → Option whole.Whole → Type 0
 FaultAt f p None = f ≡ UnexpectedToken p
-FaultAt f p (Some w) = (nat_lt 64 (whole.depth_in w) ≡ true) × (f ≡ TooDeep p)
+FaultAt f p (Some w) = (nat_lt DEEPEST (whole.depth_in w) ≡ true) × (f ≡ TooDeep p)
 
--- the same, where the depth is looked at too
+-- the same, with the limit of open marks
 abbrev pub TakesShallow : List StatementTree → Result Progress (Fail SyntaxFault) → ℕ → Option whole.Whole → Type 0
-TakesShallow done (Ok q) p o = (o ≡ Some (whole_of done q)) × (nat_lt 64 (whole.depth_in (whole_of done q)) ≡ false)
+TakesShallow done (Ok q) p o = (o ≡ Some (whole_of done q)) × (nat_lt DEEPEST (whole.depth_in (whole_of done q)) ≡ false)
 TakesShallow done (Err Memory) p o = Unit {0}
 TakesShallow done (Err (Why f)) p o = FaultAt f p o
 

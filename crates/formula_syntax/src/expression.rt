@@ -18,7 +18,8 @@ use formula_lex::{BinaryOperator, Kind, Span, Token};
 use formula_trees::{Expr, SyntaxFault, UnaryOperator};
 use std::alloc::{AllocError, Global};
 
-/// Where the reading of an expression stands.
+/// The place in an expression: where an operand has to begin, where the first item or none may follow, after a name, after an operand,
+/// or after a dot.
 #[derive(Drop)]
 pub enum Position {
     Want,
@@ -28,7 +29,7 @@ pub enum Position {
     Dotted(Expr),
 }
 
-// How strong an operator binds.
+// How strongly an operator binds.
 fn level(operator: BinaryOperator) -> u8
     ensures { result ≡ level_of operator }
 {
@@ -57,7 +58,7 @@ fn is_complete(frame: &Frame, least: u8) -> bool
     }
 }
 
-// What a frame makes of its last operand.
+// A frame with its last operand.
 fn join(alloc: Global, frame: Frame, operand: Expr) -> Result<Expr, AllocError>
     ensures { IfOk result (λ t. tree_of t ≡ joined (frame_of frame) (tree_of operand)) }
 {
@@ -145,7 +146,7 @@ fn with_item(mut items: Vec<Expr>, item: Expr) -> Result<Vec<Expr>, AllocError>
     Ok(items)
 }
 
-// The fault of a token that isn't taken.
+// The fault of a token that is not taken.
 fn unexpected(span: Span) -> Result<Position, Fail<SyntaxFault>>
     ensures { result ≡ Err (Why (UnexpectedToken span.from)) }
 {
@@ -174,7 +175,7 @@ fn colon(stack: &mut Stack, yes: Expr, span: Span) -> Result<Position, Fail<Synt
     }
 }
 
-// A `,` behind an item.
+// A `,` after an item.
 fn comma(stack: &mut Stack, item: Expr, span: Span) -> Result<Position, Fail<SyntaxFault>>
     ensures { Takes (stack_of stack.new) result span (on_comma (stack_of stack.old) (tree_of item)) }
 {
@@ -191,7 +192,7 @@ fn comma(stack: &mut Stack, item: Expr, span: Span) -> Result<Position, Fail<Syn
     }
 }
 
-// A `)` behind an operand.
+// A `)` after an operand.
 fn close_group(
     alloc: Global,
     stack: &mut Stack,
@@ -211,7 +212,7 @@ fn close_group(
     }
 }
 
-// A `]` behind an item.
+// A `]` after an item.
 fn close_list(stack: &mut Stack, item: Expr, span: Span) -> Result<Position, Fail<SyntaxFault>>
     ensures { Takes (stack_of stack.new) result span (on_close_list (stack_of stack.old) (tree_of item)) }
 {
@@ -294,7 +295,7 @@ fn begin_first(
     }
 }
 
-// A token behind an operand.
+// A token after an operand.
 fn follow(
     alloc: Global,
     stack: &mut Stack,
@@ -356,7 +357,7 @@ pub(crate) fn step(
     }
 }
 
-// A token behind a name.
+// A token after a name.
 fn after_name(
     alloc: Global,
     stack: &mut Stack,
@@ -377,7 +378,7 @@ fn after_name(
     }
 }
 
-// The name behind a dot.
+// The name after a dot.
 fn select(operand: Expr, stack: &Stack, token: Token) -> Result<Position, Fail<SyntaxFault>>
     ensures { Takes (stack_of stack.now) result (span_of token) (selected (stack_of stack.now) (tree_of operand) token.kind (span_of token)) }
 {

@@ -1,14 +1,14 @@
 //! From the tokens of a formula to its statements.
-ghost use Rattle.std.specs.Prelude.{◌≡◌, ℕ, List, [], ◌∷◌, length, Some, None, IfOk, OnOk, Err};
+ghost use Rattle.std.specs.Prelude.{◌≡◌, ◌⊎◌, ℕ, List, [], ◌∷◌, length, Some, None, IfOk, OnOk, Err};
 ghost use Rattle.formula_trees.specs.declared.fault.SyntaxFault.{SyntaxFault as AFault};
 ghost use Rattle.bt_base.specs.declared.fail.Fail.TheVariants.{Why as AWhy};
-ghost use Rattle.formula_trees.specs.declared.fault.SyntaxFault.TheVariants.{UnexpectedToken};
+ghost use Rattle.formula_trees.specs.declared.fault.SyntaxFault.TheVariants.{UnexpectedToken, TooDeep};
 ghost use Rattle.std.specs.Option.{option_map};
 ghost use Rattle.formula_lex.specs.Spans.{span_of};
 ghost use Rattle.formula_syntax.specs.Parser as parser;
 ghost use Rattle.formula_syntax.specs.Whole as whole;
 ghost use Rattle.formula_lex.specs.declared.token.Token.{Token as AToken};
-ghost use Rattle.formula_trees.specs.Formula.{StatementTree as AStep};
+ghost use Rattle.formula_trees.specs.Formula.{StatementTree as AStep, ReadsFormula};
 ghost use Rattle.formula_syntax.specs.Parser.{depth_of, step as stepped, settled};
 ghost use Rattle.formula_syntax.specs.Parser.{Have};
 ghost use Rattle.formula_trees.specs.TheFormula.{IsTheFormula, fault_in};
@@ -22,11 +22,8 @@ use crate::expression::{Position, bare, close, step};
 use crate::stack::{Callee, Stack};
 use bt_base::Fail;
 use formula_lex::{Kind, Span, Token};
-use formula_trees::{Expr, Statement, SyntaxFault};
+use formula_trees::{DEEPEST, Expr, Statement, SyntaxFault};
 use std::alloc::{AllocError, Global};
-
-/// How many marks may be open.
-pub const DEEPEST: usize = 64;
 
 /// The name that a statement sets.
 #[derive(Clone, Copy, Debug)]
@@ -35,7 +32,7 @@ pub enum Target {
     Name(Span),
 }
 
-/// What is read of a statement: nothing, a name alone, or a part of an expression.
+/// The part of a statement that is read: nothing, a name alone, or a part of an expression.
 #[derive(Drop)]
 pub enum Progress {
     Between,
@@ -77,7 +74,7 @@ fn end(
     }
 }
 
-// The fault of a token that isn't taken.
+// The fault of a token that is not taken.
 fn unexpected(place: usize) -> Result<Progress, Fail<SyntaxFault>>
     ensures { result ≡ Err (AWhy (UnexpectedToken place)) }
 {
@@ -98,7 +95,7 @@ fn advance(
     Ok(Progress::Inside(target, stack, position))
 }
 
-// A `;` behind an expression.
+// A `;` after an expression.
 fn end_inside(
     alloc: Global,
     statements: &mut Vec<Statement>,
@@ -145,7 +142,7 @@ fn take_between(alloc: Global, token: Token) -> Result<Progress, Fail<SyntaxFaul
     }
 }
 
-// A token behind a name that begins a statement.
+// A token after a name that begins a statement.
 fn take_lone(
     alloc: Global,
     statements: &mut Vec<Statement>,
@@ -170,7 +167,7 @@ fn take_lone(
     }
 }
 
-// A token behind the beginning of an expression.
+// A token after the beginning of an expression.
 fn take_inside(
     alloc: Global,
     statements: &mut Vec<Statement>,
@@ -247,7 +244,7 @@ fn take_shallow(
     }
 }
 
-// The statements of the tokens, put behind none.
+// The statements of the tokens, added to an empty list.
 fn read(
     alloc: Global,
     statements: &mut Vec<Statement>,
@@ -267,8 +264,8 @@ fn read(
     finish(alloc, statements, progress, length)
 }
 
-/// The statements of a formula, from the tokens of its text. Without them it is the formula's first fault, whose place counts
-/// the text's bytes from 0, or memory ran out.
+/// The statements of a formula, from the tokens of its text. The error is the formula's first fault, whose place counts the text's
+/// bytes from 0, or out of memory.
 pub fn parse(
     alloc: Global,
     text: &str,
@@ -276,7 +273,7 @@ pub fn parse(
 ) -> Result<Vec<Statement>, Fail<SyntaxFault>>
     // The first fault by the table.
     ensures fault { (f : AFault) → result ≡ Err (AWhy f) → fault_in tokens.now (length text.now) ≡ Some f }
-    // Where it has none, the one reading by the grammar.
+    // If it has none, the one reading by the grammar.
     ensures none { IfOk result (λ _. fault_in tokens.now (length text.now) ≡ None) }
     ensures reads { IfOk result (λ v. IsTheFormula tokens.now (statements_of v.items)) }
 {
@@ -287,7 +284,10 @@ pub fn parse(
     }
 }
 
-/// A text without a fault has exactly one reading.
+/// A text without a fault has exactly one reading, and a text with a reading has no fault but that too many marks are open.
 pub fn one_reading()
-    ensures { (tokens : List AToken) (length : ℕ) → fault_in tokens length ≡ None → (steps : List AStep) × IsTheFormula tokens steps }
+    ensures read { (tokens : List AToken) (length : ℕ) → fault_in tokens length ≡ None → (steps : List AStep) × IsTheFormula tokens steps }
+    // What the grammar reads, the table takes, unless more than `DEEPEST` marks are open.
+    ensures taken { (tokens : List AToken) (length : ℕ) (steps : List AStep) → ReadsFormula tokens steps →
+        (fault_in tokens length ≡ None) ⊎ ((place : ℕ) × (fault_in tokens length ≡ Some (TooDeep place))) }
 {}

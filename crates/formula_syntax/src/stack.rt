@@ -26,7 +26,7 @@ pub enum Frame {
     Colon(Span, Expr, Expr),
 }
 
-/// All that is open, which contracts see as a list, the last one first.
+/// All that is open. Contracts see it as a list, the last one first.
 #[derive(Drop)]
 pub struct Stack {
     frames: Vec<Frame>,
@@ -38,7 +38,7 @@ impl Frame {
     ghost use Rattle.formula_syntax.specs.Frames.{frame_of};
     ghost use Rattle.formula_syntax.specs.Parser.{depth_of};
 
-    // How many marks a frame is.
+    // The number of marks of a frame.
     fn depth(&self) -> usize
         ensures at_most_one { result ≤ 1 }
         ensures value { result ≡ depth_of (frame_of self.now ∷ []) }

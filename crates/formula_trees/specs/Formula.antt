@@ -1,4 +1,4 @@
--- A formula: statements that are parted by `;`, with one more `;` behind the last or not. It may be empty.
+-- A formula: statements that are separated by `;`, with one more `;` after the last or not. It may be empty.
 use Rattle.std.specs.Prelude.{List, [], ◌∷◌, ◌++◌}
 use Rattle.formula_lex.specs.declared.token.Span.{Span}
 use Rattle.formula_lex.specs.declared.token.Kind.TheVariants.{Name, Assign, Semicolon}
@@ -20,4 +20,5 @@ pub data ReadsStatement : List Token → StatementTree → Type 0 where
 pub data ReadsFormula : List Token → List StatementTree → Type 0 where
   empty : ReadsFormula [] []
   last : {ts : List Token} {s : StatementTree} → ReadsStatement ts s → ReadsFormula ts (s ∷ [])
-  then : {ts us : List Token} {s : StatementTree} {ss : List StatementTree} (p : Span) → ReadsStatement ts s → ReadsFormula us ss → ReadsFormula (ts ++ at Semicolon p ∷ us) (s ∷ ss)
+  then : {ts us : List Token} {s : StatementTree} {ss : List StatementTree} (p : Span) → ReadsStatement ts s → ReadsFormula us ss →
+      ReadsFormula (ts ++ at Semicolon p ∷ us) (s ∷ ss)

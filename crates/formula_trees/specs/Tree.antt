@@ -6,6 +6,7 @@ use Rattle.formula_lex.specs.declared.token.BinaryOperator.{BinaryOperator}
 use Rattle.formula_trees.specs.declared.tree.UnaryOperator.{UnaryOperator}
 
 mutual
+  -- an expression
   pub data Tree : Type 0 where
     Numeral : (millionths : ℤ) (span : Span) → Tree
     Quoted : (span : Span) → Tree

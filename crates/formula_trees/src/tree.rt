@@ -12,7 +12,7 @@ pub enum UnaryOperator {
     Invert,
 }
 
-/// An expression. A node has the part of the text that is its token: its literal, its name, its operator or its `[`; a
+/// An expression. Each node has the part of the text that is its token: its literal, its name, its operator or its `[`; a
 /// ternary has its `?`.
 pub enum Expr {
     Number(Num, Span),
@@ -25,12 +25,12 @@ pub enum Expr {
     Method(Box<Expr>, Span, Vec<Expr>),
     Unary(UnaryOperator, Span, Box<Expr>),
     Binary(BinaryOperator, Span, Box<Expr>, Box<Expr>),
-    /// The condition, and the values where it is true and where it isn't.
+    /// The condition, the value if it is true, and the value if it is not.
     Ternary(Span, Box<Expr>, Box<Expr>, Box<Expr>),
 }
 
 impl Drop for Expr {
-    // A chain of operators that group to the left is as long as the text: it is taken apart by a loop.
+    // A chain of operators that group to the left can be as long as the text, so it is taken apart by a loop.
     fn drop(mut self) {
         loop {
             match self {

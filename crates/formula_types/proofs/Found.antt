@@ -1,4 +1,4 @@
--- What a step that gave a value or a type says of its parts.
+-- The parts of a step whose result is a value or a type.
 use Rattle.std.proofs.Common.{◌≡◌, Bool, true, false, cond, List, Option, Some, None, Result, Ok, Err, is_some, refl, ap}
 use Rattle.bt_base.specs.Fails.{◌>>=◌}
 use Rattle.formula_lex.specs.declared.token.Span.{Span}
@@ -10,7 +10,7 @@ use Rattle.formula_names.specs.declared.value_types.ValueType.{ValueType}
 use Rattle.formula_names.specs.declared.value_types.ValueType.TheVariants.{Double, DoubleVec, Text, Timestamp, TimeInterval}
 use Rattle.formula_names.specs.declared.value_types.ExprType.{ExprType}
 use Rattle.formula_names.specs.declared.value_types.ExprType.TheVariants.{Value, Stop}
-use Rattle.formula_names.specs.Signatures.{is_timestamp, function_takes, function_gives, method_takes, method_gives}
+use Rattle.formula_names.specs.Signatures.{is_timestamp, function_takes, function_result, method_takes, method_result}
 use Rattle.formula_types.specs.Typing.{or_mismatch, name_at, call_at, member_at, method_at}
 
 abbrev value_or : {A E : Type 0} → A → Result A E → A
@@ -39,9 +39,10 @@ pub named : (p : Span) (o : Option ValueType) (t : ExprType) → name_at p o ≡
 named p None t e = absurd (err_ok _ _ e)
 named p (Some v) t e = (v, refl, ok_same (Value v) t e)
 
-pub called : (p : Span) (o : Option Function) (types : List ExprType) (t : ExprType) → call_at p o types ≡ Ok t → (f : Function) × (o ≡ Some f) × (function_takes f types ≡ true) × (function_gives f ≡ t)
+pub called : (p : Span) (o : Option Function) (types : List ExprType) (t : ExprType) → call_at p o types ≡ Ok t →
+    (f : Function) × (o ≡ Some f) × (function_takes f types ≡ true) × (function_result f ≡ t)
 called p None types t e = absurd (err_ok _ _ e)
-called p (Some f) types t e = let h = passed (function_takes f types) (function_gives f) t _ e in (f, refl, h.0, h.1)
+called p (Some f) types t e = let h = passed (function_takes f types) (function_result f) t _ e in (f, refl, h.0, h.1)
 
 pub is_time : (a : ExprType) → is_timestamp a ≡ true → a ≡ Value Timestamp
 is_time (Value Double) e = cc
@@ -51,14 +52,16 @@ is_time (Value Timestamp) e = refl
 is_time (Value TimeInterval) e = cc
 is_time Stop e = cc
 
-pub member_found : (p : Span) (o : Option AMember) (a t : ExprType) → member_at p o a ≡ Ok t → (m : AMember) × (o ≡ Some m) × (a ≡ Value Timestamp) × (Value Double ≡ t)
+pub member_found : (p : Span) (o : Option AMember) (a t : ExprType) → member_at p o a ≡ Ok t →
+    (m : AMember) × (o ≡ Some m) × (a ≡ Value Timestamp) × (Value Double ≡ t)
 member_found p None a t e = absurd (err_ok _ _ e)
 member_found p (Some m) a t e = let h = passed (is_timestamp a) (Value Double) t _ e in (m, refl, is_time a h.0, h.1)
 
-pub method_found : (p : Span) (o : Option AMethod) (b : Bool) (types : List ExprType) (t : ExprType) → method_at p o b types ≡ Ok t → (m : AMethod) × (o ≡ Some m) × (b ≡ true) × (method_takes m types ≡ true) × (method_gives m ≡ t)
+pub method_found : (p : Span) (o : Option AMethod) (b : Bool) (types : List ExprType) (t : ExprType) → method_at p o b types ≡ Ok t →
+    (m : AMethod) × (o ≡ Some m) × (b ≡ true) × (method_takes m types ≡ true) × (method_result m ≡ t)
 method_found p None b types t e = absurd (err_ok _ _ e)
 method_found p (Some m) false types t e = absurd (err_ok _ _ e)
-method_found p (Some m) true types t e = let h = passed (method_takes m types) (method_gives m) t _ e in (m, refl, refl, h.0, h.1)
+method_found p (Some m) true types t e = let h = passed (method_takes m types) (method_result m) t _ e in (m, refl, refl, h.0, h.1)
 
 pub some_metric : (o : Option Metric) → is_some o ≡ true → (m : Metric) × (o ≡ Some m)
 some_metric None e = cc

@@ -16,7 +16,8 @@ use Rattle.formula_types.specs.Compiled.{IsRead, IsFormula, HasFault, in_tokens,
 abbrev pub Answer : List ℕ → Type 0
 Answer text = ((ss : List StatementTree) × IsFormula text ss) ⊎ ((fault : FormulaFault) × HasFault text fault)
 
-by_types : (text : List ℕ) (tokens : List Token) (ss : List StatementTree) (read : IsRead text tokens ss) (r : Result Variables TypeFault) → typed text nothing ss ≡ r → Answer text
+by_types : (text : List ℕ) (tokens : List Token) (ss : List StatementTree) (read : IsRead text tokens ss) (r : Result Variables TypeFault) →
+    typed text nothing ss ≡ r → Answer text
 by_types text tokens ss read (Ok set) e = inl (ss, record { tokens = tokens; read = read; types = ap is_ok e })
 by_types text tokens ss read (Err f) e = inr (of_type f, in_types f read e)
 

@@ -1,4 +1,4 @@
--- The rules give exactly the types that the definition gives.
+-- The types by the rules are exactly those by the definition.
 use Rattle.std.proofs.Common.{◌≡◌, ℕ, Bool, true, cond, List, [], ◌∷◌, ◌++◌, Some, Ok, Err, is_some, refl, ap, ◌∙◌, subst}
 use Rattle.std.specs.List.{list_all}
 use Rattle.bt_base.specs.Fails.{◌>>=◌}
@@ -11,7 +11,7 @@ use Rattle.formula_names.specs.declared.value_types.ExprType.{ExprType}
 use Rattle.formula_names.specs.declared.value_types.ExprType.TheVariants.{Value}
 use Rattle.formula_names.specs.Names.{metric_named, function_named, method_named, member_named, fixed_type}
 use Rattle.formula_names.specs.Operators.{unary_type, binary_type, ternary_type}
-use Rattle.formula_names.specs.Signatures.{is_double, function_takes, function_gives, method_takes, method_gives}
+use Rattle.formula_names.specs.Signatures.{is_double, function_takes, function_result, method_takes, method_result}
 use Rattle.formula_types.specs.declared.fault.TypeFault.TheVariants.{TypeMismatch, WrongArguments}
 use Rattle.formula_types.specs.Scopes as scopes
 use Rattle.formula_types.specs.Scopes.{part, name_type, or_else}
@@ -21,7 +21,8 @@ use Rattle.formula_types.specs.Rules.{HasType, HaveTypes}
 use Rattle.formula_types.proofs.Found.{ok_same, both, passed, matched, named, called, member_found, method_found, some_metric}
 use Rattle.formula_types.proofs.Steps.{goes_on}
 
-method_of : (text : List ℕ) (set : scopes.Variables) (t : Tree) (p : Span) (args : Trees) (m : AMethod) (types : List ExprType) → is_metric text t ≡ true → method_named (part text p) ≡ Some m → HaveTypes text set args types → method_takes m types ≡ true → HasType text set (Method t p args) (method_gives m)
+method_of : (text : List ℕ) (set : scopes.Variables) (t : Tree) (p : Span) (args : Trees) (m : AMethod) (types : List ExprType) → is_metric text t ≡ true →
+    method_named (part text p) ≡ Some m → HaveTypes text set args types → method_takes m types ≡ true → HasType text set (Method t p args) (method_result m)
 method_of text set (Variable q) p args m types is e h takes =
     let metric = some_metric (metric_named (part text q)) is in rules.method q p metric.0 m metric.1 e h takes
 method_of text set (Numeral n q) p args m types is e h takes = cc
@@ -35,7 +36,7 @@ method_of text set (Binary o q l r) p args m types is e h takes = cc
 method_of text set (Ternary q c y n) p args m types is e h takes = cc
 
 mutual
-  -- a type that the definition gives is one by the rules
+  -- a type by the definition is one by the rules
   pub by_rules : (text : List ℕ) (set : scopes.Variables) (t : Tree) (type : ExprType) → type_of text set t ≡ Ok type → HasType text set t type
   by_rules text set (Numeral n p) type e = subst (HasType text set (Numeral n p)) (ok_same _ type e) (rules.number n p)
   by_rules text set (Quoted p) type e = subst (HasType text set (Quoted p)) (ok_same _ type e) (rules.quoted p)
@@ -67,17 +68,21 @@ mutual
       let y = both (type_of text set r) (λ right. or_mismatch p (binary_type o x.0 right)) type x.2 in
       rules.binary o p x.0 y.0 type (by_rules text set l x.0 x.1) (by_rules text set r y.0 y.1) (matched p (binary_type o x.0 y.0) type y.2)
   by_rules text set (Ternary p c y n) type e =
-      let u = both (type_of text set c) (λ condition. type_of text set y >>= (λ first. type_of text set n >>= (λ second. or_mismatch p (ternary_type condition first second)))) type e in
+      let u = both (type_of text set c)
+      (λ condition. type_of text set y >>= (λ first. type_of text set n >>= (λ second. or_mismatch p (ternary_type condition first second)))) type e in
       let v = both (type_of text set y) (λ first. type_of text set n >>= (λ second. or_mismatch p (ternary_type u.0 first second))) type u.2 in
       let w = both (type_of text set n) (λ second. or_mismatch p (ternary_type u.0 v.0 second)) type v.2 in
-      rules.ternary p u.0 v.0 w.0 type (by_rules text set c u.0 u.1) (by_rules text set y v.0 v.1) (by_rules text set n w.0 w.1) (matched p (ternary_type u.0 v.0 w.0) type w.2)
+      rules.ternary p u.0 v.0 w.0 type (by_rules text set c u.0 u.1) (by_rules text set y v.0 v.1) (by_rules text set n w.0 w.1)
+      (matched p (ternary_type u.0 v.0 w.0) type w.2)
 
-  pub all_by_rules : (text : List ℕ) (set : scopes.Variables) (ts : Trees) (types : List ExprType) → types_of text set ts ≡ Ok types → HaveTypes text set ts types
+  pub all_by_rules : (text : List ℕ) (set : scopes.Variables) (ts : Trees) (types : List ExprType) → types_of text set ts ≡ Ok types →
+      HaveTypes text set ts types
   all_by_rules text set none types e = subst (HaveTypes text set none) (ok_same _ types e) rules.no_types
   all_by_rules text set (more front last) types e =
       let x = both (types_of text set front) (λ before. type_of text set last >>= (λ type. Ok (before ++ type ∷ []))) types e in
       let y = both (type_of text set last) (λ type. Ok (x.0 ++ type ∷ [])) types x.2 in
-      subst (HaveTypes text set (more front last)) (ok_same _ types y.2) (rules.types x.0 y.0 (all_by_rules text set front x.0 x.1) (by_rules text set last y.0 y.1))
+      subst (HaveTypes text set (more front last)) (ok_same _ types y.2)
+      (rules.types x.0 y.0 (all_by_rules text set front x.0 x.1) (by_rules text set last y.0 y.1))
 
 passes : {A : Type 0} (b : Bool) (x other : A) → b ≡ true → cond b x other ≡ x
 passes b x other e = ap (λ c. cond c x other) e
@@ -87,11 +92,12 @@ metric_fixed : (name : List ℕ) (m : Metric) → metric_named name ≡ Some m �
 unfolding fixed_type
 metric_fixed name m e = passes (is_some (metric_named name)) (Some Double) _ (ap is_some e)
 
-metric_typed : (text : List ℕ) (set : scopes.Variables) (q : Span) (m : Metric) → metric_named (part text q) ≡ Some m → type_of text set (Variable q) ≡ Ok (Value Double)
+metric_typed : (text : List ℕ) (set : scopes.Variables) (q : Span) (m : Metric) → metric_named (part text q) ≡ Some m →
+    type_of text set (Variable q) ≡ Ok (Value Double)
 metric_typed text set q m e = ap (λ o. name_at q (or_else o (set (part text q)))) (metric_fixed (part text q) m e)
 
 mutual
-  -- a type by the rules is the one that the definition gives
+  -- a type by the rules is the one by the definition
   pub by_definition : (text : List ℕ) (set : scopes.Variables) (t : Tree) (type : ExprType) → HasType text set t type → type_of text set t ≡ Ok type
   by_definition text set _ _ (rules.number n p) = refl
   by_definition text set _ _ (rules.quoted p) = refl
@@ -99,9 +105,10 @@ mutual
   by_definition text set _ _ (rules.call {args = args} {types = types} p f e h takes) =
       goes_on _ _ types (all_by_definition text set args types h)
       ∙ ap (λ o. call_at p o types) e
-      ∙ passes (function_takes f types) (Ok (function_gives f)) (Err (WrongArguments p.from)) takes
+      ∙ passes (function_takes f types) (Ok (function_result f)) (Err (WrongArguments p.from)) takes
   by_definition text set _ _ (rules.vector {items = items} {types = types} p h doubles) =
-      goes_on _ _ types (all_by_definition text set items types h) ∙ passes (list_all is_double types) (Ok (Value DoubleVec)) (Err (TypeMismatch p.from)) doubles
+      goes_on _ _ types (all_by_definition text set items types h)
+      ∙ passes (list_all is_double types) (Ok (Value DoubleVec)) (Err (TypeMismatch p.from)) doubles
   by_definition text set _ _ (rules.member {t = t} p m e h) =
       goes_on _ _ (Value Timestamp) (by_definition text set t (Value Timestamp) h) ∙ ap (λ o. member_at p o (Value Timestamp)) e
   by_definition text set _ _ (rules.method {args = args} {types = types} q p metric m is e h takes) =
@@ -109,7 +116,7 @@ mutual
       ∙ goes_on _ _ types (all_by_definition text set args types h)
       ∙ ap (λ o. method_at p o (is_metric text (Variable q)) types) e
       ∙ ap (λ o. method_at p (Some m) (is_some o) types) is
-      ∙ passes (method_takes m types) (Ok (method_gives m)) (Err (WrongArguments p.from)) takes
+      ∙ passes (method_takes m types) (Ok (method_result m)) (Err (WrongArguments p.from)) takes
   by_definition text set _ _ (rules.unary {t = t} o p a b h e) =
       goes_on _ _ a (by_definition text set t a h) ∙ ap (or_mismatch p) e
   by_definition text set _ _ (rules.binary {l = l} {r = r} o p a b c left right e) =
@@ -120,7 +127,8 @@ mutual
       ∙ goes_on _ _ unmet (by_definition text set n unmet third)
       ∙ ap (or_mismatch p) e
 
-  pub all_by_definition : (text : List ℕ) (set : scopes.Variables) (ts : Trees) (types : List ExprType) → HaveTypes text set ts types → types_of text set ts ≡ Ok types
+  pub all_by_definition : (text : List ℕ) (set : scopes.Variables) (ts : Trees) (types : List ExprType) → HaveTypes text set ts types →
+      types_of text set ts ≡ Ok types
   all_by_definition text set _ _ rules.no_types = refl
   all_by_definition text set _ _ (rules.types {front = front} {last = last} before type h g) =
       goes_on _ _ before (all_by_definition text set front before h) ∙ goes_on _ _ type (by_definition text set last type g)

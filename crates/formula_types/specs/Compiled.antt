@@ -14,18 +14,22 @@ use Rattle.formula_types.specs.Scopes.{nothing}
 use Rattle.formula_types.specs.declared.fault.TypeFault.{TypeFault}
 use Rattle.formula_types.specs.declared.fault.TypeFault.TheVariants as types
 use Rattle.bt_base.specs.declared.formula_fault.FormulaFault.{FormulaFault}
-use Rattle.bt_base.specs.declared.formula_fault.FormulaFault.TheVariants.{BadCharacter, OpenString, NumberTooLarge, UnexpectedToken, UnknownName, TypeMismatch, ReadOnly, WrongArguments, TooDeep}
+use Rattle.bt_base.specs.declared.formula_fault.FormulaFault.TheVariants.{BadCharacter, OpenString, NumberTooLarge, UnexpectedToken, UnknownName, TypeMismatch}
+use Rattle.bt_base.specs.declared.formula_fault.FormulaFault.TheVariants.{ReadOnly, WrongArguments, TooDeep}
 use Rattle.formula_types.specs.Typing.{typed}
 
+-- a fault of the tokens
 abbrev pub of_lexical : LexFault → FormulaFault
 of_lexical (lexical.BadCharacter p) = BadCharacter p
 of_lexical (lexical.OpenString p) = OpenString p
 of_lexical (lexical.NumberTooLarge p) = NumberTooLarge p
 
+-- a fault of the syntax
 abbrev pub of_syntax : SyntaxFault → FormulaFault
 of_syntax (syntactic.UnexpectedToken p) = UnexpectedToken p
 of_syntax (syntactic.TooDeep p) = TooDeep p
 
+-- a fault of the types
 abbrev pub of_type : TypeFault → FormulaFault
 of_type (types.UnknownName p) = UnknownName p
 of_type (types.TypeMismatch p) = TypeMismatch p
@@ -48,13 +52,15 @@ pub record IsFormula (text : List ℕ) (ss : List StatementTree) : Type 0 where
   pub read : IsRead text tokens ss
   pub types : have_types text ss ≡ true
 
--- the text is no formula, and this is its first fault
+-- the text is not a formula, and this is its first fault
 pub data HasFault : List ℕ → FormulaFault → Type 0 where
   in_tokens : {text : List ℕ} (f : LexFault) → lexed text ≡ Err f → HasFault text (of_lexical f)
-  in_syntax : {text : List ℕ} {tokens : List Token} (f : SyntaxFault) → lexed text ≡ Ok tokens → fault_in tokens (length text) ≡ Some f → HasFault text (of_syntax f)
-  in_types : {text : List ℕ} {tokens : List Token} {ss : List StatementTree} (f : TypeFault) → IsRead text tokens ss → typed text nothing ss ≡ Err f → HasFault text (of_type f)
+  in_syntax : {text : List ℕ} {tokens : List Token} (f : SyntaxFault) → lexed text ≡ Ok tokens → fault_in tokens (length text) ≡ Some f →
+      HasFault text (of_syntax f)
+  in_types : {text : List ℕ} {tokens : List Token} {ss : List StatementTree} (f : TypeFault) → IsRead text tokens ss → typed text nothing ss ≡ Err f →
+      HasFault text (of_type f)
 
--- the answer is a value with this property, or the text's first fault, unless memory ran out
+-- the result is a value with this property, or the text's first fault, or out of memory
 abbrev pub OrFault : {X : Type 0} → List ℕ → (X → Type 0) → Result X (Fail FormulaFault) → Type 0
 OrFault text P (Ok x) = P x
 OrFault text P (Err Memory) = Unit {0}

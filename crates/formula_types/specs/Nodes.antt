@@ -36,7 +36,7 @@ abbrev pub through : List ℕ → scopes.Variables → List (Bor Expr) → Resul
 through text set [] innermost = innermost
 through text set (e ∷ es) innermost = through text set es innermost >>= node_type text set (tree_of e.now)
 
--- the types of arguments, behind those of others
-abbrev pub types_behind : List ℕ → scopes.Variables → List ExprType → List Expr → Result (List ExprType) TypeFault
-types_behind text set types [] = Ok types
-types_behind text set types (e ∷ es) = type_of text set (tree_of e) >>= (λ type. types_behind text set (types ++ type ∷ []) es)
+-- the types of arguments, after those of others
+abbrev pub types_after : List ℕ → scopes.Variables → List ExprType → List Expr → Result (List ExprType) TypeFault
+types_after text set types [] = Ok types
+types_after text set types (e ∷ es) = type_of text set (tree_of e) >>= (λ type. types_after text set (types ++ type ∷ []) es)

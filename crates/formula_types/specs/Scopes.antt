@@ -22,7 +22,7 @@ abbrev pub or_else : Option ValueType → Option ValueType → Option ValueType
 or_else (Some value) other = Some value
 or_else None other = other
 
--- the type of a name, where these variables are set
+-- the type of a name, if these variables are set
 abbrev pub name_type : Variables → List ℕ → Option ValueType
 name_type set name = or_else (fixed_type name) (set name)
 

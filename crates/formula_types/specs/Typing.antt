@@ -15,13 +15,13 @@ use Rattle.formula_names.specs.declared.value_types.ExprType.{ExprType}
 use Rattle.formula_names.specs.declared.value_types.ExprType.TheVariants.{Value, Stop}
 use Rattle.formula_names.specs.Names.{metric_named, function_named, method_named, member_named, is_read_only}
 use Rattle.formula_names.specs.Operators.{unary_type, binary_type, ternary_type, common_type}
-use Rattle.formula_names.specs.Signatures.{is_double, is_timestamp, function_takes, function_gives, method_takes, method_gives}
+use Rattle.formula_names.specs.Signatures.{is_double, is_timestamp, function_takes, function_result, method_takes, method_result}
 use Rattle.formula_types.specs.Scopes as scopes
 use Rattle.formula_types.specs.Scopes.{part, name_type, with_variable}
 use Rattle.formula_types.specs.declared.fault.TypeFault.{TypeFault}
 use Rattle.formula_types.specs.declared.fault.TypeFault.TheVariants.{UnknownName, TypeMismatch, ReadOnly, WrongArguments}
 
--- the type that an operator gives, unless its operands do not go together
+-- the type of an operator's result, unless its operands do not go together
 abbrev pub or_mismatch : Span → Option ExprType → Result ExprType TypeFault
 or_mismatch p None = Err (TypeMismatch p.from)
 or_mismatch p (Some type) = Ok type
@@ -34,7 +34,7 @@ name_at p (Some value) = Ok (Value value)
 -- a function of these arguments
 abbrev pub call_at : Span → Option Function → List ExprType → Result ExprType TypeFault
 call_at p None args = Err (UnknownName p.from)
-call_at p (Some f) args = if function_takes f args then Ok (function_gives f) else Err (WrongArguments p.from)
+call_at p (Some f) args = if function_takes f args then Ok (function_result f) else Err (WrongArguments p.from)
 
 -- a list of doubles
 abbrev pub list_at : Span → List ExprType → Result ExprType TypeFault
@@ -49,7 +49,7 @@ member_at p (Some m) operand = if is_timestamp operand then Ok (Value Double) el
 abbrev pub method_at : Span → Option AMethod → Bool → List ExprType → Result ExprType TypeFault
 method_at p None is_metric args = Err (UnknownName p.from)
 method_at p (Some m) false args = Err (TypeMismatch p.from)
-method_at p (Some m) true args = if method_takes m args then Ok (method_gives m) else Err (WrongArguments p.from)
+method_at p (Some m) true args = if method_takes m args then Ok (method_result m) else Err (WrongArguments p.from)
 
 -- a metric alone, which is what methods are of
 abbrev pub is_metric : List ℕ → Tree → Bool
@@ -57,7 +57,7 @@ is_metric text (Variable p) = is_some (metric_named (part text p))
 is_metric text _ = false
 
 abbrev mutual
-  -- the type of an expression of a text, where these variables are set
+  -- the type of an expression of a text, if these variables are set
   pub type_of : List ℕ → scopes.Variables → Tree → Result ExprType TypeFault
   type_of text set (Numeral n p) = Ok (Value Double)
   type_of text set (Quoted p) = Ok (Value Text)
@@ -71,7 +71,8 @@ abbrev mutual
   type_of text set (Binary o p l r) =
       type_of text set l >>= (λ left. type_of text set r >>= (λ right. or_mismatch p (binary_type o left right)))
   type_of text set (Ternary p c y n) =
-      type_of text set c >>= (λ condition. type_of text set y >>= (λ first. type_of text set n >>= (λ second. or_mismatch p (ternary_type condition first second))))
+      type_of text set c >>= (λ condition. type_of text set y >>=
+      (λ first. type_of text set n >>= (λ second. or_mismatch p (ternary_type condition first second))))
 
   -- the types of arguments or items
   pub types_of : List ℕ → scopes.Variables → Trees → Result (List ExprType) TypeFault
@@ -79,7 +80,7 @@ abbrev mutual
   types_of text set (more front last) =
       types_of text set front >>= (λ types. type_of text set last >>= (λ type. Ok (types ++ type ∷ [])))
 
--- the variables once a name has a value of this type, where it had this one before or none
+-- the variables once a name has a value of this type, if it had a value of this type before or none
 abbrev pub set_to : scopes.Variables → Span → List ℕ → Option ValueType → ExprType → Result scopes.Variables TypeFault
 set_to set p name before Stop = Err (TypeMismatch p.from)
 set_to set p name None (Value value) = Ok (with_variable set name value)
@@ -91,12 +92,12 @@ assigned text set p type =
     if is_read_only (part text p) then Err (ReadOnly p.from)
     else set_to set p (part text p) (name_type set (part text p)) type
 
--- the variables behind a statement. Any expression may stand alone.
+-- the variables after a statement. Any expression can be a statement.
 abbrev pub statement_typed : List ℕ → scopes.Variables → StatementTree → Result scopes.Variables TypeFault
 statement_typed text set (Sets p t) = type_of text set t >>= assigned text set p
 statement_typed text set (Drops t) = type_of text set t >>= (λ dropped. Ok set)
 
--- the variables behind statements, one after the other
+-- the variables after statements, one after the other
 abbrev pub typed : List ℕ → scopes.Variables → List StatementTree → Result scopes.Variables TypeFault
 typed text set [] = Ok set
 typed text set (s ∷ ss) = statement_typed text set s >>= (λ next. typed text next ss)

@@ -27,7 +27,7 @@ fn tokens(alloc: Global, text: &str) -> Result<Vec<Token>, Fail<FormulaFault>>
     }
 }
 
-/// The statements that these tokens of a text are.
+/// The statements of these tokens of a text.
 fn statements(
     alloc: Global,
     text: &str,
@@ -55,7 +55,7 @@ fn types(alloc: Global, text: &str, statements: &[Statement]) -> Result<(), Fail
     }
 }
 
-/// The text as one of its own.
+/// A copy of the text.
 fn copied(alloc: Global, text: &str) -> Result<Text, AllocError>
     ensures { IfOk result (λ copy. copy ≡ text.now) }
 {
@@ -75,8 +75,8 @@ fn formula(
     Ok(Formula { text, statements })
 }
 
-/// The formula that a text is. Where it is none, the answer is its first fault, unless memory ran out. The whole text is lexed
-/// first, then it is read, then its statements get their types one by one.
+/// Compiles a text to a formula. The error is the text's first fault, or out of memory. The whole text is lexed first, then it is
+/// parsed, then its statements get their types one by one.
 pub fn compile(alloc: Global, text: &str) -> Result<Formula, Fail<FormulaFault>>
     ensures { OrFault text.now (λ formula. (formula.text ≡ text.now) × IsFormula text.now (statements_of formula.statements.items)) result }
 {
@@ -85,7 +85,7 @@ pub fn compile(alloc: Global, text: &str) -> Result<Formula, Fail<FormulaFault>>
     formula(alloc, text, statements)
 }
 
-/// A text is one formula, or it has one first fault.
+/// A text is exactly one formula, or it has exactly one first fault.
 pub fn one_answer()
     ensures formula_or_fault { (text : List ℕ) → ((ss : List StatementTree) × IsFormula text ss) ⊎ ((fault : AFault) × HasFault text fault) }
     ensures not_both { (text : List ℕ) (ss : List StatementTree) (fault : AFault) → IsFormula text ss → HasFault text fault → ⊥ }

@@ -1,4 +1,4 @@
-//! Why a text is no formula.
+//! Why a text is not a formula.
 ghost use Rattle.std.specs.Prelude.{◌≡◌};
 ghost use Rattle.formula_types.specs.Compiled.{of_lexical, of_syntax, of_type};
 

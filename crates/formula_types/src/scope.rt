@@ -1,5 +1,5 @@
 //! Parts of a formula's text, and the variables that it sets.
-ghost use Rattle.std.specs.Prelude.{◌≡◌, OnOk};
+ghost use Rattle.std.specs.Prelude.{◌≡◌, OnOk, OnErr};
 ghost use Rattle.formula_types.specs.Scopes.{part, nothing, name_type, with_variable};
 
 use bt_base::NoMemory;
@@ -8,26 +8,26 @@ use formula_names::{ValueType, fixed_type};
 use std::alloc::Global;
 use std::collections::BTreeMap;
 
-/// The formula's own variables that are set so far, each with the type that it got where it was set first. A look-up among n of
-/// them takes about log n comparisons.
+/// The formula's own variables that are set so far, each with the type of its first setting. A look-up among n of them takes about
+/// log n comparisons.
 #[derive(Drop)]
 pub struct Scope<'a> {
     types: BTreeMap<&'a [u8], ValueType>,
 }
 
-/// A part of a text. It takes no memory.
+/// A part of a text. It does not allocate.
 pub fn part(text: &[u8], span: Span) -> &[u8]
     ensures { result.now ≡ part text.now span }
 {
-    let behind = &text[span.from.min(text.len())..];
+    let rest = &text[span.from.min(text.len())..];
     let length = span.to.saturating_sub(span.from);
-    &behind[..length.min(behind.len())]
+    &rest[..length.min(rest.len())]
 }
 
 impl<'a> Scope<'a> {
     ghost use Rattle.formula_types.specs.View.{types_in};
 
-    /// No variables. It takes no memory.
+    /// No variables. It does not allocate.
     #[tactic(auto, unfolding(crate::specs::View::types_in))]
     pub fn new(alloc: Global) -> Scope<'a>
         ensures { types_in result ≡ nothing }
@@ -37,7 +37,7 @@ impl<'a> Scope<'a> {
         }
     }
 
-    /// The type of a name, if it has one: of the language's own names, and of variables that are set. It takes no memory.
+    /// The type of a name, if it has one: of the language's own names, and of variables that are set. It does not allocate.
     #[tactic(auto, unfolding(crate::specs::View::types_in))]
     pub fn name_type(&self, name: &[u8]) -> Option<ValueType>
         ensures { result ≡ name_type (types_in self.now) name.now }
@@ -48,9 +48,10 @@ impl<'a> Scope<'a> {
         }
     }
 
-    /// Gives a variable a type.
+    /// Sets the type of a variable. If memory runs out, nothing changes.
     pub fn set(&mut self, name: &'a [u8], value: ValueType) -> Result<(), NoMemory>
-        ensures { OnOk result (types_in self.new ≡ with_variable (types_in self.old) name.now value) }
+        ensures set { OnOk result (types_in self.new ≡ with_variable (types_in self.old) name.now value) }
+        ensures unchanged { OnErr result (types_in self.new ≡ types_in self.old) }
     {
         self.types.insert(name, value)?;
         Ok(())

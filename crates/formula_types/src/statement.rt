@@ -15,7 +15,7 @@ use formula_names::{ExprType, ValueType, common_type, is_read_only};
 use formula_trees::Statement;
 use std::alloc::Global;
 
-/// Sets the name at this part of the text to a value of this type, where it had one of that type before or none.
+/// Sets the name at this part of the text to a value of this type. Before, it has to have no value or one of that type.
 fn set<'a>(
     scope: &mut Scope<'a>,
     span: Span,
@@ -62,7 +62,7 @@ fn assign<'a>(
     }
 }
 
-/// Takes a statement behind those before it.
+/// The types of a statement, after those before it.
 fn take<'a>(
     alloc: Global,
     text: &'a [u8],
@@ -83,7 +83,7 @@ fn take<'a>(
     }
 }
 
-/// The variables behind the statements of a formula, or their first fault.
+/// The variables after the statements of a formula, or their first fault.
 pub fn check<'a>(
     alloc: Global,
     text: &'a [u8],

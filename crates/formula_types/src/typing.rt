@@ -18,14 +18,14 @@ use crate::scope::{Scope, part};
 use bt_base::Fail;
 use formula_lex::Span;
 use formula_names::{
-    ExprType, ValueType, are_doubles, binary_type, function_gives, function_named, function_takes,
-    is_timestamp, member_named, method_gives, method_named, method_takes, metric_named,
+    ExprType, ValueType, are_doubles, binary_type, function_named, function_result, function_takes,
+    is_timestamp, member_named, method_named, method_result, method_takes, metric_named,
     ternary_type, unary_type,
 };
 use formula_trees::Expr;
 use std::alloc::{AllocError, Global};
 
-/// The type that an operator gives, unless its operands do not go together.
+/// The type of an operator's result, unless its operands do not go together.
 fn or_mismatch(span: Span, found: Option<ExprType>) -> Result<ExprType, Fail<TypeFault>>
     ensures { Gives result (or_mismatch span found) }
 {
@@ -53,7 +53,7 @@ fn call_at(text: &[u8], span: Span, arguments: &[ExprType]) -> Result<ExprType, 
         None => Err(Fail::Why(TypeFault::UnknownName(span.from))),
         Some(function) => {
             if function_takes(function, arguments) {
-                Ok(function_gives(function))
+                Ok(function_result(function))
             } else {
                 Err(Fail::Why(TypeFault::WrongArguments(span.from)))
             }
@@ -103,7 +103,7 @@ fn method_at(
             if !is_metric {
                 Err(Fail::Why(TypeFault::TypeMismatch(span.from)))
             } else if method_takes(method, arguments) {
-                Ok(method_gives(method))
+                Ok(method_result(method))
             } else {
                 Err(Fail::Why(TypeFault::WrongArguments(span.from)))
             }
@@ -210,7 +210,7 @@ fn node_type(
     }
 }
 
-/// The type of an expression, or its first fault. Operators that group to the left can be nested as deep as the text is long: a
+/// The type of an expression, or its first fault. Operators that group to the left can be nested as deep as the text is long, so a
 /// loop goes through them.
 #[cycle(typing)]
 pub fn type_of(
@@ -229,7 +229,7 @@ pub fn type_of(
     Ok(found)
 }
 
-/// A type is found exactly where the rules give it.
+/// An expression gets a type exactly if the rules allow it.
 pub fn types_by_rules()
     ensures { (text : List ℕ) (set : scopes.Variables) (tree : Tree) (found : AType) → type_of text set tree ≡ Ok found ↔ HasType text set tree found }
 {}

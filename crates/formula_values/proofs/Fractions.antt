@@ -8,7 +8,7 @@ abs_neg : (n : ℕ) → unsigned_abs (neg_ℤ (pos n)) ≡ n
 abs_neg zero = refl
 abs_neg (suc n) = refl
 
--- a whole part is no farther from zero than what is divided
+-- a whole part is not farther from zero than what is divided
 pub fraction_abs : (over under : ℤ) → unsigned_abs (int_div over under) ≤ unsigned_abs over
 fraction_abs (pos a) (pos b) = div-le_self a b
 fraction_abs (pos a) (negsuc b) = rw (abs_neg (a / suc b)) (div-le_self a (suc b))

@@ -13,7 +13,7 @@ pub record IsRoot (root n : ℕ) : Type 0 where
   pub at_most : root * root ≤ n
   pub above : n < (root + 1) * (root + 1)
 
--- what has a square at most a number is no more than its root
+-- what has a square at most a number is at most its root
 at_most_root : (r q n : ℕ) → r * r ≤ n → n < (q + 1) * (q + 1) → r ≤ q
 at_most_root r q n low high =
     elim (cases_lt q r) [ inl h ↦ absurd (let more : (q + 1) * (q + 1) ≤ r * r = mul-le-mul (omega arith) (omega arith) in omega arith) | inr h ↦ h ]
@@ -32,16 +32,20 @@ bounded-past : (r : ℕ) → 1000000000000000001 ≤ r → bounded (pos r) ≡ E
 unfolding bounded
 bounded-past r h = let past : nat_le r 1000000000000000000 ≡ false = grind (arith, nat_tests) in rw past refl
 
-same_bounds : (most past s n root : ℕ) (over : (r : ℕ) → most ≤ r → bounded (pos r) ≡ Err TooLarge) → past ≡ most * most → s ≡ min n past → IsRoot root s → bounded (pos root) ≡ bounded (pos (square_root n))
+same_bounds : (most past s n root : ℕ) (over : (r : ℕ) → most ≤ r → bounded (pos r) ≡ Err TooLarge) → past ≡ most * most → s ≡ min n past → IsRoot root s →
+    bounded (pos root) ≡ bounded (pos (square_root n))
 same_bounds most past s n root over e is at =
     let root_of = square_root-is n in
     elim (cases_lt n past) [
       | inl h ↦
           let all : s ≡ n = omega arith in
-          ap (λ (r : ℕ). bounded (pos r)) (le_antisymm (at_most_root root (square_root n) n (omega (arith, at.at_most)) root_of.above) (at_most_root (square_root n) root n root_of.at_most (omega (arith, at.above))))
+          ap (λ (r : ℕ). bounded (pos r))
+          (le_antisymm (at_most_root root (square_root n) n (omega (arith, at.at_most)) root_of.above)
+          (at_most_root (square_root n) root n root_of.at_most (omega (arith, at.above))))
       | inr h ↦
           let capped : s ≡ past = omega arith in
-          over root (at_most_root most root s (omega arith) at.above) ∙ sym (over (square_root n) (at_most_root most (square_root n) n (omega arith) root_of.above))
+          over root (at_most_root most root s (omega arith) at.above)
+          ∙ sym (over (square_root n) (at_most_root most (square_root n) n (omega arith) root_of.above))
     ]
 
 -- the root of a sum that is kept up to the square of the first number that is too large

@@ -1,7 +1,8 @@
 -- The names of faults.
 use Rattle.std.specs.Prelude.{ℕ, List, codes}
 use Rattle.formula_values.specs.declared.fault.ValueFault.{ValueFault}
-use Rattle.formula_values.specs.declared.fault.ValueFault.TheVariants.{DivideByZero, TooLarge, EmptyVector, IndexOutOfRange, LengthsDiffer, NotEnoughSamples, NegativeTarget, TargetTooLarge, NotAnOption, BadTimeText, TimeOutOfRange}
+use Rattle.formula_values.specs.declared.fault.ValueFault.TheVariants.{DivideByZero, TooLarge, EmptyVector, IndexOutOfRange, LengthsDiffer, NotEnoughSamples}
+use Rattle.formula_values.specs.declared.fault.ValueFault.TheVariants.{NegativeTarget, TargetTooLarge, NotAnOption, BadTimeText, TimeOutOfRange}
 
 abbrev pub fault_name : ValueFault → List ℕ
 fault_name DivideByZero = codes "DivideByZero"

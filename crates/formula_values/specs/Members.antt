@@ -18,7 +18,7 @@ member_of Hour shown = shown.hour
 member_of Minute shown = shown.minute
 member_of Second shown = shown.second
 
--- what a member of a timestamp gives, in UTC. Other values have no members in any formula, and give 0 here.
+-- the value of a member of a timestamp, in UTC. Other values have no members in any formula; here theirs are 0.
 abbrev pub member_value : Member → Value → Value
 member_value member (Timestamp t) = whole_value (member_of member (civil_of (unsigned_abs t)))
 member_value member _ = whole_value 0

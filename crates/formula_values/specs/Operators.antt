@@ -1,4 +1,4 @@
--- What operators give. What an operator does not take is in no formula; there the definitions give the left operand.
+-- The results of operators. What an operator does not take is in no formula; there the result is the left operand.
 use Rattle.std.specs.Prelude.{◌==◌, ◌&&◌, ◌||◌, ℤ, pos, ◌+ℤ◌, ◌-ℤ◌, ◌*ℤ◌, List, [], ◌∷◌, length, Result, Ok, Err, if◌then◌else◌}
 use Rattle.std.specs.declared.cmp.Ordering.{Ordering}
 use Rattle.std.specs.declared.cmp.Ordering.TheVariants.{Equal}
@@ -17,12 +17,12 @@ use Rattle.formula_values.specs.declared.value.Value.{Value}
 use Rattle.formula_values.specs.declared.value.Value.TheVariants.{Double, DoubleVec, Text, Timestamp, TimeInterval}
 use Rattle.formula_values.specs.Values.{truth, is_true, of_number, double_of, interval_value, timestamp_value}
 
--- a step of each item, or the first fault
+-- an operation on each item, or the first fault
 abbrev pub each : (ℤ → Result ℤ NumFault) → List ℤ → Result (List ℤ) NumFault
 each step [] = Ok []
 each step (x ∷ xs) = step x >>= (λ y. each step xs >>= (λ ys. Ok (y ∷ ys)))
 
--- a step of each two items that stand at the same index, or the first fault
+-- an operation on each two items of the same index, or the first fault
 abbrev pub each_two : (ℤ → ℤ → Result ℤ NumFault) → List ℤ → List ℤ → Result (List ℤ) NumFault
 each_two step (x ∷ xs) (y ∷ ys) = step x y >>= (λ z. each_two step xs ys >>= (λ zs. Ok (z ∷ zs)))
 each_two step _ _ = Ok []
@@ -32,11 +32,11 @@ abbrev pub vector_of : Result (List ℤ) NumFault → Result Value ValueFault
 vector_of (Ok items) = Ok (DoubleVec items)
 vector_of (Err fault) = Err (of_number fault)
 
--- two vectors go together only if they are as long
+-- two vectors go together only if they have the same length
 abbrev pub both_vectors : (ℤ → ℤ → Result ℤ NumFault) → List ℤ → List ℤ → Result Value ValueFault
 both_vectors step v w = if length v == length w then vector_of (each_two step v w) else Err LengthsDiffer
 
--- a step of doubles; with a vector a double or a vector goes item by item
+-- an operation on doubles; with a vector it is done item by item
 abbrev pub numeric : (ℤ → ℤ → Result ℤ NumFault) → Value → Value → Result Value ValueFault
 numeric step (Double a) (Double b) = double_of (step a b)
 numeric step (Double a) (DoubleVec w) = vector_of (each (step a) w)
@@ -81,7 +81,7 @@ order_of (Timestamp a) (Timestamp b) = int_cmp a b
 order_of (TimeInterval a) (TimeInterval b) = int_cmp a b
 order_of a b = Equal
 
--- what a binary operator gives
+-- the result of a binary operator
 abbrev pub binary_value : BinaryOperator → Value → Value → Result Value ValueFault
 binary_value operators.Or a b = Ok (truth (is_true a || is_true b))
 binary_value operators.And a b = Ok (truth (is_true a && is_true b))
@@ -108,7 +108,7 @@ abbrev pub inverted : Value → Result Value ValueFault
 inverted (Double a) = Ok (truth (int_eq a (pos 0)))
 inverted a = Ok a
 
--- what a unary operator gives
+-- the result of a unary operator
 abbrev pub unary_value : UnaryOperator → Value → Result Value ValueFault
 unary_value Negate a = negated a
 unary_value Invert a = inverted a

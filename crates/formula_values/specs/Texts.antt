@@ -7,23 +7,23 @@ use Rattle.bt_times.specs.Civils.{civil_of}
 use Rattle.formula_values.specs.declared.value.Value.{Value}
 use Rattle.formula_values.specs.declared.value.Value.TheVariants.{Double, DoubleVec, Text, Timestamp, TimeInterval}
 
--- so many digits of a number, from its last one on
+-- the last digits of a number, of the given count
 abbrev pub places : ℕ → ℕ → List ℕ
 places zero n = []
 places (suc more) n = places more (n / 10) ++ (48 + n % 10) ∷ []
 
--- a date and a time of day, with so many units of 100 ns past the second, as ISO 8601 writes them
+-- a date and a time of day, with `units` of 100 ns past the second, as ISO 8601 writes them
 unfoldable pub time_text : Civil → ℕ → List ℕ
 time_text shown units =
     places 4 shown.year ++ codes "-" ++ places 2 shown.month ++ codes "-" ++ places 2 shown.day
     ++ codes "T" ++ places 2 shown.hour ++ codes ":" ++ places 2 shown.minute ++ codes ":" ++ places 2 shown.second
     ++ codes "." ++ places 7 units ++ codes "Z"
 
--- a timestamp of so many units since 1970
+-- a timestamp, in units of 100 ns since 1970
 abbrev pub timestamp_text : ℕ → List ℕ
 timestamp_text t = time_text (civil_of t) (t % 10000000)
 
--- numbers behind one, each behind a comma
+-- numbers after one, each after a comma
 abbrev pub more_items : List ℤ → List ℕ
 more_items [] = []
 more_items (x ∷ xs) = 44 ∷ number_text x ++ more_items xs

@@ -42,7 +42,7 @@ timestamp_value t = if is_timestamp t then Ok (Timestamp t) else Err TimeOutOfRa
 abbrev pub interval_value : ℤ → Result Value ValueFault
 interval_value t = if is_interval t then Ok (TimeInterval t) else Err TimeOutOfRange
 
--- The value of what has none: of operands and arguments that do not go together, and of names that nothing has. No formula has
+-- A value in place of one that does not exist: of operands and arguments that do not go together, and of names that are not set. No formula has
 -- them, since each of its expressions has a type.
 abbrev pub no_value : Result Value ValueFault
 no_value = Ok (whole_value 0)

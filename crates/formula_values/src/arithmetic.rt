@@ -11,7 +11,7 @@ use crate::value::Value;
 use bt_base::{Duplicate, Fail, List, Num, NumFault};
 use std::alloc::Global;
 
-/// A step of two doubles.
+/// An operation on two doubles.
 #[derive(Clone, Copy, Debug, PartialEq, Eq)]
 pub(crate) enum Arithmetic {
     Add,
@@ -43,7 +43,7 @@ pub(crate) fn zero() -> Num
     }
 }
 
-/// The number of so many millionths; `TooLarge` past the greatest magnitude.
+/// The number of these millionths. `TooLarge` past the greatest magnitude.
 #[tactic(auto, unfolding(bt_base::specs::Numbers::bounded))]
 pub(crate) fn bounded(millionths: i128) -> Result<Num, NumFault>
     ensures { result ≡ bounded millionths }
@@ -61,7 +61,7 @@ pub(crate) fn double_of(number: Result<Num, NumFault>) -> Result<Value, ValueFau
     Ok(Value::Double(number?))
 }
 
-/// A step of doubles. With a vector, a double or a vector of as many items goes item by item.
+/// An operation on doubles. With a vector, a double or a vector of the same length, it is done item by item.
 pub(crate) fn numeric(
     alloc: Global,
     step: Arithmetic,
@@ -119,7 +119,7 @@ fn items_with_double(
     Ok(Value::DoubleVec(List::of_vec(numbers)))
 }
 
-/// Two vectors, item by item. `LengthsDiffer` goes before the fault of any item.
+/// Two vectors, item by item. `LengthsDiffer` comes before the fault of any item.
 fn both_vectors(
     alloc: Global,
     step: Arithmetic,

@@ -1,10 +1,10 @@
-//! Why an operator, a function or a method gives no value.
+//! Why an operator, a function or a method has no result.
 ghost use Rattle.std.specs.Prelude.{◌≡◌};
 ghost use Rattle.formula_values.specs.Faults.{fault_name};
 
 use bt_base::{Num, NumFault};
 
-/// Why there is no value.
+/// Why an expression has no value.
 #[derive(Clone, Copy, Debug, PartialEq, Eq)]
 pub enum ValueFault {
     /// The divisor is zero.
@@ -13,26 +13,26 @@ pub enum ValueFault {
     TooLarge,
     /// There is no item to take, or no sample.
     EmptyVector,
-    /// No item has this index, the percentile is not from 0 to 100, or fewer than no samples are asked for.
+    /// No item has this index, the percentile is not from 0 to 100, or the number of samples that is asked for is below 0.
     IndexOutOfRange,
     /// Two vectors that go together item by item have different numbers of items.
     LengthsDiffer,
-    /// The percentage of samples that there are is below the one that is asked for: the first of these is below the second.
+    /// The percentage of samples that exist is below the one that is asked for: the first of these is below the second.
     NotEnoughSamples(Num, Num),
     /// The target is below 0.
     NegativeTarget,
     /// The target is above the greatest one.
     TargetTooLarge,
-    /// The text is none of the four words for what becomes of the tasks of a node that leaves.
+    /// The text is not one of the four node deallocation options.
     NotAnOption,
-    /// The text shows no time.
+    /// The text is not a time.
     BadTimeText,
     /// The timestamp is before 1970 or after the year 9999, or the timeinterval is longer than 3,650,000 days.
     TimeOutOfRange,
 }
 
 impl ValueFault {
-    /// The fault's name. It takes no memory.
+    /// The fault's name. It does not allocate.
     pub fn name(self) -> &'static str
         ensures { result.now ≡ fault_name self }
     {

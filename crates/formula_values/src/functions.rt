@@ -1,4 +1,4 @@
-//! What functions give.
+//! The results of functions.
 ghost use Rattle.std.specs.Prelude.{◌≡◌};
 ghost use Rattle.bt_base.specs.Fails.{Gives};
 ghost use Rattle.formula_values.specs.Values.{no_value};
@@ -18,8 +18,8 @@ use bt_times::{TimeFault, instant};
 use formula_names::Function;
 use std::alloc::Global;
 
-/// What a function gives at this moment with these arguments. `EmptyVector`, `IndexOutOfRange`, `TooLarge`, `BadTimeText` and
-/// `TimeOutOfRange` come as they are defined.
+/// The result of a function at this moment with these arguments. `EmptyVector`, `IndexOutOfRange`, `TooLarge`, `BadTimeText` and
+/// `TimeOutOfRange` come as `ValueFault` says.
 pub fn call(
     alloc: Global,
     function: Function,
@@ -96,7 +96,7 @@ fn val(arguments: &[Value]) -> Result<Value, ValueFault>
     }
 }
 
-/// The item at an index, which counts from 0; `IndexOutOfRange` where there is none.
+/// The item at an index, which counts from 0. `IndexOutOfRange` if there is none.
 fn item_at(items: &[Num], index: i64) -> Result<Value, ValueFault>
     ensures { result ≡ item_at items.now index }
 {
@@ -136,7 +136,7 @@ fn round(arguments: &[Value]) -> Result<Value, ValueFault>
     }
 }
 
-/// The present moment, or the time that a text shows.
+/// The present moment, or the time of a text.
 fn time(arguments: &[Value], now: Moment) -> Result<Value, ValueFault>
     ensures { result ≡ time_value now arguments.now }
 {
@@ -147,7 +147,7 @@ fn time(arguments: &[Value], now: Moment) -> Result<Value, ValueFault>
     }
 }
 
-/// The timestamp that a text shows.
+/// The timestamp of a text.
 fn time_read(text: &str) -> Result<Value, ValueFault>
     ensures { result ≡ time_read (read_instant text.now) }
 {

@@ -1,4 +1,4 @@
-//! Functions of doubles and vectors that are taken as one list.
+//! Functions of doubles and vectors, whose items are taken as one list.
 ghost use Rattle.std.specs.Prelude.{◌≡◌, ◌++◌, IfOk};
 ghost use Rattle.formula_values.specs.Functions.{doubles_of, flattened, total, sum_of_items, average, greater_of, less_of, greatest, least, greatest_item, least_item, range_of_items};
 
@@ -8,7 +8,7 @@ use crate::value::Value;
 use bt_base::{NoMemory, Num};
 use std::alloc::Global;
 
-/// The doubles of values, one after the other: a double is one, a vector has its items, other values have none.
+/// The doubles of values, one after the other: a double itself, and the items of a vector. Other values have no doubles.
 pub fn flattened(alloc: Global, values: &[Value]) -> Result<Vec<Num>, NoMemory>
     ensures { IfOk result (λ items. items.items ≡ flattened values.now) }
 {
@@ -37,7 +37,7 @@ pub(crate) fn sum_of_items(items: &[Num]) -> Result<Value, ValueFault>
     double_of(bounded(total(items)))
 }
 
-/// The exact sum over the number of items, cut after six decimals; `EmptyVector` where there is none.
+/// The exact sum over the number of items, cut after six decimals; `EmptyVector` if there is none.
 pub(crate) fn average(items: &[Num]) -> Result<Value, ValueFault>
     ensures { result ≡ average items.now }
 {
@@ -58,7 +58,7 @@ fn total(items: &[Num]) -> i128
     sum
 }
 
-/// The greatest item; `EmptyVector` where there is none.
+/// The greatest item; `EmptyVector` if there is none.
 pub(crate) fn greatest_item(items: &[Num]) -> Result<Value, ValueFault>
     ensures { result ≡ greatest_item items.now }
 {
@@ -68,7 +68,7 @@ pub(crate) fn greatest_item(items: &[Num]) -> Result<Value, ValueFault>
     }
 }
 
-/// The least item; `EmptyVector` where there is none.
+/// The least item; `EmptyVector` if there is none.
 pub(crate) fn least_item(items: &[Num]) -> Result<Value, ValueFault>
     ensures { result ≡ least_item items.now }
 {
@@ -78,7 +78,7 @@ pub(crate) fn least_item(items: &[Num]) -> Result<Value, ValueFault>
     }
 }
 
-/// The greatest item less the least one; `EmptyVector` where there is none, `TooLarge` past the greatest magnitude.
+/// The greatest item less the least one; `EmptyVector` if there is none, `TooLarge` past the greatest magnitude.
 pub(crate) fn range_of_items(items: &[Num]) -> Result<Value, ValueFault>
     ensures { result ≡ range_of_items items.now }
 {

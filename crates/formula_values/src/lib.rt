@@ -1,4 +1,4 @@
-//! Values of formulas: what operators, functions and members give, and the texts of values.
+//! Values of formulas: the results of operators, functions and members, and the texts of values.
 #![tactic(auto)]
 
 mod arithmetic;

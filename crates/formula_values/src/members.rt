@@ -6,7 +6,7 @@ use crate::value::{Value, whole};
 use bt_times::{Civil, civil};
 use formula_names::Member;
 
-/// What a member gives: a part of what calendars and clocks in UTC show at a timestamp. It takes no memory.
+/// The value of a member: a part of what calendars and clocks in UTC show at a timestamp. It does not allocate.
 pub fn member(member: Member, operand: &Value) -> Value
     ensures { result ≡ member_value member operand.now }
 {

@@ -15,7 +15,8 @@ pub(crate) fn norm_of(items: &[Num]) -> Result<Value, ValueFault>
     double_of(bounded(root as i128))
 }
 
-/// The square of one more than the millionths of the greatest magnitude: what stands for each sum past it.
+/// The square of one more than the millionths of the greatest magnitude. It represents each sum past it, so that sums stay within
+/// 128 bits.
 const PAST: u128 = 1_000_000_000_000_000_002_000_000_000_000_000_001;
 
 /// The sum of the squares of the items' millionths, up to `PAST`.

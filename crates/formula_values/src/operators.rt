@@ -1,4 +1,4 @@
-//! What operators give.
+//! The results of operators.
 ghost use Rattle.std.specs.Prelude.{◌≡◌, ◌≢◌, ◌+ℤ◌, ◌-ℤ◌, ◌*ℤ◌, pos};
 ghost use Rattle.bt_base.specs.Fails.{Gives};
 ghost use Rattle.bt_base.specs.Numbers.{cut};
@@ -15,7 +15,7 @@ use formula_trees::UnaryOperator;
 use std::alloc::Global;
 use std::cmp::Ordering;
 
-/// Whether a value is true: a double other than 0. It takes no memory.
+/// Whether a value is true: a double other than 0. It does not allocate.
 pub fn is_true(value: &Value) -> bool
     ensures { result ≡ is_nonzero value.now }
 {
@@ -25,14 +25,14 @@ pub fn is_true(value: &Value) -> bool
     }
 }
 
-/// The double 1 for what holds, 0 for what does not. It takes no memory.
+/// The double 1 for what holds, 0 for what does not. It does not allocate.
 pub fn truth(holds: bool) -> Value
     ensures { result ≡ truth_value holds }
 {
     if holds { whole(1) } else { whole(0) }
 }
 
-/// What a unary operator gives.
+/// The result of a unary operator.
 pub fn unary(
     alloc: Global,
     operator: UnaryOperator,
@@ -71,8 +71,8 @@ fn inverted(operand: &Value) -> Result<Value, Fail<ValueFault>>
     }
 }
 
-/// What a binary operator gives. `DivideByZero`, `TooLarge`, `LengthsDiffer` and `TimeOutOfRange` come as they are defined, at
-/// vectors for the first items that have a fault.
+/// The result of a binary operator. `DivideByZero`, `TooLarge`, `LengthsDiffer` and `TimeOutOfRange` come as `ValueFault` says; of
+/// vectors, for the first items that have a fault.
 pub fn binary(
     alloc: Global,
     operator: BinaryOperator,

@@ -4,7 +4,7 @@ ghost use Rattle.formula_values.specs.Functions.{floor_of, ceil_of, round_of};
 
 use bt_base::Num;
 
-/// The greatest whole number that is at most this number. It takes no memory.
+/// The greatest whole number that is at most this number. It does not allocate.
 pub fn floor_of(number: Num) -> i64
     ensures { result ≡ floor_of number }
 {
@@ -19,7 +19,7 @@ pub(crate) fn ceil_of(number: Num) -> i64
     -(below as i64)
 }
 
-/// The whole number that is nearest to this number; of two, the one away from zero.
+/// The whole number that is nearest to this number; of two, the one farther from zero.
 pub(crate) fn round_of(number: Num) -> i64
     ensures { result ≡ round_of number }
 {

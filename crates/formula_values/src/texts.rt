@@ -49,7 +49,7 @@ fn push_items(alloc: Global, text: &mut String, items: &[Num]) -> Result<(), NoM
     }
 }
 
-/// Appends numbers, each behind a comma.
+/// Appends numbers, each after a comma.
 fn push_more(alloc: Global, text: &mut String, items: &[Num]) -> Result<(), NoMemory>
     ensures { IfOk result (λ _. string_bytes text.new ≡ string_bytes text.old ++ more_items items.now) }
 {
@@ -69,7 +69,7 @@ fn timestamp_text(alloc: Global, time: Timestamp) -> Result<Text, NoMemory>
     Ok(Text::of_string(text))
 }
 
-/// Appends a date and a time of day, with so many units of 100 ns past the second, as ISO 8601 writes them.
+/// Appends a date and a time of day, with `units` of 100 ns past the second, as ISO 8601 writes them.
 #[tactic(auto, unfolding(crate::specs::Texts::time_text))]
 fn push_time(text: &mut String, shown: Civil, units: u32) -> Result<(), NoMemory>
     ensures { IfOk result (λ _. string_bytes text.new ≡ string_bytes text.old ++ time_text shown units) }
@@ -84,7 +84,7 @@ fn push_time(text: &mut String, shown: Civil, units: u32) -> Result<(), NoMemory
     Ok(())
 }
 
-/// Appends so many digits of a number, from its last one on, and an ASCII mark behind them.
+/// Appends the last `count` digits of a number, and an ASCII mark after them.
 fn push_part(text: &mut String, count: u32, number: u32, mark: char) -> Result<(), NoMemory>
     requires { mark < 128 }
     ensures { IfOk result (λ _. string_bytes text.new ≡ string_bytes text.old ++ (places count number ++ mark ∷ [])) }
@@ -94,7 +94,7 @@ fn push_part(text: &mut String, count: u32, number: u32, mark: char) -> Result<(
     Ok(())
 }
 
-/// Appends so many digits of a number, from its last one on.
+/// Appends the last `count` digits of a number.
 fn push_places(text: &mut String, count: u32, number: u32) -> Result<(), NoMemory>
     ensures { IfOk result (λ _. string_bytes text.new ≡ string_bytes text.old ++ places count number) }
 {

@@ -9,8 +9,7 @@ use crate::value::Value;
 use bt_base::Moment;
 use std::marker::Model;
 
-/// A timestamp, in units of 100 ns since 1970-01-01T00:00:00Z, up to the end of the year 9999. Contracts see it as this
-/// number.
+/// A timestamp, in units of 100 ns since 1970-01-01T00:00:00Z, up to `LAST`. Contracts see it as this number.
 #[derive(Clone, Copy, Debug, PartialEq, Eq, PartialOrd, Ord)]
 pub struct Timestamp {
     units: i64,
@@ -29,7 +28,7 @@ impl Model for Timestamp {
     ghost inverse = { λ z. record { units = z } };
 }
 
-/// A timeinterval, in units of 100 ns, of magnitude at most 3,650,000 days. Contracts see it as this number.
+/// A timeinterval, in units of 100 ns, from `SHORTEST` to `LONGEST`. Contracts see it as this number.
 #[derive(Clone, Copy, Debug, PartialEq, Eq, PartialOrd, Ord)]
 pub struct TimeInterval {
     units: i64,
@@ -48,17 +47,20 @@ impl Model for TimeInterval {
     ghost inverse = { λ z. record { units = z } };
 }
 
-/// The last unit of the year 9999.
-const LAST: i64 = 2_534_023_007_999_999_999;
+/// The last unit of 100 ns of the year 9999, counted from 1970.
+pub const LAST: i64 = 2_534_023_007_999_999_999;
 
-/// The units of 3,650,000 days.
-const LONGEST: i64 = 3_153_600_000_000_000_000;
+/// The greatest timeinterval: 3,650,000 days, in units of 100 ns.
+pub const LONGEST: i64 = 3_153_600_000_000_000_000;
 
-/// The units of a millisecond.
+/// The least timeinterval: 3,650,000 days back.
+pub const SHORTEST: i64 = -3_153_600_000_000_000_000;
+
+/// The units of 100 ns in a millisecond.
 const MILLISECOND: u64 = 10_000;
 
 impl Timestamp {
-    /// The timestamp of so many units since 1970; none before it and after the year 9999. It takes no memory.
+    /// The timestamp of `units` of 100 ns since 1970. None before 1970 and after the year 9999. It does not allocate.
     pub fn of_units(units: i64) -> Option<Timestamp>
         ensures { result ≡ timestamp_of units }
     {
@@ -69,7 +71,7 @@ impl Timestamp {
         }
     }
 
-    /// The timestamp of a moment. It takes no memory.
+    /// The timestamp of a moment. It does not allocate.
     pub fn of_moment(moment: Moment) -> Timestamp
         ensures { result ≡ pos (10000 * moment) }
     {
@@ -89,11 +91,11 @@ impl Timestamp {
 }
 
 impl TimeInterval {
-    /// The timeinterval of so many units; none past 3,650,000 days. It takes no memory.
+    /// The timeinterval of `units` of 100 ns. None past 3,650,000 days. It does not allocate.
     pub fn of_units(units: i64) -> Option<TimeInterval>
         ensures { result ≡ interval_of units }
     {
-        if -LONGEST <= units && units <= LONGEST {
+        if SHORTEST <= units && units <= LONGEST {
             Some(TimeInterval { units })
         } else {
             None
@@ -109,7 +111,7 @@ impl TimeInterval {
     }
 }
 
-/// The timestamp of so many units since 1970; `TimeOutOfRange` before it and after the year 9999. It takes no memory.
+/// The timestamp of `units` of 100 ns since 1970. `TimeOutOfRange` before 1970 and after the year 9999. It does not allocate.
 pub fn timestamp_value(units: i128) -> Result<Value, ValueFault>
     ensures { result ≡ timestamp_value units }
 {
@@ -122,11 +124,11 @@ pub fn timestamp_value(units: i128) -> Result<Value, ValueFault>
     }
 }
 
-/// The timeinterval of so many units; `TimeOutOfRange` past 3,650,000 days. It takes no memory.
+/// The timeinterval of `units` of 100 ns. `TimeOutOfRange` past 3,650,000 days. It does not allocate.
 pub fn interval_value(units: i128) -> Result<Value, ValueFault>
     ensures { result ≡ interval_value units }
 {
-    if -i128::from(LONGEST) <= units && units <= i128::from(LONGEST) {
+    if i128::from(SHORTEST) <= units && units <= i128::from(LONGEST) {
         Ok(Value::TimeInterval(TimeInterval {
             units: units as i64,
         }))

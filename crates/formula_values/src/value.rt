@@ -1,11 +1,11 @@
-//! Values.
+//! Values of expressions.
 ghost use Rattle.std.specs.Prelude.{◌≡◌};
 ghost use Rattle.formula_values.specs.Values.{whole_value};
 
 use crate::times::{TimeInterval, Timestamp};
 use bt_base::{Duplicate, List, NoMemory, Num, Text};
 
-/// A value.
+/// The value of an expression.
 #[derive(Debug, Drop)]
 pub enum Value {
     Double(Num),
@@ -28,7 +28,7 @@ impl Duplicate for Value {
     }
 }
 
-/// The double that is this whole number. It takes no memory.
+/// The double that is this whole number. It does not allocate.
 pub fn whole(number: u32) -> Value
     ensures { result ≡ whole_value number }
 {

@@ -16,10 +16,12 @@ down-preserved c =
       λ text metrics now set.
           ap (λ es. through text metrics now set es (value_of text metrics now set (tree_of c.in-Some.operand.now))) pushed
           ∙ through_push text metrics now set c.down.nodes.items c.down.inner (value_of text metrics now set (tree_of c.in-Some.operand.now))
-          ∙ ap (through text metrics now set c.down.nodes.items) (sym (value_by_first text metrics now set (tree_of c.down.inner.now) (tree_of c.in-Some.operand.now) (whole_value 0) c.in-Some.ensures.value))
+          ∙ ap (through text metrics now set c.down.nodes.items)
+          (sym (value_by_first text metrics now set (tree_of c.down.inner.now) (tree_of c.in-Some.operand.now) (whole_value 0) c.in-Some.ensures.value))
           ∙ c.down.invariant.0 text metrics now set,
       omega (arith, c.in-Some.ensures.within, c.down.invariant.1),
-      subst Fits (sym pushed) (All-push (λ (e : Bor Expr). size-Expr e.now ≤ size-Expr c.args.expr.now) c.down.nodes.items c.down.inner c.down.invariant.2 c.down.invariant.1),
+      subst Fits (sym pushed) (All-push
+          (λ (e : Bor Expr). size-Expr e.now ≤ size-Expr c.args.expr.now) c.down.nodes.items c.down.inner c.down.invariant.2 c.down.invariant.1),
     )
 
 pub returns-clause-value : goal.returns-clause-value

@@ -9,6 +9,7 @@ use Rattle.formula_eval.proofs.spine.spine.Given as goal
 
 abbrev pub invariant-down : goal.invariant-down
 invariant-down l =
-    ((text : List ℕ) (metrics : Metrics) (now : ℕ) (set : Outcome) → through text metrics now set l.nodes.items (value_of text metrics now set (tree_of l.inner)) ≡ value_of text metrics now set (tree_of l.expr))
+    ((text : List ℕ) (metrics : Metrics) (now : ℕ) (set : Outcome) →
+    through text metrics now set l.nodes.items (value_of text metrics now set (tree_of l.inner)) ≡ value_of text metrics now set (tree_of l.expr))
     × (size-Expr l.inner ≤ size-Expr l.expr)
     × All (λ node. size-Expr node.now ≤ size-Expr l.expr) l.nodes.items

@@ -2,12 +2,13 @@ use Rattle.std.proofs.Common.{◌≡◌, ◌≤◌, ◌+◌, ◌*◌, [], Ok, Al
 use Rattle.formula_trees.specs.declared.tree.Expr.{size-Expr}
 use Rattle.formula_trees.specs.View.{tree_of}
 use Rattle.formula_eval.specs.Evaluation.{value_of}
-use Rattle.formula_eval.specs.Walks.{through, values_behind}
+use Rattle.formula_eval.specs.Walks.{through, values_after}
 use Rattle.formula_eval.proofs.values.+values.Given as goal
 
 abbrev pub invariant-value_of-up : goal.invariant-value_of-up
 invariant-value_of-up l =
-    (through l.scene.text.now l.scene.metrics.now l.scene.now l.scene.set.now l.nodes.items (Ok l.found) ≡ value_of l.scene.text.now l.scene.metrics.now l.scene.now l.scene.set.now (tree_of l.expr))
+    (through l.context.text.now l.context.metrics.now l.context.now l.context.set.now l.nodes.items (Ok l.found)
+    ≡ value_of l.context.text.now l.context.metrics.now l.context.now l.context.set.now (tree_of l.expr))
     × All (λ node. size-Expr node.now ≤ size-Expr l.expr) l.nodes.items
 
 abbrev pub decreases-value_of-up : goal.decreases-value_of-up
@@ -15,7 +16,8 @@ decreases-value_of-up l = length l.nodes.items
 
 abbrev pub invariant-values_of-loop-item : goal.invariant-values_of-loop-item
 invariant-values_of-loop-item l =
-    values_behind l.scene.text.now l.scene.metrics.now l.scene.now l.scene.set.now l.values.items (drop l.item-index l.items) ≡ values_behind l.scene.text.now l.scene.metrics.now l.scene.now l.scene.set.now [] l.items
+    values_after l.context.text.now l.context.metrics.now l.context.now l.context.set.now l.values.items (drop l.item-index l.items)
+    ≡ values_after l.context.text.now l.context.metrics.now l.context.now l.context.set.now [] l.items
 
 -- a node's right operands and arguments are smaller than it, and the nodes of an expression are at most as large
 abbrev pub decreases-value_of : goal.decreases-value_of

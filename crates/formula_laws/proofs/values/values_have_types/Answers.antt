@@ -10,7 +10,9 @@ pub returns-clause-operands : goal.returns-clause-operands
 returns-clause-operands = λ _ text metrics now set variables tree found agree h. all_operands_kept text metrics now set variables agree tree found h
 
 pub returns-clause-settings : goal.returns-clause-settings
-returns-clause-settings = λ _ text metrics now set variables after span tree known setting agree e h is. setting_kept text metrics now set variables after span tree known setting agree e h is
+returns-clause-settings = λ _ text metrics now set variables after span tree known setting agree e h is.
+    setting_kept text metrics now set variables after span tree known setting agree e h is
 
 pub returns-clause-statements : goal.returns-clause-statements
-returns-clause-statements = λ _ text metrics now start set variables front rest formula done e. statements_kept text metrics now start set variables front rest formula done e
+returns-clause-statements = λ _ text metrics now start set variables front rest formula done e.
+    statements_kept text metrics now start set variables front rest formula done e

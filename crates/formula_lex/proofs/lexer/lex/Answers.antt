@@ -2,7 +2,7 @@ use Rattle.std.proofs.Common.{◌≡◌, ℕ, ◌+◌, length, drop, get_or, ap,
 use Rattle.std.proofs.lemmas.List.{length-drop}
 use Rattle.formula_lex.specs.Lexing.{tokens_in}
 use Rattle.formula_lex.specs.Pieces.{piece_at}
-use Rattle.formula_lex.proofs.Lexings.{all_behind, took, failed}
+use Rattle.formula_lex.proofs.Lexings.{all_after, took, failed}
 use Rattle.formula_lex.proofs.lexer.lex.Goals as goal
 
 pub pieces-preserved : goal.pieces-preserved
@@ -11,8 +11,8 @@ pieces-preserved c =
     let at = c.pieces.at in
     let found = c.find_piece-found in
     let taken = c.in-Ok.ensures (λ m. tokens_in (drop (at + 1) text) m (at + 1)) in
-    let here = rw (all_behind (at + 1) text) at found.ensures.value in
-    let room = rw (all_behind (at + 1) text) at found.ensures.within in
+    let here = rw (all_after (at + 1) text) at found.ensures.value in
+    let room = rw (all_after (at + 1) text) at found.ensures.within in
     record {
       within = omega (arith, taken.1, room, length-drop (at + 1) text);
       so_far = took text at c.in-Ok.more c.pieces.tokens.items c.take.new.tokens.items found.result _ c.pieces-test.true here c.pieces.invariant.so_far taken.0;
@@ -24,6 +24,6 @@ returns-in-Err c =
     let at = c.pieces.at in
     let found = c.find_piece-found in
     let taken = c.in-Err.ensures (λ m. tokens_in (drop (at + 1) text) m (at + 1)) in
-    let here = rw (all_behind (at + 1) text) at found.ensures.value in
+    let here = rw (all_after (at + 1) text) at found.ensures.value in
     rw (← c.as_bytes-bytes.ensures.value)
     (failed text at c.pieces.tokens.items c.take.new.tokens.items found.result c.in-Err.fail _ c.pieces-test.true here c.pieces.invariant.so_far taken)

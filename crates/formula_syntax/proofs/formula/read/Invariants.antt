@@ -5,4 +5,5 @@ use Rattle.formula_trees.specs.View.{statements_of}
 use Rattle.formula_syntax.proofs.formula.read.Given as goal
 
 abbrev pub invariant-loop-token : goal.invariant-loop-token
-invariant-loop-token l = parsed l.length (drop l.token-index l.tokens) (whole_of (statements_of l.statements.items) l.progress) ≡ parsed l.length l.tokens (Between [])
+invariant-loop-token l = parsed l.length (drop l.token-index l.tokens) (whole_of (statements_of l.statements.items) l.progress)
+    ≡ parsed l.length l.tokens (Between [])

@@ -2,7 +2,7 @@ use Rattle.std.proofs.Common.{◌≡◌, ◌≤◌, ◌+◌, ◌*◌, [], Ok, Al
 use Rattle.formula_trees.specs.declared.tree.Expr.{size-Expr}
 use Rattle.formula_trees.specs.View.{tree_of}
 use Rattle.formula_types.specs.Typing.{type_of}
-use Rattle.formula_types.specs.Nodes.{through, types_behind}
+use Rattle.formula_types.specs.Nodes.{through, types_after}
 use Rattle.formula_types.specs.View.{types_in}
 use Rattle.formula_types.proofs.typing.+typing.Given as goal
 
@@ -16,7 +16,7 @@ decreases-type_of-up l = length l.nodes.items
 
 abbrev pub invariant-types_of-loop-item : goal.invariant-types_of-loop-item
 invariant-types_of-loop-item l =
-    types_behind l.text (types_in l.scope) l.types.items (drop l.item-index l.items) ≡ types_behind l.text (types_in l.scope) [] l.items
+    types_after l.text (types_in l.scope) l.types.items (drop l.item-index l.items) ≡ types_after l.text (types_in l.scope) [] l.items
 
 -- a node's right operands are smaller than it, and the nodes of an expression are at most as large
 abbrev pub decreases-type_of : goal.decreases-type_of

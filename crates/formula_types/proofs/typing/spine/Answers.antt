@@ -16,10 +16,12 @@ down-preserved c =
       λ text set.
           ap (λ es. through text set es (type_of text set (tree_of c.in-Some.operand.now))) pushed
           ∙ through_push text set c.down.nodes.items c.down.inner (type_of text set (tree_of c.in-Some.operand.now))
-          ∙ ap (through text set c.down.nodes.items) (sym (type_by_first text set (tree_of c.down.inner.now) (tree_of c.in-Some.operand.now) Stop c.in-Some.ensures.value))
+          ∙ ap (through text set c.down.nodes.items)
+          (sym (type_by_first text set (tree_of c.down.inner.now) (tree_of c.in-Some.operand.now) Stop c.in-Some.ensures.value))
           ∙ c.down.invariant.0 text set,
       omega (arith, c.in-Some.ensures.within, c.down.invariant.1),
-      subst Fits (sym pushed) (All-push (λ (e : Bor Expr). size-Expr e.now ≤ size-Expr c.args.expr.now) c.down.nodes.items c.down.inner c.down.invariant.2 c.down.invariant.1),
+      subst Fits (sym pushed) (All-push
+          (λ (e : Bor Expr). size-Expr e.now ≤ size-Expr c.args.expr.now) c.down.nodes.items c.down.inner c.down.invariant.2 c.down.invariant.1),
     )
 
 pub returns-clause-value : goal.returns-clause-value

@@ -10,5 +10,6 @@ use Rattle.formula_values.proofs.norm.norm_of.Goals as goal
 pub returns : goal.returns
 returns c =
     let k = c.isqrt-root.ensures in
-    let told = root_told c.squares.result (squares c.args.items.now) c.isqrt-root.result c.squares.ensures (record { at_most = k.square_le; above = k.next_square_gt }) in
+    let told = root_told c.squares.result (squares c.args.items.now) c.isqrt-root.result c.squares.ensures
+    (record { at_most = k.square_le; above = k.next_square_gt }) in
     c.double_of.ensures ∙ ap double_of (c.bounded.ensures ∙ ap bounded (to_z_pos w128 c.isqrt-root.result (omega (arith, k.bound))) ∙ told)

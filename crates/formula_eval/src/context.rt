@@ -1,4 +1,4 @@
-//! What the values of expressions depend on.
+//! The context of an evaluation.
 
 use crate::outcome::Outcome;
 use bt_base::Moment;
@@ -6,7 +6,7 @@ use formula_metrics::Metrics;
 
 /// What the value of an expression depends on: the formula's text, the metrics, the present moment, and what is set so far.
 #[derive(Drop)]
-pub struct Scene<'a> {
+pub struct EvalContext<'a> {
     pub text: &'a [u8],
     pub metrics: &'a Metrics,
     pub now: Moment,
