@@ -18,6 +18,7 @@ pub mod Settling
 pub mod Slots
 pub mod Sound
 pub mod Starts
+pub mod States
 pub mod Steps
 pub mod Tasks
 pub mod Variants

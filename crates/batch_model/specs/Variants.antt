@@ -13,6 +13,8 @@ pub use Rattle.bt_rows.specs.declared.pool.PoolRow.{PoolRow}
 pub use Rattle.bt_rows.specs.declared.node.NodeStage.{NodeStage}
 pub use Rattle.bt_rows.specs.declared.node.NodeStage.TheVariants.{Starting, Usable, StartFailed, Leaving}
 pub use Rattle.bt_rows.specs.declared.node.NodeRow.{NodeRow}
+pub use Rattle.bt_rows.specs.declared.reply.NodeState.{NodeState}
+pub use Rattle.bt_rows.specs.declared.reply.NodeState.TheVariants.{Starting as StartingNode, WaitingForStartTask, StartTaskFailed, Idle, Running as RunningNode, LeavingPool}
 pub use Rattle.bt_rows.specs.declared.job.JobState.{JobState}
 pub use Rattle.bt_rows.specs.declared.job.JobState.TheVariants.{Active as JobActive, Disabling, Disabled, Enabling, Terminating, Completed as JobCompleted}
 pub use Rattle.bt_rows.specs.declared.job.JobState.TheVariants.{Deleting}
@@ -31,6 +33,8 @@ pub use Rattle.bt_rows.specs.declared.task.How.{How}
 pub use Rattle.bt_rows.specs.declared.task.How.TheVariants.{Ended as ByEnding, Terminated as ByTermination, Wall as ByWall}
 pub use Rattle.bt_rows.specs.declared.task.Closed.{Closed}
 pub use Rattle.bt_rows.specs.declared.task.TaskRow.{TaskRow}
+pub use Rattle.bt_rows.specs.declared.reply.TaskState.{TaskState}
+pub use Rattle.bt_rows.specs.declared.reply.TaskState.TheVariants.{Active as ActiveTask, Preparing, Running as RunningTask, Completed as CompletedTask}
 pub use Rattle.bt_rows.specs.declared.run.Ending.{Ending}
 pub use Rattle.bt_rows.specs.declared.run.Ending.TheVariants.{Code, NoCode, NotStarted}
 pub use Rattle.bt_rows.specs.declared.run.RunKind.{RunKind}

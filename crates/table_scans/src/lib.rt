@@ -8,6 +8,7 @@ mod entries;
 mod nodes;
 mod runs;
 mod slots;
+mod states;
 
 pub use attempts::{is_active, is_busy, is_placed, is_unended, main_ending};
 pub use entries::ledger_of;
@@ -16,3 +17,4 @@ pub use nodes::{
 };
 pub use runs::{find_run, is_present, names};
 pub use slots::holds_slots;
+pub use states::{node_state, task_state};

@@ -11,14 +11,14 @@ use Rattle.bt_rows.specs.declared.due.ResizeEnd.{ResizeEnd}
 use Rattle.bt_rows.specs.declared.due.ResizeEnd.TheVariants as resize_ends
 use Rattle.wire_texts.specs.Lines.{words}
 
--- what became of a task
+-- how a task was settled
 unfoldable pub outcome_text : Outcome → List ℕ
 outcome_text outcomes.Deleted = codes "deleted"
 outcome_text outcomes.Success = codes "success"
 outcome_text outcomes.Failure = codes "failure"
 outcome_text (outcomes.Again failures) = codes "active " ++ decimal failures
 
--- what became of a job
+-- how a job ended
 unfoldable pub job_end_word : JobEnd → List ℕ
 job_end_word job_ends.Kept = codes "completed"
 job_end_word job_ends.Removed = codes "removed"
@@ -30,7 +30,7 @@ resize_end_word resize_ends.Reached = codes "steady"
 resize_end_word resize_ends.TimedOut = codes "timeout"
 resize_end_word resize_ends.Stopped = codes "stopped"
 
--- the rule, and what it was done to
+-- the rule, the rows that it concerns, and its outcome
 unfoldable pub due_text : Due → List ℕ
 due_text (Sampled pool label) = words (codes "U1" ∷ pool ∷ decimal label ∷ [])
 due_text (TaskTimedOut job task) = words (codes "U2" ∷ job ∷ task ∷ [])

@@ -4,5 +4,4 @@ pub mod Refusals
 pub mod Replies
 pub mod Dues
 pub mod Rows
-pub mod States
 pub mod Tables

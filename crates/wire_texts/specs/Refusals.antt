@@ -1,4 +1,4 @@
--- Refusals as they stand in a line: their numbers, statuses, names and values.
+-- Refusals as lines show them: their numbers, statuses, names and values.
 use Rattle.std.specs.Prelude.{ℕ, List, [], ◌∷◌, codes}
 use Rattle.std.specs.Fmt.{decimal}
 use Rattle.bt_base.specs.FormulaFaults.{name_of, place_of}
@@ -10,7 +10,7 @@ use Rattle.bt_rows.specs.declared.refusal.Refusal.TheVariants as refusals
 use Rattle.wire_texts.specs.Lines.{words}
 use Rattle.wire_texts.specs.Words.{job_state_word}
 
--- from 1; 33 to 37 are not given yet
+-- from 1; 33 to 37 are not used yet
 abbrev pub refusal_number : Refusal → ℕ
 refusal_number refusals.UnreadableBody = 1
 refusal_number (refusals.InvalidPropertyValue member) = 2
@@ -82,6 +82,7 @@ refusal_status (refusals.TableFull table limit) = 409
 refusal_status (refusals.SampleTooOld label) = 409
 refusal_status refusals.TerminationEngaged = 400
 
+-- the name (Azure Batch REST reference: error codes)
 unfoldable pub refusal_name : Refusal → List ℕ
 refusal_name refusals.UnreadableBody = codes "UnreadableBody"
 refusal_name (refusals.InvalidPropertyValue member) = codes "InvalidPropertyValue"
@@ -117,6 +118,7 @@ refusal_name (refusals.TableFull table limit) = codes "TableFull"
 refusal_name (refusals.SampleTooOld label) = codes "SampleTooOld"
 refusal_name refusals.TerminationEngaged = codes "TerminationEngaged"
 
+-- the name of a table with a limit
 unfoldable pub table_word : Table → List ℕ
 table_word limited.Pools = codes "pools"
 table_word limited.Jobs = codes "jobs"

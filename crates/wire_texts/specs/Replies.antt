@@ -17,7 +17,7 @@ element_status (NotAdded id refusal) = refusal_status refusal
 abbrev pub element_text : Element → List ℕ
 element_text element = 32 ∷ decimal (element_status element)
 
--- what is read stands in no line yet, nor do the answers that only the program itself asks for: only their status does
+-- of reads and of what only the program itself asks for, a line shows the status alone
 unfoldable pub reply_text : Reply → List ℕ
 reply_text (replies.Status status) = decimal status
 reply_text (replies.Refused refusal) = refusal_text refusal

@@ -1,4 +1,4 @@
--- The lines of rows that need no other row.
+-- The lines of rows that depend on no other row.
 use Rattle.std.specs.Prelude.{ℕ, List, [], ◌∷◌, codes}
 use Rattle.std.specs.Fmt.{decimal, signed_decimal}
 use Rattle.batch_model.specs.Variants.{PoolRow, JobRow, RunRow, PrepRow, ScaleRow}

@@ -9,6 +9,7 @@ use bt_base::{Id, NoMemory, Text};
 use bt_rows::due::{Due, JobEnd, Outcome, ResizeEnd};
 use std::alloc::{AllocError, Global};
 
+/// Adds how a task was settled.
 #[tactic(auto, unfolding(crate::specs::Dues::outcome_text))]
 fn push_outcome(out: &mut String, outcome: Outcome) -> Result<(), AllocError>
     ensures { OnOk result (string_bytes out.new ≡ string_bytes out.old ++ outcome_text outcome) }
@@ -21,6 +22,7 @@ fn push_outcome(out: &mut String, outcome: Outcome) -> Result<(), AllocError>
     }
 }
 
+/// How a job ended.
 #[tactic(auto, unfolding(crate::specs::Dues::job_end_word))]
 fn job_end_word(end: JobEnd) -> &'static str
     ensures { result.now ≡ job_end_word end }
@@ -31,6 +33,7 @@ fn job_end_word(end: JobEnd) -> &'static str
     }
 }
 
+/// How a resize ended.
 #[tactic(auto, unfolding(crate::specs::Dues::resize_end_word))]
 fn resize_end_word(end: ResizeEnd) -> &'static str
     ensures { result.now ≡ resize_end_word end }
@@ -43,7 +46,7 @@ fn resize_end_word(end: ResizeEnd) -> &'static str
     }
 }
 
-/// A rule and an id.
+/// Adds a rule and an id.
 fn push_with_id(out: &mut String, rule: &str, id: &Id) -> Result<(), AllocError>
     ensures { OnOk result (string_bytes out.new ≡ string_bytes out.old ++ words (rule.now ∷ id.now ∷ [])) }
 {
@@ -51,7 +54,7 @@ fn push_with_id(out: &mut String, rule: &str, id: &Id) -> Result<(), AllocError>
     write!(out, "{rule} {id}")
 }
 
-/// A rule, an id and a word.
+/// Adds a rule, an id and a word.
 fn push_with_word(out: &mut String, rule: &str, id: &Id, word: &str) -> Result<(), AllocError>
     ensures { OnOk result (string_bytes out.new ≡ string_bytes out.old ++ words (rule.now ∷ id.now ∷ word.now ∷ [])) }
 {
@@ -59,7 +62,7 @@ fn push_with_word(out: &mut String, rule: &str, id: &Id, word: &str) -> Result<(
     write!(out, "{rule} {id} {word}")
 }
 
-/// A rule, an id and two numbers.
+/// Adds a rule, an id and two numbers.
 fn push_with_numbers(
     out: &mut String,
     rule: &str,
@@ -73,6 +76,7 @@ fn push_with_numbers(
     write!(out, "{rule} {id} {first} {second}")
 }
 
+/// Adds the line of a settled task.
 #[tactic(auto, unfolding(crate::specs::Dues::due_text))]
 fn push_settled(out: &mut String, job: &Id, task: &Id, outcome: Outcome) -> Result<(), AllocError>
     ensures { OnOk result (string_bytes out.new ≡ string_bytes out.old ++ due_text (TaskSettled job.now task.now outcome)) }
@@ -83,6 +87,7 @@ fn push_settled(out: &mut String, job: &Id, task: &Id, outcome: Outcome) -> Resu
     push_outcome(out, outcome)
 }
 
+/// Adds the line of a due step.
 #[tactic(auto, unfolding(crate::specs::Dues::due_text))]
 fn push_due(out: &mut String, due: &Due) -> Result<(), AllocError>
     ensures { OnOk result (string_bytes out.new ≡ string_bytes out.old ++ due_text due.now) }
@@ -116,7 +121,7 @@ fn push_due(out: &mut String, due: &Due) -> Result<(), AllocError>
     }
 }
 
-/// The line of a due step, without the number before it and the line's end. The only error is want of memory.
+/// The line of a due step, without the number before it and the line feed. It fails only when out of memory.
 pub fn write_due(alloc: Global, due: &Due) -> Result<Text, NoMemory>
     ensures { IfOk result (λ text. text ≡ due_text due.now) }
 {

@@ -1,5 +1,6 @@
-//! What the program writes: replies and due steps as they stand in lines, and the tables as a text. Texts are ASCII but for
-//! what callers handed in; words are parted by one space, and lines end with LF.
+//! What the program writes: replies and due steps as lines, and the tables as a text. Texts are ASCII but for what callers
+//! passed in; words are separated by one space, and lines end with LF. The format is this project's own; names of states and
+//! refusals are those of the Azure Batch REST reference where it has them.
 #![tactic(auto)]
 
 mod dues;
@@ -7,7 +8,6 @@ mod lines;
 mod refusals;
 mod replies;
 mod rows;
-mod states;
 mod tables;
 #[cfg(test)]
 mod tests;

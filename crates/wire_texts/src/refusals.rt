@@ -1,4 +1,4 @@
-//! Refusals as they stand in a line.
+//! Refusals as lines show them.
 ghost use Rattle.std.specs.Prelude.{◌≡◌, ◌++◌, OnOk, string_bytes};
 ghost use Rattle.wire_texts.specs.Refusals.{refusal_number, refusal_status, refusal_name, table_word, refusal_text};
 
@@ -6,7 +6,7 @@ use crate::words::job_state_word;
 use bt_rows::refusal::{Refusal, Table};
 use std::alloc::AllocError;
 
-/// The refusal's number, from 1.
+/// The refusal's number, from 1 on (this project's own). It does not allocate.
 pub fn number_of(refusal: &Refusal) -> u8
     ensures { result ≡ refusal_number refusal.now }
 {
@@ -47,7 +47,7 @@ pub fn number_of(refusal: &Refusal) -> u8
     }
 }
 
-/// The refusal's status of HTTP.
+/// The refusal's status of HTTP: 400, 404 or 409 (Azure Batch REST reference). It does not allocate.
 pub fn status_of(refusal: &Refusal) -> u16
     ensures { result ≡ refusal_status refusal.now }
 {
@@ -88,7 +88,7 @@ pub fn status_of(refusal: &Refusal) -> u16
     }
 }
 
-/// The refusal's name, as in the Azure Batch REST reference where that has one.
+/// The refusal's name, as in the Azure Batch REST reference if that has one. It does not allocate.
 #[tactic(auto, unfolding(crate::specs::Refusals::refusal_name))]
 pub fn name_of(refusal: &Refusal) -> &'static str
     ensures { result.now ≡ refusal_name refusal.now }
@@ -130,6 +130,7 @@ pub fn name_of(refusal: &Refusal) -> &'static str
     }
 }
 
+/// The name of a table with a limit.
 #[tactic(auto, unfolding(crate::specs::Refusals::table_word))]
 fn table_word(table: Table) -> &'static str
     ensures { result.now ≡ table_word table }
@@ -141,7 +142,7 @@ fn table_word(table: Table) -> &'static str
     }
 }
 
-/// Adds the status, the name and the values.
+/// Adds the status, the name and the values of a refusal.
 pub fn push_refusal(out: &mut String, refusal: &Refusal) -> Result<(), AllocError>
     ensures { OnOk result (string_bytes out.new ≡ string_bytes out.old ++ refusal_text refusal.now) }
 {

@@ -1,4 +1,4 @@
-//! Replies as they stand in a line.
+//! Replies as lines show them.
 ghost use Rattle.std.specs.Prelude.{◌≡◌, ◌++◌, OnOk, IfOk, string_bytes, flat_map};
 ghost use Rattle.wire_texts.specs.Replies.{element_status, element_text, reply_text};
 
@@ -7,6 +7,7 @@ use bt_base::{NoMemory, Text};
 use bt_rows::reply::{Element, Reply};
 use std::alloc::{AllocError, Global};
 
+/// The status of one element of a collection.
 fn element_status(element: &Element) -> u16
     ensures { result ≡ element_status element.now }
 {
@@ -16,6 +17,7 @@ fn element_status(element: &Element) -> u16
     }
 }
 
+/// Adds a space and the status for each element.
 fn push_elements(out: &mut String, elements: &[Element]) -> Result<(), AllocError>
     ensures { OnOk result (string_bytes out.new ≡ string_bytes out.old ++ flat_map element_text elements.now) }
 {
@@ -26,6 +28,7 @@ fn push_elements(out: &mut String, elements: &[Element]) -> Result<(), AllocErro
     Ok(())
 }
 
+/// Adds a reply.
 #[tactic(auto, unfolding(crate::specs::Replies::reply_text))]
 fn push_reply(out: &mut String, reply: &Reply) -> Result<(), AllocError>
     ensures { OnOk result (string_bytes out.new ≡ string_bytes out.old ++ reply_text reply.now) }
@@ -49,9 +52,9 @@ fn push_reply(out: &mut String, reply: &Reply) -> Result<(), AllocError>
     }
 }
 
-/// A reply as it stands in a line, without the line's number and its end: the status, and after it a refusal's name and
+/// A reply as a line shows it, without the number before it and the line feed: the status, and after it a refusal's name and
 /// values, the status of each element of a collection, or a formula's results text. Of a reply to a read only the status
-/// is written. The only error is want of memory.
+/// is written. It fails only when out of memory.
 pub fn write_reply(alloc: Global, reply: &Reply) -> Result<Text, NoMemory>
     ensures { IfOk result (λ text. text ≡ reply_text reply.now) }
 {

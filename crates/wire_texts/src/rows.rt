@@ -1,4 +1,4 @@
-//! The lines of rows that need no other row.
+//! The lines of rows that depend on no other row.
 ghost use Rattle.std.specs.Prelude.{◌≡◌, ◌++◌, OnOk, string_bytes};
 ghost use Rattle.wire_texts.specs.Rows.{pool_line, job_line, run_line, prep_line, scale_line};
 
@@ -13,6 +13,7 @@ use bt_rows::run::RunRow;
 use bt_rows::scale::ScaleRow;
 use std::alloc::AllocError;
 
+/// Adds the line of a pool.
 #[tactic(auto, unfolding(crate::specs::Rows::pool_line))]
 pub fn push_pool(out: &mut String, pool: &PoolRow) -> Result<(), AllocError>
     ensures { OnOk result (string_bytes out.new ≡ string_bytes out.old ++ pool_line pool.now) }
@@ -30,6 +31,7 @@ pub fn push_pool(out: &mut String, pool: &PoolRow) -> Result<(), AllocError>
     )
 }
 
+/// Adds the line of a job.
 #[tactic(auto, unfolding(crate::specs::Rows::job_line))]
 pub fn push_job(out: &mut String, job: &JobRow) -> Result<(), AllocError>
     ensures { OnOk result (string_bytes out.new ≡ string_bytes out.old ++ job_line job.now) }
@@ -42,6 +44,7 @@ pub fn push_job(out: &mut String, job: &JobRow) -> Result<(), AllocError>
     writeln!(out, "job {id} {pool} {state} {priority} {reason}")
 }
 
+/// Adds the line of a run.
 #[tactic(auto, unfolding(crate::specs::Rows::run_line))]
 pub fn push_run(out: &mut String, run: &RunRow) -> Result<(), AllocError>
     ensures { OnOk result (string_bytes out.new ≡ string_bytes out.old ++ run_line run.now) }
@@ -57,6 +60,7 @@ pub fn push_run(out: &mut String, run: &RunRow) -> Result<(), AllocError>
     out.push_str("\n")
 }
 
+/// Adds the line of a preparation.
 #[tactic(auto, unfolding(crate::specs::Rows::prep_line))]
 pub fn push_prep(out: &mut String, prep: &PrepRow) -> Result<(), AllocError>
     ensures { OnOk result (string_bytes out.new ≡ string_bytes out.old ++ prep_line prep.now) }
@@ -68,6 +72,7 @@ pub fn push_prep(out: &mut String, prep: &PrepRow) -> Result<(), AllocError>
     writeln!(out, "prep {job} {node} {state} {release}")
 }
 
+/// Adds the line of a pool's scaling.
 #[tactic(auto, unfolding(crate::specs::Rows::scale_line))]
 pub fn push_scale(out: &mut String, scale: &ScaleRow) -> Result<(), AllocError>
     ensures { OnOk result (string_bytes out.new ≡ string_bytes out.old ++ scale_line scale.now) }

@@ -4,8 +4,7 @@ ghost use Rattle.wire_texts.specs.Rows.{pool_line, job_line, run_line, prep_line
 ghost use Rattle.wire_texts.specs.Tables.{node_line, task_line, tables_text};
 
 use crate::rows::{push_job, push_pool, push_prep, push_run, push_scale};
-use crate::states::{node_state_word, task_state_word};
-use crate::words::{push_exit, result_word};
+use crate::words::{node_state_word, push_exit, result_word, task_state_word};
 use bt_base::{NoMemory, Text};
 use bt_rows::job::JobRow;
 use bt_rows::node::NodeRow;
@@ -16,7 +15,9 @@ use bt_rows::scale::ScaleRow;
 use bt_rows::tables::Tables;
 use bt_rows::task::TaskRow;
 use std::alloc::{AllocError, Global};
+use table_scans::{node_state, task_state};
 
+/// Adds the line of a node.
 #[tactic(auto, unfolding(crate::specs::Tables::node_line))]
 fn push_node(out: &mut String, tables: &Tables, node: &NodeRow) -> Result<(), AllocError>
     ensures { OnOk result (string_bytes out.new ≡ string_bytes out.old ++ node_line tables.now.state node.now) }
@@ -24,17 +25,18 @@ fn push_node(out: &mut String, tables: &Tables, node: &NodeRow) -> Result<(), Al
     let number = node.number;
     let pool = node.pool.as_str();
     let seat = node.seat;
-    let state = node_state_word(tables, node);
+    let state = node_state_word(node_state(tables, node));
     writeln!(out, "node {number} {pool} {seat} {state}")
 }
 
+/// Adds the line of a task.
 #[tactic(auto, unfolding(crate::specs::Tables::task_line))]
 fn push_task(out: &mut String, tables: &Tables, task: &TaskRow) -> Result<(), AllocError>
     ensures { OnOk result (string_bytes out.new ≡ string_bytes out.old ++ task_line tables.now.state task.now) }
 {
     let job = task.job.as_str();
     let id = task.id.as_str();
-    let state = task_state_word(tables, task);
+    let state = task_state_word(task_state(tables, task));
     let success = result_word(task.closed);
     let failures = task.failures;
     write!(out, "task {job} {id} {state} {success} ")?;
@@ -105,8 +107,8 @@ fn push_scales(out: &mut String, scales: &[ScaleRow]) -> Result<(), AllocError>
     Ok(())
 }
 
-/// The tables as a text: the moment, then the rows in order, pools, nodes, jobs, tasks, runs, preparations and ways of scaling,
-/// a line for each. Samples are left out. The only error is want of memory.
+/// The tables as a text: the moment, then a line for each row, pools, nodes, jobs, tasks, runs, preparations and scalings, each
+/// kind in order of adding. Samples are left out. It fails only when out of memory.
 #[tactic(auto, unfolding(crate::specs::Tables::tables_text))]
 pub fn write_tables(alloc: Global, tables: &Tables) -> Result<Text, NoMemory>
     ensures { IfOk result (λ text. text ≡ tables_text tables.now.state) }

@@ -1,33 +1,14 @@
-//! Each public function once with ample memory, against texts that were written by hand. More texts stand in `proofs/`, where
-//! the definitions are computed.
+//! Each public function that allocates, once with ample memory, against texts that were written by hand. More texts are computed
+//! from the definitions in `proofs/`.
 
 use super::*;
 use bt_base::{Id, List, NoMemory};
 use bt_rows::due::Due;
-use bt_rows::refusal::{Refusal, Table};
+use bt_rows::refusal::Refusal;
 use bt_rows::reply::{Element, Reply};
 use bt_rows::tables::Tables;
 use std::alloc::Global;
 use std::test::Fail as TestFail;
-
-#[test]
-fn refusals_have_a_number_a_status_and_a_name(rt: HostRuntime) {
-    assert_eq!(rt; number_of(&Refusal::RunWaiting), 32);
-    assert_eq!(rt; status_of(&Refusal::RunWaiting), 409);
-    assert_eq!(rt; name_of(&Refusal::RunWaiting), "RunWaiting");
-}
-
-fn shows(alloc: Global, reply: &Reply, wanted: &str) -> Result<bool, NoMemory> {
-    let written = write_reply(alloc, reply)?;
-    Ok(written.as_str() == wanted)
-}
-
-#[test]
-fn a_refusal_shows_its_values(rt: HostRuntime) -> Result<(), TestFail> {
-    let reply = Reply::Refused(Refusal::TableFull(Table::Pools, 64));
-    assert!(rt; shows(rt.alloc(), &reply, "409 TableFull pools 64")?);
-    Ok(())
-}
 
 fn collection_of_one(alloc: Global, id: Id, refusal: Refusal) -> Result<Reply, NoMemory> {
     let mut elements = Vec::new(alloc);
@@ -39,7 +20,8 @@ fn collection_of_one(alloc: Global, id: Id, refusal: Refusal) -> Result<Reply, N
 fn a_collection_shows_the_status_of_each_task(rt: HostRuntime) -> Result<(), TestFail> {
     let id = Id::read(rt.alloc(), "a")?;
     let reply = collection_of_one(rt.alloc(), id, Refusal::TaskExists)?;
-    assert!(rt; shows(rt.alloc(), &reply, "200 409")?);
+    let written = write_reply(rt.alloc(), &reply)?;
+    assert_eq!(rt; written.as_str(), "200 409");
     Ok(())
 }
 
@@ -54,9 +36,8 @@ fn a_due_step_shows_its_rule_and_rows(rt: HostRuntime) -> Result<(), TestFail> {
 #[test]
 fn numbered_lines_end_with_a_line_feed(rt: HostRuntime) -> Result<(), TestFail> {
     let mut out = String::new(rt.alloc());
-    push_line(&mut out, 3, "201")?;
     push_line(&mut out, 18, "U3 7")?;
-    assert_eq!(rt; out.as_str(), "3 201\n18 U3 7\n");
+    assert_eq!(rt; out.as_str(), "18 U3 7\n");
     Ok(())
 }
 

@@ -1,15 +1,17 @@
-//! The words of states and kinds. An absent value is `-`.
+//! The words of states and kinds, as the tables text has them. Those of Azure's states are Azure's.
 ghost use Rattle.std.specs.Prelude.{◌≡◌, ◌++◌, OnOk, string_bytes};
-ghost use Rattle.wire_texts.specs.Words.{pool_state_word, alloc_word, fill_word, job_state_word, run_kind_word, run_state_word, prep_state_word, release_state_word, ending_text, run_ending_text, how_text, exit_text, result_word, text_or_dash};
+ghost use Rattle.wire_texts.specs.Words.{pool_state_word, node_state_word, task_state_word, alloc_word, fill_word, job_state_word, run_kind_word, run_state_word, prep_state_word, release_state_word, ending_text, run_ending_text, how_text, exit_text, result_word, text_or_dash};
 
 use bt_base::{Id, Text};
 use bt_rows::job::JobState;
 use bt_rows::pool::{Alloc, Fill};
 use bt_rows::prep::{PrepState, ReleaseState};
+use bt_rows::reply::{NodeState, TaskState};
 use bt_rows::run::{Ending, RunKind, RunState};
 use bt_rows::task::{Closed, How};
 use std::alloc::AllocError;
 
+/// The state of a pool (Azure: state of a pool).
 #[tactic(auto, unfolding(crate::specs::Words::pool_state_word))]
 pub fn pool_state_word(deleting: bool) -> &'static str
     ensures { result.now ≡ pool_state_word deleting }
@@ -17,6 +19,35 @@ pub fn pool_state_word(deleting: bool) -> &'static str
     if deleting { "deleting" } else { "active" }
 }
 
+/// The state of a node (Azure: state of a compute node).
+#[tactic(auto, unfolding(crate::specs::Words::node_state_word))]
+pub fn node_state_word(state: NodeState) -> &'static str
+    ensures { result.now ≡ node_state_word state }
+{
+    match state {
+        NodeState::Starting => "starting",
+        NodeState::WaitingForStartTask => "waitingforstarttask",
+        NodeState::StartTaskFailed => "starttaskfailed",
+        NodeState::Idle => "idle",
+        NodeState::Running => "running",
+        NodeState::LeavingPool => "leavingpool",
+    }
+}
+
+/// The state of a task (Azure: state of a task).
+#[tactic(auto, unfolding(crate::specs::Words::task_state_word))]
+pub fn task_state_word(state: TaskState) -> &'static str
+    ensures { result.now ≡ task_state_word state }
+{
+    match state {
+        TaskState::Active => "active",
+        TaskState::Preparing => "preparing",
+        TaskState::Running => "running",
+        TaskState::Completed => "completed",
+    }
+}
+
+/// Whether a pool is being resized (Azure: allocationState).
 #[tactic(auto, unfolding(crate::specs::Words::alloc_word))]
 pub fn alloc_word(alloc: Alloc) -> &'static str
     ensures { result.now ≡ alloc_word alloc }
@@ -28,6 +59,7 @@ pub fn alloc_word(alloc: Alloc) -> &'static str
     }
 }
 
+/// How tasks are distributed over the nodes of a pool (Azure: nodeFillType).
 #[tactic(auto, unfolding(crate::specs::Words::fill_word))]
 pub fn fill_word(fill: Fill) -> &'static str
     ensures { result.now ≡ fill_word fill }
@@ -38,6 +70,7 @@ pub fn fill_word(fill: Fill) -> &'static str
     }
 }
 
+/// The state of a job (Azure: state of a job).
 #[tactic(auto, unfolding(crate::specs::Words::job_state_word))]
 pub fn job_state_word(state: JobState) -> &'static str
     ensures { result.now ≡ job_state_word state }
@@ -53,6 +86,7 @@ pub fn job_state_word(state: JobState) -> &'static str
     }
 }
 
+/// What a run executes.
 #[tactic(auto, unfolding(crate::specs::Words::run_kind_word))]
 pub fn run_kind_word(kind: RunKind) -> &'static str
     ensures { result.now ≡ run_kind_word kind }
@@ -66,6 +100,7 @@ pub fn run_kind_word(kind: RunKind) -> &'static str
     }
 }
 
+/// The state of a run.
 #[tactic(auto, unfolding(crate::specs::Words::run_state_word))]
 pub fn run_state_word(state: RunState) -> &'static str
     ensures { result.now ≡ run_state_word state }
@@ -79,6 +114,7 @@ pub fn run_state_word(state: RunState) -> &'static str
     }
 }
 
+/// The state of a preparation.
 #[tactic(auto, unfolding(crate::specs::Words::prep_state_word))]
 pub fn prep_state_word(state: PrepState) -> &'static str
     ensures { result.now ≡ prep_state_word state }
@@ -90,6 +126,7 @@ pub fn prep_state_word(state: PrepState) -> &'static str
     }
 }
 
+/// The state of a release task on a node.
 #[tactic(auto, unfolding(crate::specs::Words::release_state_word))]
 pub fn release_state_word(state: ReleaseState) -> &'static str
     ensures { result.now ≡ release_state_word state }
@@ -101,6 +138,7 @@ pub fn release_state_word(state: ReleaseState) -> &'static str
     }
 }
 
+/// Whether a task succeeded, if it ended (Azure: executionInfo.result).
 #[tactic(auto, unfolding(crate::specs::Words::result_word, crate::specs::Words::success_word))]
 pub fn result_word(closed: Option<Closed>) -> &'static str
     ensures { result.now ≡ result_word closed }
@@ -111,6 +149,7 @@ pub fn result_word(closed: Option<Closed>) -> &'static str
     }
 }
 
+/// The id, or `-` if it is absent.
 #[tactic(auto, unfolding(crate::specs::Words::text_or_dash))]
 pub fn id_or_dash(id: &Option<Id>) -> &str
     ensures { result.now ≡ text_or_dash id.now }
@@ -121,6 +160,7 @@ pub fn id_or_dash(id: &Option<Id>) -> &str
     }
 }
 
+/// The text, or `-` if it is absent.
 #[tactic(auto, unfolding(crate::specs::Words::text_or_dash))]
 pub fn text_or_dash(text: &Option<Text>) -> &str
     ensures { result.now ≡ text_or_dash text.now }
@@ -131,6 +171,7 @@ pub fn text_or_dash(text: &Option<Text>) -> &str
     }
 }
 
+/// Adds the exit code, or why there is none.
 #[tactic(auto, unfolding(crate::specs::Words::ending_text))]
 fn push_ending(out: &mut String, ending: Ending) -> Result<(), AllocError>
     ensures { OnOk result (string_bytes out.new ≡ string_bytes out.old ++ ending_text ending) }
@@ -142,6 +183,7 @@ fn push_ending(out: &mut String, ending: Ending) -> Result<(), AllocError>
     }
 }
 
+/// Adds how a run ended, or `-` if it did not.
 #[tactic(auto, unfolding(crate::specs::Words::run_ending_text))]
 pub fn push_run_ending(out: &mut String, state: RunState) -> Result<(), AllocError>
     ensures { OnOk result (string_bytes out.new ≡ string_bytes out.old ++ run_ending_text state) }
@@ -153,6 +195,7 @@ pub fn push_run_ending(out: &mut String, state: RunState) -> Result<(), AllocErr
     }
 }
 
+/// Adds how a task ended.
 #[tactic(auto, unfolding(crate::specs::Words::how_text))]
 fn push_how(out: &mut String, how: How) -> Result<(), AllocError>
     ensures { OnOk result (string_bytes out.new ≡ string_bytes out.old ++ how_text how) }
@@ -164,6 +207,7 @@ fn push_how(out: &mut String, how: How) -> Result<(), AllocError>
     }
 }
 
+/// Adds how a task ended, or `-` if it did not.
 #[tactic(auto, unfolding(crate::specs::Words::exit_text))]
 pub fn push_exit(out: &mut String, closed: Option<Closed>) -> Result<(), AllocError>
     ensures { OnOk result (string_bytes out.new ≡ string_bytes out.old ++ exit_text closed) }
