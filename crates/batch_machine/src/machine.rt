@@ -1,5 +1,5 @@
 //! The machine: tables, seats, and a plan that may be reserved.
-ghost use Rattle.std.specs.Prelude.{◌≡◌, ◌≤◌, Some, None, IfOk, OnOk, OnErr, IsSome, IfSome};
+ghost use Rattle.std.specs.Prelude.{◌≡◌, ◌≤◌, max, Some, None, IfOk, OnOk, OnErr, IsSome, IfSome};
 ghost use Rattle.bt_rows.specs.declared.event.EventKind.TheVariants.{Tick};
 ghost use Rattle.bt_rows.specs.declared.refusal.Refusal.{Refusal};
 ghost use Rattle.bt_rows.specs.declared.reply.Reply.TheVariants.{Refused};
@@ -41,7 +41,7 @@ impl Model for Machine {
 
 impl Machine {
     /// The machine over opened tables, for 1 to 32 seats, and the changes of the opening: what an earlier run left running
-    /// is withdrawn, and no node is there. The only error is want of memory.
+    /// is withdrawn, and no node is there. The only error is out of memory.
     pub fn open(
         alloc: Global,
         tables: Tables,
@@ -73,17 +73,17 @@ impl Machine {
     }
 
     /// The reply to an event at a moment, and the changes that it makes. A refusal is a reply; it changes nothing but the
-    /// last moment, and there are no changes where that stays. A tick likewise.
+    /// last moment, and there are no changes if that stays. A tick likewise. The only error is out of memory.
     pub fn plan(&self, alloc: Global, moment: Moment, event: &Event) -> Result<Plan, NoMemory>
         ensures plan { IfOk result (IsPlanOf (event_step moment event.now self.now.state) self.now.state) }
         ensures refused { IfOk result (λ plan. (refusal : Refusal) → plan.reply ≡ Refused refusal → apply_changes plan.changes self.now.state ≡ at_moment moment self.now.state) }
-        ensures tick { event.now ≡ Tick → IfOk result (λ plan. plan.changes ≡ moved_to moment self.now.state) }
+        ensures tick { event.now ≡ Tick → IfOk result (λ plan. plan.changes ≡ moved_to (max self.now.state.moment moment) self.now.state) }
         ensures made { IfOk result (IsMade self.now.seats self.now.state) }
     {
         event::plan_event(alloc, &self.tables, self.seats, moment.ms(), event)
     }
 
-    /// The plan of the due step, whose reply tells the step; none exactly where no rule applies.
+    /// The plan of the due step, whose reply states the step; None exactly if no rule applies. The only error is out of memory.
     pub fn plan_due(&self, alloc: Global) -> Result<Option<Plan>, NoMemory>
         ensures rule { IfOk result (IsRule (due_step self.now.seats self.now.state) self.now.state) }
         ensures sound { IsSound self.now.seats self.now.state }
@@ -91,7 +91,7 @@ impl Machine {
         due::plan_due(alloc, &self.tables, self.seats)
     }
 
-    /// Keeps the plan, and takes all the room that it needs. Where memory is refused, no plan is reserved.
+    /// Keeps the plan, and reserves all the memory that it needs. The only error is out of memory, and then no plan is reserved.
     pub fn reserve(&mut self, plan: Plan) -> Result<(), NoMemory>
         requires free { self.old.reserved ≡ None }
         requires made { IsMade self.old.seats self.old.state plan }
@@ -103,7 +103,7 @@ impl Machine {
         Ok(())
     }
 
-    /// Makes the changes of the reserved plan, and hands out its reply. It takes no memory.
+    /// Makes the changes of the reserved plan, and returns its reply. It does not allocate.
     pub fn accept(&mut self) -> Reply
         requires { IsSome self.old.reserved }
         ensures state { IfSome self.old.reserved (λ plan. self.new ≡ record self.old { state = apply_changes plan.changes self.old.state; reserved = None }) }
@@ -117,7 +117,7 @@ impl Machine {
         reply
     }
 
-    /// The changes of the reserved plan, which leave sound and so well-formed tables. It takes no memory.
+    /// The changes of the reserved plan, which leave sound and so well-formed tables. It does not allocate.
     pub fn reserved(&self) -> &[Change]
         requires { IsSome self.now.reserved }
         ensures changes { IfSome self.now.reserved (λ plan. result.now ≡ plan.changes) }
@@ -130,7 +130,7 @@ impl Machine {
         }
     }
 
-    /// Drops the reserved plan, and leaves the tables. It takes no memory.
+    /// Drops the reserved plan, and leaves the tables. It does not allocate.
     pub fn give_up(&mut self)
         requires { IsSome self.old.reserved }
         ensures { self.new ≡ record self.old { reserved = None } }

@@ -17,7 +17,7 @@ use Rattle.model_lists.proofs.Tests.{and_first, and_second}
 use Rattle.machine_opening.specs.Openings.{puts_of, put_if_some, is_fresh, opened_pool, opened_task, opened_run, pool_puts, task_puts, run_puts, node_drops, drop_of_node, prep_drops, drop_of_prep, key_of_prep, with_opening}
 use Rattle.machine_opening.proofs.PutsInPlace.{put_if_some as put_row_if_some, put_each, put_in_place, put_is_change_where, drop_each, drop_all}
 
--- changes behind others
+-- changes after others
 apply_append : (changes later : List Change) (s : State) → apply_changes (changes ++ later) s ≡ apply_changes later (apply_changes changes s)
 apply_append [] later s = refl
 apply_append (change ∷ changes) later s = apply_append changes later (apply_change change s)
@@ -225,7 +225,7 @@ module _ (s : State) (keys : KeysAreDistinct s) where
       ∙ nodes_open)
       ∙ preps_open
 
-  -- where the opening leaves the tables as they are, no change is made
+  -- if the opening leaves the tables as they are, no change is made
 
   no_pool_puts : opening s ≡ s → pool_puts s ≡ []
   no_pool_puts same =

@@ -23,12 +23,12 @@ module _ {R : Type 0} (same : R → R → Bool) (e : IsEquivalence same) (give :
   abbrev given : R → R
   given x = unwrap_or (give x) x
 
-  -- a put behind a row with another key
+  -- a put after a row with another key
   put_past : (first x : R) (rows : List R) (o : Option R) → give x ≡ o → same first x ≡ false → put_if_some same o (first ∷ rows) ≡ first ∷ put_if_some same o rows
   put_past first x rows None g d = refl
   put_past first x rows (Some y) g d = rw (keeps x y g first ∙ d) refl
 
-  -- puts behind a row whose key none of them has
+  -- puts after a row whose key none of them has
   put_each_past : (first : R) (xs rows : List R) → list_any (same first) xs ≡ false → put_each same give xs (first ∷ rows) ≡ first ∷ put_each same give xs rows
   put_each_past first [] rows d = refl
   put_each_past first (x ∷ xs) rows d =
@@ -46,7 +46,7 @@ module _ {R : Type 0} (same : R → R → Bool) (e : IsEquivalence same) (give :
   given_apart x xs (Some y) g d =
       any_agree (same y) (same x) (λ z. sym (e.congr x y z (keeps x y g x ∙ e.refl x))) xs ∙ d
 
-  -- each row becomes what it gives, where keys are distinct
+  -- each row becomes what it gives, if keys are distinct
   pub put_in_place : (xs : List R) → AreDistinct same xs → put_each same give xs xs ≡ map given xs
   put_in_place [] d = refl
   put_in_place (x ∷ xs) d =

@@ -65,6 +65,6 @@ drop_of_prep prep = DropPrep (key_of_prep prep)
 abbrev pub prep_drops : State → List Change
 prep_drops s = map drop_of_prep s.preps
 
--- all of them behind others
+-- all of them after others
 abbrev pub with_opening : State → List Change → List Change
 with_opening s changes = changes ++ pool_puts s ++ task_puts s ++ run_puts s ++ node_drops s ++ prep_drops s

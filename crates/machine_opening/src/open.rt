@@ -205,7 +205,7 @@ fn add_opening(changes: &mut Vec<Change>, tables: &Tables) -> Result<(), NoMemor
 }
 
 /// The changes of the opening: a put for each pool, task and run that it changes, and a drop for each node and preparation.
-/// There are none where it leaves the tables as they are.
+/// There are none if it leaves the tables as they are. The only error is out of memory.
 pub fn opening_changes(alloc: Global, tables: &Tables) -> Result<List<Change>, NoMemory>
     requires { IsWellFormed tables.now.state }
     ensures state { IfOk result (λ changes. apply_changes changes tables.now.state ≡ opening tables.now.state) }

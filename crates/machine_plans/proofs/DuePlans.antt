@@ -20,6 +20,6 @@ of_step (Ok plan) told changes s step replied made due state = record {
 }
 of_step (Err error) told changes s step replied made due state = tt
 
--- a plan where a rule applies
+-- a plan if a rule applies
 pub of_rule : (rule : Option DueStep) (step : DueStep) (s : State) (plan : Plan) → rule ≡ Some step → IsPlanOf (answer_of_step step) s plan → IsStepOf rule s plan
 of_rule rule step s plan applies planned = record { step = step; applies = applies; planned = planned }

@@ -50,7 +50,7 @@ module _ {R : Type 0} (number : R → ℕ) where
       (none_any (λ x. nat_eq (number x) next) xs
       (each_weaker (λ x. nat_lt (number x) next) (λ x. not (nat_eq (number x) next)) (λ x l. true_not (below_other (number x) next l)) xs below))
 
--- a node with the next number, and the counter behind it
+-- a node with the next number, and the counter after it
 pub node_put : (s : State) (row : NodeRow) (after run : ℕ) → NumbersAreNew s → row.number ≡ s.next_node → after ≡ s.next_node + 1 → run ≡ s.next_run → apply_changes (PutNode row ∷ Counters after run ∷ []) s ≡ add_node_row row s
 node_put s row after run numbers is_next rises stays =
     made (put_row (λ (other : NodeRow). same_node other row) row s.nodes)
@@ -60,7 +60,7 @@ node_put s row after run numbers is_next rises stays =
     made : (nodes : List NodeRow) → nodes ≡ s.nodes ++ row ∷ [] → record s { nodes = nodes; next_node = after; next_run = run } ≡ add_node_row row s
     made nodes e = rw (e, rises, stays) refl
 
--- a run with the next number, and the counter behind it, where every run has a lower number
+-- a run with the next number, and the counter after it, if every run has a lower number
 pub next_run_put : (s : State) (row : RunRow) (after node : ℕ) → Each (λ run. nat_lt run.number s.next_run) s.runs → row.number ≡ s.next_run → after ≡ s.next_run + 1 → node ≡ s.next_node → apply_changes (PutRun row ∷ Counters node after ∷ []) s ≡ add_run_row row s
 next_run_put s row after node below is_next rises stays =
     made (put_row (λ (other : RunRow). same_run other row) row s.runs)
@@ -74,7 +74,7 @@ next_run_put s row after node below is_next rises stays =
 pub run_put : (s : State) (row : RunRow) (after node : ℕ) → NumbersAreNew s → row.number ≡ s.next_run → after ≡ s.next_run + 1 → node ≡ s.next_node → apply_changes (PutRun row ∷ Counters node after ∷ []) s ≡ add_run_row row s
 run_put s row after node numbers = next_run_put s row after node numbers.runs
 
--- a node and a run with the next numbers, and the counters behind them
+-- a node and a run with the next numbers, and the counters after them
 pub node_and_run_put : (s : State) (node : NodeRow) (run : RunRow) (nodes runs : ℕ) → NumbersAreNew s → node.number ≡ s.next_node → run.number ≡ s.next_run → nodes ≡ s.next_node + 1 → runs ≡ s.next_run + 1 → apply_changes (PutNode node ∷ PutRun run ∷ Counters nodes runs ∷ []) s ≡ add_run_row run (add_node_row node s)
 node_and_run_put s node run nodes runs numbers is_node is_run more_nodes more_runs =
     made (put_row (λ (other : NodeRow). same_node other node) node s.nodes) (put_row (λ (other : RunRow). same_run other run) run s.runs)

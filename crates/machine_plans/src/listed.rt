@@ -9,33 +9,33 @@ use bt_rows::reply::Reply;
 use bt_rows::tables::{Change, Tables};
 use std::alloc::Global;
 
-/// The change of the last moment, where it rises, and these behind it.
+/// The change of the last moment, if `now` is another, and these after it.
 fn moved_and(
     alloc: Global,
     tables: &Tables,
-    moment: u64,
+    now: u64,
     changes: Vec<Change>,
 ) -> Result<Vec<Change>, NoMemory>
-    ensures { IfOk result (λ all. all.items ≡ moved_to moment tables.now.state ++ changes.items) }
+    ensures { IfOk result (λ all. all.items ≡ moved_to now tables.now.state ++ changes.items) }
 {
     let mut changes = changes;
-    let mut all = moved(alloc, tables, moment)?;
+    let mut all = moved(alloc, tables, now)?;
     all.append(&mut changes)?;
     Ok(all)
 }
 
-/// A reply, and a list of changes behind that of the last moment.
+/// The plan of a reply and of a list of changes after that of the last moment. `now` is in milliseconds since 1970.
 pub fn reply_listed(
     alloc: Global,
     tables: &Tables,
-    moment: u64,
+    now: u64,
     reply: Reply,
     changes: Vec<Change>,
 ) -> Result<Plan, NoMemory>
     ensures reply { IfOk result (λ plan. plan.reply ≡ reply) }
-    ensures changes { IfOk result (λ plan. plan.changes ≡ moved_to moment tables.now.state ++ changes.items) }
+    ensures changes { IfOk result (λ plan. plan.changes ≡ moved_to now tables.now.state ++ changes.items) }
 {
-    let all = moved_and(alloc, tables, moment, changes)?;
+    let all = moved_and(alloc, tables, now, changes)?;
     Ok(Plan {
         reply,
         changes: List::of_vec(all),

@@ -1,3 +1,2 @@
 pub mod OnNodes
-pub mod SmallSound
 pub mod StartPuts

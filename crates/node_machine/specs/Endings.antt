@@ -1,14 +1,15 @@
--- Endings of start runs, in the tables at the moment of the ending.
-use Rattle.std.specs.Prelude.{◌≡◌, ℕ, ◌^◌, ◌<◌, nat_lt, max, Some}
-use Rattle.batch_model.specs.Events.{at_moment, ended_run}
+-- Endings of start runs.
+use Rattle.std.specs.Prelude.{◌≡◌, ℕ, ◌^◌, ◌<◌, nat_lt, Some}
+use Rattle.batch_model.specs.Events.{ended_run}
 use Rattle.batch_model.specs.Finding.{Each}
 use Rattle.batch_model.specs.Rows.{is_run, run_of, node_of, change_runs}
 use Rattle.batch_model.specs.WellFormed.{KeysAreDistinct}
 use Rattle.batch_model.specs.Variants.{State, NodeRow, Ending, RunRow}
+use Rattle.machine_plans.specs.Plans.{with_moment}
 
 -- the tables at the moment, in which the run has ended
 abbrev pub with_end : ℕ → Ending → RunRow → State → State
-with_end moment ending run s = change_runs (is_run run.number) (ended_run (max s.moment moment) ending) (at_moment moment s)
+with_end now ending run s = change_runs (is_run run.number) (ended_run now ending) (with_moment now s)
 
 -- the run is there, in tables to which a run may be added
 pub record IsThere (s : State) (run : RunRow) : Type 0 where

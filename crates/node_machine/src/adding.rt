@@ -1,4 +1,4 @@
-//! The due step that adds a node.
+//! U15, the due step that adds a node.
 ghost use Rattle.std.specs.Prelude.{◌≡◌, ◌≤◌, IsTrue, IfOk, find, nat_eq, None, Some};
 ghost use Rattle.std.specs.List.{list_any};
 ghost use Rattle.std.specs.Option.{option_copied};
@@ -71,7 +71,7 @@ fn node_line(tables: &Tables, pool: &PoolRow, seat: u8) -> Result<Due, NoMemory>
     Ok(Due::NodeAdded(pool.id.copy()?, tables.next_node(), seat))
 }
 
-/// The plan that adds a node of the pool on the seat, where there is no start task.
+/// The plan that adds a node of the pool on the seat, if the pool has no start task.
 fn added_alone(alloc: Global, tables: &Tables, pool: &PoolRow, seat: u8) -> Result<Plan, NoMemory>
     requires numbers { NumbersAreNew tables.now.state }
     requires nodes { IsTrue (has_number_left tables.now.state.next_node) }
@@ -137,7 +137,7 @@ fn add_on(alloc: Global, tables: &Tables, seat: u8) -> Result<Option<Plan>, NoMe
     }
 }
 
-/// The plan that adds a node on the lowest free seat, to the first pool that is to get one. None is added once run or node
+/// The plan that adds a node on the lowest free seat, to the first pool that is to get one. No node is added once run or node
 /// numbers are used up.
 pub fn add_node(alloc: Global, tables: &Tables, seats: u8) -> Result<Option<Plan>, NoMemory>
     requires numbers { NumbersAreNew tables.now.state }

@@ -1,4 +1,4 @@
-//! Start tasks: what a node is in before and after them, and their runs.
+//! Start tasks: the stages of a node before and after them, and their runs.
 ghost use Rattle.std.specs.Prelude.{◌≡◌, ◌<◌, ◌^◌, IfOk};
 ghost use Rattle.batch_model.specs.Finding.{is_within_limit};
 ghost use Rattle.batch_model.specs.Dues.{first_stage};
@@ -23,7 +23,7 @@ fn waits_for_start(pool: &PoolRow) -> bool
     }
 }
 
-/// What a new node of the pool is in: starting where the start task is waited for, and else usable at once.
+/// The stage of a new node of the pool: starting if the start task is waited for, and else usable at once.
 pub fn first_stage(pool: &PoolRow) -> NodeStage
     ensures { result ≡ first_stage pool.now }
 {
@@ -61,7 +61,7 @@ pub fn start_run(
     })
 }
 
-/// Whether so many failures are within the limit, where -1 is none.
+/// Whether this number of failures is within the limit; -1 is no limit.
 fn is_within_limit(failures: u64, limit: i32) -> bool
     ensures { result ≡ is_within_limit failures limit }
 {
@@ -72,14 +72,14 @@ fn is_within_limit(failures: u64, limit: i32) -> bool
     }
 }
 
-/// Whether the start task is run again after so many failures.
+/// Whether the start task is run again after this number of failures.
 pub fn is_tried_again(tables: &Tables, failures: u64, start: &StartTask) -> bool
     ensures { result ≡ is_tried_again tables.now.state failures start.now }
 {
     is_within_limit(failures, start.retries) && has_number_left(tables.next_run())
 }
 
-/// What a node is in after its start task has succeeded.
+/// The stage of a node after its start task has succeeded.
 fn usable_in(stage: NodeStage) -> NodeStage
     ensures { result ≡ usable_in stage }
 {
@@ -89,7 +89,7 @@ fn usable_in(stage: NodeStage) -> NodeStage
     }
 }
 
-/// What a node is in after the last failure of its start task.
+/// The stage of a node after the last failure of its start task.
 fn failed_in(stage: NodeStage) -> NodeStage
     ensures { result ≡ failed_in stage }
 {

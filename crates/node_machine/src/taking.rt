@@ -3,10 +3,10 @@ ghost use Rattle.std.specs.Prelude.{◌≡◌, IfOk, Some};
 ghost use Rattle.std.specs.List.{find};
 ghost use Rattle.std.specs.Option.{option_copied};
 ghost use Rattle.bt_rows.specs.declared.refusal.Refusal.TheVariants.{RunNotFound};
-ghost use Rattle.batch_model.specs.Events.{accept, at_moment, for_row, is_task_of_run, run_taken, started_task, take_run, taken_run};
+ghost use Rattle.batch_model.specs.Events.{accept, for_row, is_task_of_run, run_taken, started_task, take_run, taken_run};
 ghost use Rattle.batch_model.specs.Rows.{run_of};
 ghost use Rattle.batch_model.specs.WellFormed.{KeysAreDistinct};
-ghost use Rattle.machine_plans.specs.Plans.{IsAnswer, IsPlanOf};
+ghost use Rattle.machine_plans.specs.Plans.{IsAnswer, IsPlanOf, with_moment};
 
 use bt_base::{Duplicate, Fail, NoMemory};
 use bt_rows::plan::Plan;
@@ -16,7 +16,7 @@ use bt_rows::tables::{Change, Tables};
 use bt_rows::task::TaskRow;
 use machine_plans::{accept_one, accept_two};
 use std::alloc::Global;
-use table_scans::{find_run, names};
+use table_scans::names;
 
 /// Whether the run is the task's.
 fn is_task_of_run(run: &RunRow, task: &TaskRow) -> bool
@@ -32,7 +32,7 @@ fn find_task_of<'a>(tables: &'a Tables, run: &RunRow) -> Option<&'a TaskRow>
     tables.tasks().iter().find(|task| is_task_of_run(run, task))
 }
 
-/// The run, taken at this moment.
+/// The run, taken at `now`.
 fn taken_run(now: u64, run: &RunRow) -> Result<RunRow, NoMemory>
     ensures { IfOk result (λ taken. taken ≡ taken_run now run.now) }
 {
@@ -42,7 +42,7 @@ fn taken_run(now: u64, run: &RunRow) -> Result<RunRow, NoMemory>
     Ok(taken)
 }
 
-/// The task, started at this moment if it has not started yet.
+/// The task, started at `now` if it has not started yet.
 fn started_task(now: u64, task: &TaskRow) -> Result<TaskRow, NoMemory>
     ensures { IfOk result (λ started. started ≡ started_task now task.now) }
 {
@@ -52,12 +52,11 @@ fn started_task(now: u64, task: &TaskRow) -> Result<TaskRow, NoMemory>
 }
 
 /// The plan that takes a run, and starts its task.
-fn put_taken(alloc: Global, tables: &Tables, moment: u64, run: &RunRow) -> Result<Plan, NoMemory>
+fn put_taken(alloc: Global, tables: &Tables, now: u64, run: &RunRow) -> Result<Plan, NoMemory>
     requires keys { KeysAreDistinct tables.now.state }
     requires there { run_of tables.now.state run.now.number ≡ Some run.now }
-    ensures { IfOk result (IsPlanOf (accept 200 (run_taken (at_moment moment tables.now.state) run.now)) tables.now.state) }
+    ensures { IfOk result (IsPlanOf (accept 200 (run_taken (with_moment now tables.now.state) run.now)) tables.now.state) }
 {
-    let now = tables.moment().max(moment);
     let taken = taken_run(now, run)?;
     match find_task_of(tables, run) {
         Some(task) => {
@@ -65,29 +64,24 @@ fn put_taken(alloc: Global, tables: &Tables, moment: u64, run: &RunRow) -> Resul
             accept_two(
                 alloc,
                 tables,
-                moment,
+                now,
                 200,
                 Change::PutRun(taken),
                 Change::PutTask(started),
             )
         }
-        None => accept_one(alloc, tables, moment, 200, Change::PutRun(taken)),
+        None => accept_one(alloc, tables, now, 200, Change::PutRun(taken)),
     }
 }
 
-/// The plan of `take` of the run that was found.
-fn take_found(
-    alloc: Global,
-    tables: &Tables,
-    moment: u64,
-    run: &RunRow,
-) -> Result<Plan, Fail<Refusal>>
+/// The answer to `take` of the run that was found. Only a queued run is taken.
+fn take_found(alloc: Global, tables: &Tables, now: u64, run: &RunRow) -> Result<Plan, Fail<Refusal>>
     requires keys { KeysAreDistinct tables.now.state }
     requires there { run_of tables.now.state run.now.number ≡ Some run.now }
-    ensures { IsAnswer moment (take_run (at_moment moment tables.now.state) run.now) tables.now.state result }
+    ensures { IsAnswer now (take_run (with_moment now tables.now.state) run.now) tables.now.state result }
 {
     match run.state {
-        RunState::Queued => Ok(put_taken(alloc, tables, moment, run)?),
+        RunState::Queued => Ok(put_taken(alloc, tables, now, run)?),
         RunState::Ended(_) => Err(Fail::Why(Refusal::RunAlreadyEnded)),
         RunState::Withdrawn => Err(Fail::Why(Refusal::RunWithdrawn)),
         RunState::Taken => Err(Fail::Why(Refusal::RunAlreadyTaken)),
@@ -95,19 +89,18 @@ fn take_found(
     }
 }
 
-/// The plan of `take`. A run that is not there is refused as `RunNotFound`; only a queued one is taken, and another is
-/// refused as its state says: `RunAlreadyEnded`, `RunWithdrawn`, `RunAlreadyTaken` or `RunWaiting`.
+/// The answer to `take`.
 pub fn take_run(
     alloc: Global,
     tables: &Tables,
-    moment: u64,
+    now: u64,
     number: u64,
 ) -> Result<Plan, Fail<Refusal>>
     requires { KeysAreDistinct tables.now.state }
-    ensures { IsAnswer moment (for_row (at_moment moment tables.now.state) RunNotFound (take_run (at_moment moment tables.now.state)) (run_of (at_moment moment tables.now.state) number)) tables.now.state result }
+    ensures { IsAnswer now (for_row (with_moment now tables.now.state) RunNotFound (take_run (with_moment now tables.now.state)) (run_of (with_moment now tables.now.state) number)) tables.now.state result }
 {
-    match find_run(tables, number) {
-        Some(run) => take_found(alloc, tables, moment, run),
+    match tables.find_run(number) {
+        Some(run) => take_found(alloc, tables, now, run),
         None => Err(Fail::Why(Refusal::RunNotFound)),
     }
 }

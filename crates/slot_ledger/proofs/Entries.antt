@@ -1,4 +1,4 @@
--- The entry of a node, where no two entries are of one node.
+-- The entry of a node, if no two entries are of one node.
 use Rattle.std.proofs.Common.{◌≡◌, ℕ, Bool, true, false, not, ◌&&◌, ◌||◌, List, [], ◌∷◌, ◌++◌, Some, None, cond, filter, find, refl, sym, ◌∙◌, ap, subst, get_or, set}
 use Rattle.std.specs.Prelude.{nat_eq}
 use Rattle.std.specs.List.{list_any, position, remove}

@@ -33,7 +33,7 @@ abbrev pub AreLegal : List Call → Type 0
 AreLegal [] = Unit {0}
 AreLegal (call ∷ earlier) = (may_call call (after_calls earlier) ≡ true) × AreLegal earlier
 
--- the slots that `hold` took on the node since it was added, and those that `give` gave back
+-- the slots that `hold` took on the node since it was added, and those that `give` freed
 abbrev pub held_by : List Call → ℕ → ℕ
 held_by [] node = 0
 held_by (AddNode added pool slots ∷ earlier) node = if nat_eq added node then 0 else held_by earlier node
@@ -48,7 +48,7 @@ given_by (RemoveNode removed ∷ earlier) node = if nat_eq removed node then 0 e
 given_by (Hold on n ∷ earlier) node = given_by earlier node
 given_by (Give on n ∷ earlier) node = if nat_eq on node then given_by earlier node + n else given_by earlier node
 
--- the entry holds what was taken and not given back since its node was added, and no more than its slots
+-- the entry holds what was taken and not freed since its node was added, and no more than its slots
 pub record HoldsItsSum (calls : List Call) (entry : Entry) : Type 0 where
   pub held : entry.held ≡ held_by calls entry.node - given_by calls entry.node
   pub given : given_by calls entry.node ≤ held_by calls entry.node

@@ -5,7 +5,7 @@ use Rattle.std.specs.List.{list_any}
 use Rattle.bt_base.specs.Ids.{same}
 use Rattle.bt_rows.specs.declared.pool.Fill.{Fill}
 use Rattle.bt_rows.specs.declared.pool.Fill.TheVariants.{Spread, Pack}
--- an entry is a node of a pool, with so many slots, of which so many are held
+-- an entry is a node of a pool, with its number of slots and the number of those that are held
 pub use Rattle.slot_ledger.specs.declared.ledger.Entry.{Entry}
 
 abbrev pub is_of : ℕ → Entry → Bool
@@ -19,11 +19,11 @@ same_node entry other = is_of entry.node other
 abbrev pub has_node : List Entry → ℕ → Bool
 has_node entries node = list_any (is_of node) entries
 
--- the node has so many slots free
+-- the node has `n` slots free
 abbrev pub has_free_slots : List Entry → ℕ → ℕ → Bool
 has_free_slots entries node n = list_any (λ entry. is_of node entry && nat_le (entry.held + n) entry.slots) entries
 
--- so many slots of the node are held
+-- at least `n` slots of the node are held
 abbrev pub has_held_slots : List Entry → ℕ → ℕ → Bool
 has_held_slots entries node n = list_any (λ entry. is_of node entry && nat_le n entry.held) entries
 
@@ -51,7 +51,7 @@ giving entries node n = change_entry node (λ entry. record entry { held = entry
 
 -- the choice of a node
 
--- a node of the pool with so many slots free
+-- a node of the pool with `need` slots free
 abbrev pub fits : List ℕ → ℕ → Entry → Bool
 fits pool need entry = same entry.pool pool && nat_le (entry.held + need) entry.slots
 
@@ -73,6 +73,6 @@ best before (entry ∷ entries) = better (best before entries)
     better None = Some entry
     better (Some other) = if before other entry then Some other else Some entry
 
--- the node of the pool on which so many slots are to be held
+-- the node of the pool on which `need` slots are to be held
 abbrev pub chosen : List Entry → List ℕ → Fill → ℕ → Option ℕ
 chosen entries pool fill need = option_map (λ (entry : Entry). entry.node) (best (precedes fill) (filter (fits pool need) entries))

@@ -19,7 +19,7 @@ pub struct Entry {
     pub held: u8,
 }
 
-/// The held slots of nodes. It is kept as a list of nodes, which each call goes through.
+/// The held slots of nodes. It is a list of nodes, and each call scans it.
 #[derive(Drop)]
 pub struct Ledger {
     entries: Vec<Entry>,
@@ -38,7 +38,7 @@ impl Model for Ledger {
 }
 
 impl Ledger {
-    /// A ledger without nodes. It takes no memory.
+    /// A ledger without nodes. It does not allocate.
     pub fn new(alloc: Global) -> Ledger
         ensures { result ≡ [] }
     {
@@ -47,8 +47,8 @@ impl Ledger {
         }
     }
 
-    /// Adds a node of the pool, with so many slots, none of which is held. The only error is want of memory, which changes
-    /// nothing.
+    /// Adds a node of the pool, with the given number of slots, none of which is held. The only error is out of memory, which
+    /// changes nothing.
     pub fn add_node(&mut self, node: u64, pool: &Id, slots: u8) -> Result<(), NoMemory>
         requires { has_node self.old node ≡ false }
         ensures ok { OnOk result (self.new ≡ with_node self.old node pool.now slots) }
@@ -64,7 +64,7 @@ impl Ledger {
         Ok(())
     }
 
-    /// Removes a node of which no slot is held. It takes no memory.
+    /// Removes a node of which no slot is held. It does not allocate.
     pub fn remove_node(&mut self, node: u64)
         requires { is_unheld self.old node ≡ true }
         ensures { self.new ≡ without_node self.old node }
@@ -74,7 +74,7 @@ impl Ledger {
         }
     }
 
-    /// Holds so many free slots of the node. It takes no memory.
+    /// Holds `n` free slots of the node. It does not allocate.
     pub fn hold(&mut self, node: u64, n: u8)
         requires { has_free_slots self.old node n ≡ true }
         ensures { self.new ≡ holding self.old node n }
@@ -84,7 +84,7 @@ impl Ledger {
         }
     }
 
-    /// Gives back so many held slots of the node. It takes no memory.
+    /// Frees `n` held slots of the node. It does not allocate.
     pub fn give(&mut self, node: u64, n: u8)
         requires { has_held_slots self.old node n ≡ true }
         ensures { self.new ≡ giving self.old node n }
@@ -94,9 +94,9 @@ impl Ledger {
         }
     }
 
-    /// The node of the pool on which so many slots are to be held: `spread` takes the one with the fewest held slots, `pack`
-    /// the one with the most, and the lowest number decides a tie. None exactly where no node of the pool has so many slots
-    /// free. It takes no memory.
+    /// The node of the pool on which `need` slots are to be held: `spread` takes the one with the fewest held slots, `pack` the
+    /// one with the most (Azure Batch REST reference, `nodeFillType`), and the lowest number decides a tie (this project's
+    /// profile). None exactly if no node of the pool has `need` slots free. It does not allocate.
     pub fn choose(&self, pool: &Id, fill: Fill, need: u8) -> Option<u64>
         ensures { result ≡ chosen self.now pool.now fill need }
     {
@@ -107,8 +107,8 @@ impl Ledger {
     }
 }
 
-/// A law of legal lists of calls: each node holds what `hold` took on it and `give` did not give back since it was added, which
-/// is no more than its slots, and no more is given back than was taken.
+/// A law of legal lists of calls: each node holds what `hold` took on it and `give` did not free since it was added, which is no
+/// more than its slots, and no more is freed than was held.
 #[tactic(auto, using(crate::proofs::Sums::each_holds_its_sum))]
 pub fn held_is_sum()
     ensures { (calls : List Call) → AreLegal calls → All (HoldsItsSum calls) (after_calls calls) }
@@ -121,7 +121,7 @@ fn place_of(entries: &[Entry], node: u64) -> Option<usize>
     entries.iter().position(|entry| entry.node == node)
 }
 
-/// Holds so many free slots of the entry's node.
+/// Holds `n` free slots of the entry's node.
 fn hold_in(entry: &mut Entry, n: u8)
     requires { entry.old.held + n ≤ entry.old.slots }
     ensures { entry.new ≡ record entry.old { held = entry.old.held + n } }
@@ -130,7 +130,7 @@ fn hold_in(entry: &mut Entry, n: u8)
     entry.held += n;
 }
 
-/// Gives back so many held slots of the entry's node.
+/// Frees `n` held slots of the entry's node.
 fn give_in(entry: &mut Entry, n: u8)
     requires { n ≤ entry.old.held }
     ensures { entry.new ≡ record entry.old { held = entry.old.held - n } }
@@ -138,7 +138,7 @@ fn give_in(entry: &mut Entry, n: u8)
     entry.held -= n;
 }
 
-/// Whether the node is of the pool and has so many slots free.
+/// Whether the node is of the pool and has `need` slots free.
 fn fits(pool: &Id, need: u8, entry: &Entry) -> bool
     ensures { result ≡ fits pool.now need entry.now }
 {
@@ -162,20 +162,20 @@ fn precedes(fill: Fill, entry: &Entry, other: &Entry) -> bool
     }
 }
 
-/// The entry, unless it does not fit or the best of those behind it goes before it.
+/// The entry, unless it does not fit or the best of those after it precedes it.
 fn better<'a>(
-    behind: Option<&'a Entry>,
+    after: Option<&'a Entry>,
     entry: &'a Entry,
     pool: &Id,
     fill: Fill,
     need: u8,
 ) -> Option<&'a Entry>
-    ensures { (rest : List EntryRow) → option_copied behind.entry ≡ best (precedes fill) (filter (fits pool.now need) rest) → option_copied result ≡ best (precedes fill) (filter (fits pool.now need) (entry.now ∷ rest)) }
+    ensures { (rest : List EntryRow) → option_copied after.entry ≡ best (precedes fill) (filter (fits pool.now need) rest) → option_copied result ≡ best (precedes fill) (filter (fits pool.now need) (entry.now ∷ rest)) }
 {
     if !fits(pool, need, entry) {
-        return behind;
+        return after;
     }
-    match behind {
+    match after {
         None => Some(entry),
         Some(other) => {
             if precedes(fill, other, entry) {
@@ -187,7 +187,7 @@ fn better<'a>(
     }
 }
 
-/// The entry that goes before the others of those that fit.
+/// Of the entries that fit, the one that precedes the others.
 fn best<'a>(entries: &'a [Entry], pool: &Id, fill: Fill, need: u8) -> Option<&'a Entry>
     ensures { option_copied result ≡ best (precedes fill) (filter (fits pool.now need) entries.now) }
 {

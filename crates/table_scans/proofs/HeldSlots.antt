@@ -1,4 +1,4 @@
--- A node holds slots exactly where a placed task has a run with slots on it.
+-- A node holds slots exactly if a placed task has a run with slots on it.
 use Rattle.std.proofs.Common.{◌≡◌, ℕ, ◌+◌, Bool, true, false, ◌&&◌, ◌||◌, List, [], ◌∷◌, cond, refl, sym, ◌∙◌, ap, sum_by, filter, arith}
 use Rattle.std.specs.Prelude.{nat_lt, nat_eq}
 use Rattle.std.specs.List.{list_any}
@@ -59,7 +59,7 @@ module _ {X : Type 0} where
   positive_cons f x rest r true h = rw (sum_by-cons f x rest, positive_sum (f x) (sum_by f rest)) (ap (λ c. nat_lt 0 (f x) || c) h)
   positive_cons f x rest r false h = h
 
-  -- a sum is positive where one of its parts is
+  -- a sum is positive if one of its parts is
   pub positive : (f : X → ℕ) (p : X → Bool) (xs : List X) → nat_lt 0 (sum_by f (filter p xs)) ≡ list_any (λ x. p x && nat_lt 0 (f x)) xs
   positive f p [] = refl
   positive f p (x ∷ xs) = positive_cons f x (filter p xs) (list_any (λ y. p y && nat_lt 0 (f y)) xs) (p x) (positive f p xs)

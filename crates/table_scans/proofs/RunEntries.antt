@@ -109,7 +109,7 @@ entry_with s of_node n = record { node = of_node.number; pool = of_node.pool; sl
 with_held : (s : State) (node : NodeRow) (m n : ℕ) → m ≡ n → entry_with s node m ≡ entry_with s node n
 with_held s node m n e = ap (entry_with s node) e
 
--- nothing changes where the run holds nothing there
+-- nothing changes if the run holds nothing there
 unchanged : (s : State) (runs : List RunRow) (run : RunRow) (node : NodeRow) → part_of s node.number run ≡ 0 → entry_by s runs node ≡ entry_by s (runs ++ run ∷ []) node
 unchanged s runs run node e =
     with_held s node _ _ (sym (held_more s runs run node.number ∙ ap (λ n. held_by s runs node.number + n) e ∙ nothing (held_by s runs node.number)))

@@ -26,7 +26,7 @@ only_usable nodes = filter (λ node. is_usable node.stage) nodes
 abbrev pub ledger_of : State → List Entry
 ledger_of s = map (entry_of s) (only_usable s.nodes)
 
--- the same where these are all runs
+-- the same for these runs alone
 
 -- the slots of the node that these runs hold
 abbrev pub held_by : State → List RunRow → ℕ → ℕ

@@ -1,6 +1,7 @@
 //! Attempts of tasks: which runs are of a task's present attempt, and how its main run ended.
 ghost use Rattle.std.specs.Prelude.{◌≡◌};
 ghost use Rattle.std.specs.Option.{option_copied};
+ghost use Rattle.batch_model.specs.Endings.{is_success};
 ghost use Rattle.batch_model.specs.Runs.{is_unended, is_main, is_busy_for, ending_of};
 ghost use Rattle.batch_model.specs.Tasks.{is_active, is_placed, is_busy, main_run, main_ending};
 
@@ -28,6 +29,13 @@ pub fn is_unended(state: RunState) -> bool
     ensures { result ≡ is_unended state }
 {
     !matches!(state, RunState::Ended(_) | RunState::Withdrawn)
+}
+
+/// Whether the ending is by exit code 0.
+pub fn is_success(ending: Ending) -> bool
+    ensures { result ≡ is_success ending }
+{
+    matches!(ending, Ending::Code(0))
 }
 
 /// Whether the run is of the task's present attempt and has not ended.

@@ -7,7 +7,7 @@ ghost use Rattle.batch_model.specs.WellFormed.{KeysAreDistinct, has_pool_row};
 ghost use Rattle.table_scans.specs.Entries.{slots_of, ledger_of, ledger_by, is_on_usable, is_counted, with_run};
 ghost use Rattle.table_scans.specs.Holding.{is_of_any, is_holding, only_placed};
 
-use crate::nodes::{find_pool, is_usable};
+use crate::nodes::is_usable;
 use crate::runs::is_present;
 use bt_base::NoMemory;
 use bt_rows::node::NodeRow;
@@ -61,7 +61,7 @@ fn is_holding(tasks: &[&TaskRow], run: &RunRow) -> bool
 fn slots_of(tables: &Tables, node: &NodeRow) -> u8
     ensures { result ≡ slots_of tables.now.state node.now }
 {
-    match find_pool(tables, &node.pool) {
+    match tables.find_pool(&node.pool) {
         None => 0,
         Some(pool) => pool.slots,
     }
@@ -78,7 +78,7 @@ fn add_if_usable(ledger: &mut Ledger, tables: &Tables, node: &NodeRow) -> Result
     Ok(())
 }
 
-/// The ledger of the usable nodes, where no slots are held.
+/// The ledger of the usable nodes, with no slots held.
 fn unheld_nodes(alloc: Global, tables: &Tables) -> Result<Ledger, NoMemory>
     requires { KeysAreDistinct tables.now.state }
     ensures { IfOk result (λ ledger. ledger ≡ ledger_by tables.now.state [] tables.now.state.nodes) }

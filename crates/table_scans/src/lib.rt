@@ -1,6 +1,6 @@
 //! Scans of the tables that planners and writers share: runs, attempts of tasks, nodes of pools, the slots that are held, and the ledger
 //! of the usable nodes.
-//! What each answers is written in the crate of definitions, `batch_model`.
+//! What each answers is defined in `batch_model`.
 #![tactic(auto)]
 
 mod attempts;
@@ -10,11 +10,9 @@ mod runs;
 mod slots;
 mod states;
 
-pub use attempts::{is_active, is_busy, is_placed, is_unended, main_ending};
+pub use attempts::{is_active, is_busy, is_placed, is_success, is_unended, main_ending};
 pub use entries::ledger_of;
-pub use nodes::{
-    find_pool, has_leaving, has_number_left, is_in_pool, is_resizing, is_usable, staying_count,
-};
-pub use runs::{find_run, is_present, names};
+pub use nodes::{has_leaving, has_number_left, is_in_pool, is_resizing, is_usable, staying_count};
+pub use runs::{is_present, is_start_number, names};
 pub use slots::holds_slots;
 pub use states::{node_state, task_state};

@@ -1,24 +1,20 @@
 //! Nodes: their stages, their pools, and whether numbers for new ones are left.
 ghost use Rattle.std.specs.Prelude.{◌≡◌};
-ghost use Rattle.std.specs.Option.{option_copied};
 ghost use Rattle.batch_model.specs.Finding.{has_number_left};
 ghost use Rattle.batch_model.specs.Nodes.{is_usable, is_leaving, is_in_pool, stays};
-ghost use Rattle.batch_model.specs.Rows.{pool_of};
 ghost use Rattle.batch_model.specs.Pools.{is_resizing, has_leaving, staying_count};
 
 use bt_base::Id;
+use bt_rows::limits::NUMBER_LIMIT;
 use bt_rows::node::{NodeRow, NodeStage};
-use bt_rows::pool::{Alloc, PoolRow};
+use bt_rows::pool::Alloc;
 use bt_rows::tables::Tables;
 
-/// The greatest number that a new node or run gets.
-const LAST_NUMBER: u64 = 1_000_000_000_000_000;
-
-/// Whether nodes or runs can be made, where this is their next number.
+/// Whether nodes or runs can be made, if this is their next number.
 pub fn has_number_left(next: u64) -> bool
     ensures { result ≡ has_number_left next }
 {
-    next <= LAST_NUMBER
+    next <= NUMBER_LIMIT
 }
 
 /// Whether tasks are placed on the node.
@@ -57,13 +53,6 @@ pub fn has_leaving(tables: &Tables, pool: &Id) -> bool
         .nodes()
         .iter()
         .any(|node| is_in_pool(pool, node) && is_leaving(node.stage))
-}
-
-/// The pool with this id.
-pub fn find_pool<'a>(tables: &'a Tables, id: &Id) -> Option<&'a PoolRow>
-    ensures { option_copied result ≡ pool_of tables.now.state id.now }
-{
-    tables.pools().iter().find(|pool| pool.id.same(id))
 }
 
 /// How many of the pool's nodes do not leave.

@@ -1,23 +1,32 @@
 //! Runs: by their numbers, and whose they are.
 ghost use Rattle.std.specs.Prelude.{◌≡◌};
-ghost use Rattle.std.specs.Option.{option_copied};
 ghost use Rattle.batch_model.specs.Finding.{names};
-ghost use Rattle.batch_model.specs.Rows.{run_of};
-ghost use Rattle.batch_model.specs.Runs.{is_present};
+ghost use Rattle.batch_model.specs.Runs.{is_present, is_start};
+ghost use Rattle.table_scans.specs.Runs.{is_start_number};
 
 use bt_base::Id;
-use bt_rows::run::RunRow;
+use bt_rows::run::{RunKind, RunRow};
 use bt_rows::tables::Tables;
 use bt_rows::task::TaskRow;
 
-/// The run with this number.
-pub fn find_run<'a>(tables: &'a Tables, number: u64) -> Option<&'a RunRow>
-    ensures { option_copied result ≡ run_of tables.now.state number }
+/// Whether the run is one of a start task.
+fn is_start(kind: RunKind) -> bool
+    ensures { result ≡ is_start kind }
 {
-    tables.runs().iter().find(|run| run.number == number)
+    kind == RunKind::Start
 }
 
-/// Whether the name is there and is this id, but for case.
+/// Whether a start run has this number.
+pub fn is_start_number(tables: &Tables, number: u64) -> bool
+    ensures { result ≡ is_start_number tables.now.state number }
+{
+    match tables.find_run(number) {
+        None => false,
+        Some(run) => is_start(run.kind),
+    }
+}
+
+/// Whether the name is there and is this id, whatever its case.
 pub fn names(name: &Option<Id>, id: &Id) -> bool
     ensures { result ≡ names name.now id.now }
 {

@@ -1,4 +1,4 @@
--- What is not to be placed: tasks that do not fit, of jobs that have none to place, and any task where no node has a free slot.
+-- What is not to be placed: tasks that do not fit, of jobs that have none to place, and any task if no node has a free slot.
 use Rattle.std.proofs.Common.{◌≡◌, ℕ, ◌+◌, ◌≤◌, Bool, true, false, not, ◌&&◌, ◌||◌, List, [], ◌∷◌, Option, Some, None, cond, length, find, filter, refl, sym, ◌∙◌, ap, arith}
 use Rattle.std.specs.Prelude.{nat_le, is_some}
 use Rattle.std.specs.Option.{option_map, option_and_then}
@@ -74,12 +74,12 @@ fitting_first s job pool =
 pub task_found : (s : State) (entries : List Entry) (job : JobRow) (pool : PoolRow) (task : TaskRow) → entries ≡ ledger_of s → IsPoolRow s pool → Some task ≡ find (fits_by entries job pool) s.tasks → find (fits_in s job pool) s.tasks ≡ Some task
 task_found s entries job pool task e is_row h = sym (same_fits s entries job pool e is_row) ∙ sym h
 
--- nothing is placed where no task is found
+-- nothing is placed if no task is found
 pub no_task : (s : State) (entries : List Entry) (job : JobRow) (pool : PoolRow) → entries ≡ ledger_of s → IsPoolRow s pool → None ≡ find (fits_by entries job pool) s.tasks → find_map (place_task s job pool) s.tasks ≡ None
 no_task s entries job pool e is_row h =
     fitting_first s job pool ∙ ap (option_and_then (place_task s job pool)) (sym (same_fits s entries job pool e is_row) ∙ sym h)
 
--- nor where no node is chosen for it
+-- nor if no node is chosen for it
 pub no_node : (s : State) (job : JobRow) (pool : PoolRow) (task : TaskRow) → find (fits_in s job pool) s.tasks ≡ Some task → None ≡ choice s pool task.slots → find_map (place_task s job pool) s.tasks ≡ None
 no_node s job pool task found h =
     fitting_first s job pool
@@ -127,7 +127,7 @@ fewer_fit s pool m n le node h =
     let room : held_slots s node.number + n ≤ pool.slots = leb-true (held_slots s node.number + n) pool.slots (and_second (is_usable node.stage && is_in_pool pool.id node) (nat_le (held_slots s node.number + n) pool.slots) h) in
     and_true inside (le-leb (held_slots s node.number + m) pool.slots (omega arith))
 
--- where no node is chosen, none is for more slots
+-- if no node is chosen, none is for more slots
 pub none_for_more : (s : State) (pool : PoolRow) (m n : ℕ) → choice s pool m ≡ None → m ≤ n → choice s pool n ≡ None
 none_for_more s pool m n h le =
     no_best (precedes s pool.fill) (fits s pool n) s.nodes

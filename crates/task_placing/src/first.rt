@@ -4,7 +4,6 @@ ghost use Rattle.std.specs.List.{find, list_any};
 ghost use Rattle.std.specs.Option.{option_copied};
 ghost use Rattle.batch_model.specs.Finding.{Each, find_map};
 ghost use Rattle.batch_model.specs.Placing.{places_tasks, is_placeable, choice, place_task, place_in, place_of_job, place_first};
-ghost use Rattle.batch_model.specs.Rows.{node_of};
 ghost use Rattle.batch_model.specs.Sound.{NumbersAreNew, SlotsSuffice};
 ghost use Rattle.batch_model.specs.WellFormed.{KeysAreDistinct, TasksAreFitting, RowsAreValid, has_pool_row};
 ghost use Rattle.slot_ledger.specs.Ledgers.{chosen};
@@ -26,7 +25,7 @@ use bt_rows::task::TaskRow;
 use slot_ledger::Ledger;
 use std::alloc::Global;
 use std::collections::BTreeMap;
-use table_scans::{find_pool, has_number_left, ledger_of};
+use table_scans::{has_number_left, ledger_of};
 
 fn places_tasks(job: &JobRow) -> bool
     ensures { result ≡ places_tasks job.now }
@@ -43,7 +42,7 @@ fn is_placeable(job: &JobRow, task: &TaskRow) -> bool
     task.job.same(&job.id) && is_ready(task)
 }
 
-/// Whether a node of the pool has so many slots free.
+/// Whether a node of the pool has `need` slots free.
 fn has_room(ledger: &Ledger, pool: &PoolRow, need: u8) -> bool
     ensures { result ≡ is_some (chosen ledger.now pool.now.id pool.now.fill need) }
 {
@@ -62,14 +61,7 @@ fn first_fitting<'a>(
     tables.tasks().iter().find(|task| is_placeable(job, task) && has_room(ledger, pool, task.slots))
 }
 
-/// The node with this number.
-fn find_node<'a>(tables: &'a Tables, number: u64) -> Option<&'a NodeRow>
-    ensures { option_copied result ≡ node_of tables.now.state number }
-{
-    tables.nodes().iter().find(|node| node.number == number)
-}
-
-/// The node on which so many slots are to be held.
+/// The node on which `need` slots are to be held.
 fn chosen_node<'a>(
     tables: &'a Tables,
     ledger: &Ledger,
@@ -83,7 +75,7 @@ fn chosen_node<'a>(
 {
     match ledger.choose(&pool.id, pool.fill, need) {
         None => None,
-        Some(number) => find_node(tables, number),
+        Some(number) => tables.find_node(number),
     }
 }
 
@@ -109,8 +101,8 @@ fn place_fitting(
     Ok(Some(place(alloc, tables, task, node)?))
 }
 
-/// Places a task of the job, no ready one of which asks for fewer slots than these. The tasks are looked at only if a node has
-/// so many free.
+/// Places a task of the job, no ready one of which asks for fewer than `need` slots. The tasks are looked at only if a node has
+/// `need` free.
 fn place_from(
     alloc: Global,
     tables: &Tables,
@@ -171,7 +163,7 @@ fn place_of_job(
     if !places_tasks(job) {
         return Ok(None);
     }
-    match find_pool(tables, &job.pool) {
+    match tables.find_pool(&job.pool) {
         Some(pool) => place_in(alloc, tables, ledger, least, job, pool),
         None => Ok(None),
     }
@@ -204,7 +196,7 @@ fn has_free_slot(tables: &Tables, ledger: &Ledger) -> bool
     tables.pools().iter().any(|pool| has_room(ledger, pool, 1))
 }
 
-/// Places a task where the ledger has room.
+/// Places a task, if a node has a free slot.
 fn place_by_ledger(
     alloc: Global,
     tables: &Tables,
@@ -221,8 +213,8 @@ fn place_by_ledger(
     place_of_jobs(alloc, tables, ledger, &least)
 }
 
-/// The plan of U16, while run numbers last: the earlier job first, and its first task that fits, on the node that the pool's
-/// fill type chooses. None exactly where no task fits. The ledger of the nodes and the least slots that the jobs ask for are
+/// The plan of U16, until run numbers are used up: the earlier job first, and its first task that fits, on the node that the pool's
+/// fill type chooses. None exactly if no task fits. The only error is out of memory. The ledger of the nodes and the least slots that the jobs ask for are
 /// each made by one pass, so that no job, node or pool costs a pass over the tasks or the runs of its own unless a task is
 /// placed there.
 pub fn place_first(alloc: Global, tables: &Tables) -> Result<Option<Plan>, NoMemory>

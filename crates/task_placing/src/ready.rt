@@ -73,7 +73,7 @@ fn put_new_job(
     put_job(alloc, least, job, slots)
 }
 
-/// Puts the slots of the task's job, if the task is ready, and hands out the job that was put last with its slots.
+/// Puts the slots of the task's job, if the task is ready, and returns the job that was put last with its slots.
 fn put_if_ready<'a>(
     alloc: Global,
     least: &mut BTreeMap<String, u8>,

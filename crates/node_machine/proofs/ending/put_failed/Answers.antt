@@ -1,6 +1,6 @@
-use Rattle.std.proofs.Common.{◌≡◌, max, [], ◌∷◌, refl, ap, ◌∙◌}
+use Rattle.std.proofs.Common.{[], ◌∷◌, refl}
 use Rattle.bt_rows.specs.declared.tables.Change.TheVariants.{PutNode, PutRun}
-use Rattle.batch_model.specs.Events.{accept, ended_run}
+use Rattle.batch_model.specs.Events.{accept}
 use Rattle.batch_model.specs.Starts.{change_node, failed_node}
 use Rattle.machine_plans.proofs.Moves.{moved_plan}
 use Rattle.node_machine.specs.Endings.{with_end}
@@ -12,9 +12,7 @@ returns c =
     let s = c.args.tables.now.state in
     let run = c.args.run.now in
     let node = c.args.node.now in
-    let now : c.max-now.result ≡ max s.moment c.args.moment = cc in
-    let ended : c.in_ok-ended.ended ≡ ended_run (max s.moment c.args.moment) c.args.ending run = c.in_ok-ended.ensures ∙ ap (λ at. ended_run at c.args.ending run) now in
-    moved_plan c.accept_two.result c.args.moment (accept 200 (change_node node failed_node (with_end c.args.moment c.args.ending run s))) s
+    moved_plan c.accept_two.result c.args.now (accept 200 (change_node node failed_node (with_end c.args.now c.args.ending run s))) s
     (PutRun c.in_ok-ended.ended ∷ PutNode c.in_ok-failed.failed ∷ []) (λ refusal e. cc)
     c.accept_two.ensures.reply c.accept_two.ensures.changes
-    (end_and_node s run c.requires.there c.args.moment c.args.ending c.in_ok-ended.ended c.in_ok-failed.failed node failed_node ended c.in_ok-failed.ensures (λ x. refl) c.requires.seated)
+    (end_and_node s run c.requires.there c.args.now c.args.ending c.in_ok-ended.ended c.in_ok-failed.failed node failed_node c.in_ok-ended.ensures c.in_ok-failed.ensures (λ x. refl) c.requires.seated)

@@ -1,6 +1,0 @@
-use Rattle.std.proofs.Common.{sym}
-use Rattle.machine_plans.proofs.EventPuts.{own_number}
-use Rattle.batch_machine.proofs.run.end_run.Goals as goal
-
-pub end_found-requires-clause-there : goal.end_found-requires-clause-there
-end_found-requires-clause-there c = own_number c.args.number c.in-Some.run'.now c.args.tables.now.state (sym c.in-Some.ensures)

@@ -1,0 +1,2 @@
+pub mod AnsweredTasks
+pub mod OtherEndings

@@ -1,0 +1,65 @@
+//! The calls of the machine.
+ghost use Rattle.std.specs.Prelude.{◌≡◌, true, IfOk};
+ghost use Rattle.batch_model.specs.Dues.{settle_first};
+ghost use Rattle.batch_model.specs.Events.{event_now};
+ghost use Rattle.batch_model.specs.Sound.{IsSound};
+ghost use Rattle.machine_plans.specs.Plans.{IsAnswer, IsRule, with_moment};
+ghost use Rattle.job_machine.specs.Owners.{is_of_jobs};
+
+use crate::collection::add_tasks;
+use crate::ending::end_run;
+use crate::job::add_job;
+use crate::settle::settle_first;
+use crate::task::add_task;
+use bt_base::{Fail, NoMemory};
+use bt_rows::event::{Event, EventKind};
+use bt_rows::plan::{Plan, View};
+use bt_rows::refusal::Refusal;
+use std::alloc::Global;
+
+/// The answer to an event of jobs and tasks, or to the ending of a run that is not a start run, at the view's moment. Refusals
+/// come in the order in which they are listed here:
+///
+/// - `add-job`: `JobExists`, `PoolNotFound`, `PoolBeingDeleted`, and `TableFull` if there are as many jobs as the limit;
+/// - `add-task`: `JobNotFound`, `JobStateRefuses` if the job is terminating, completed or deleting, `TaskExists`,
+///   `DependencyListTooLong`, and `TableFull` if there are as many tasks as the limit;
+/// - `add-tasks`: `JobNotFound`, `JobStateRefuses`, `CollectionTooLong`; then each element is answered as `add-task` answers it,
+///   and a refused element keeps no other from being added;
+/// - `end`: `RunNotFound`, `RunAlreadyEnded`, `RunWithdrawn`, `RunNotTaken`;
+/// - each other event of jobs and tasks is not built, and refused as `UnreadableBody`.
+///
+/// The only other error is out of memory.
+pub fn plan_event(alloc: Global, view: &View, event: &Event) -> Result<Plan, Fail<Refusal>>
+    requires own { is_of_jobs view.now.tables.now.state event.now ≡ true }
+    requires sound { IsSound view.now.seats view.now.tables.now.state }
+    ensures { IsAnswer view.entry.now.now (event_now event.now (with_moment view.entry.now.now view.entry.now.tables.now.state)) view.entry.now.tables.now.state result }
+{
+    match event.kind() {
+        EventKind::AddJob(id, spec) => add_job(alloc, view.tables, view.now, id, spec),
+        EventKind::AddTask(job, spec) => add_task(alloc, view.tables, view.now, job, spec),
+        EventKind::AddTasks(job, specs) => {
+            add_tasks(alloc, view.tables, view.now, job, specs.as_slice())
+        }
+        EventKind::End(number, ending) => {
+            end_run(alloc, view.tables, view.now, *number, *ending)
+        }
+        EventKind::PatchJob(_, _)
+        | EventKind::DisableJob(_, _)
+        | EventKind::EnableJob(_)
+        | EventKind::TerminateJob(_, _)
+        | EventKind::DeleteJob(_)
+        | EventKind::DeleteTask(_, _)
+        | EventKind::TerminateTask(_, _)
+        | EventKind::ReactivateTask(_, _) => Err(Fail::Why(Refusal::UnreadableBody)),
+        _ => unreachable!(),
+    }
+}
+
+/// The plan of the first due step of tasks; None exactly if no rule of theirs applies. A placed task without an unended run in its
+/// present attempt is settled (U5). The only error is out of memory.
+pub fn next_due(alloc: Global, view: &View) -> Result<Option<Plan>, NoMemory>
+    requires sound { IsSound view.now.seats view.now.tables.now.state }
+    ensures { IfOk result (IsRule (settle_first view.entry.now.tables.now.state) view.entry.now.tables.now.state) }
+{
+    settle_first(alloc, view.tables)
+}

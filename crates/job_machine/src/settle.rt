@@ -1,0 +1,248 @@
+//! U5, the due step that settles a placed task whose present attempt has no unended run: it is active again if its requeue is
+//! wanted, and else completed.
+ghost use Rattle.std.specs.Prelude.{◌≡◌, IfOk, Some, find};
+ghost use Rattle.std.specs.Option.{option_copied};
+ghost use Rattle.bt_rows.specs.declared.due.Due.TheVariants.{TaskSettled};
+ghost use Rattle.batch_model.specs.Tasks.{is_undisturbed, main_ending, cleared, completed, retry_limit};
+ghost use Rattle.batch_model.specs.Rows.{job_of};
+ghost use Rattle.batch_model.specs.Endings.{closed_by};
+ghost use Rattle.batch_model.specs.Settling.{is_over, has_no_conditions, is_zero_limit, is_tried_once, has_plain_job, is_to_complete, outcome_of, complete, wants_requeue, is_to_requeue, active_again, requeue, is_to_settle, complete_as_ended, settle};
+ghost use Rattle.batch_model.specs.Dues.{settle_first};
+ghost use Rattle.batch_model.specs.WellFormed.{KeysAreDistinct};
+ghost use Rattle.machine_plans.specs.Plans.{IsPlanOf, IsRule, answer_of_step};
+
+use bt_base::{Duplicate, NoMemory};
+use bt_rows::due::{Due, Outcome};
+use bt_rows::job::JobRow;
+use bt_rows::plan::Plan;
+use bt_rows::run::Ending;
+use bt_rows::tables::{Change, Tables};
+use bt_rows::task::{Closed, How, TaskRow, TaskStage, Want};
+use machine_plans::step_one;
+use std::alloc::Global;
+use table_scans::{is_busy, is_placed, is_success, main_ending};
+
+/// Whether the task is placed, and no run of its present attempt is unended.
+fn is_over(tables: &Tables, task: &TaskRow) -> bool
+    ensures { result ≡ is_over tables.now.state task.now }
+{
+    is_placed(task.stage) && !is_busy(tables, task)
+}
+
+/// Whether no end of the task is wanted, and no start of it has failed.
+fn is_undisturbed(task: &TaskRow) -> bool
+    ensures { result ≡ is_undisturbed task.now }
+{
+    task.wanted.is_none() && task.fail.is_none()
+}
+
+/// Whether the task lists no exit conditions.
+fn has_no_conditions(task: &TaskRow) -> bool
+    ensures { result ≡ has_no_conditions task.now }
+{
+    task.codes.as_slice().is_empty()
+        && task.ranges.as_slice().is_empty()
+        && task.launch.is_none()
+        && task.other.is_none()
+}
+
+/// Whether a failure of the task is final.
+fn is_zero_limit(retries: i32) -> bool
+    ensures { result ≡ is_zero_limit retries }
+{
+    retries == 0
+}
+
+/// The greatest number of retries of the task: its own limit, or else its job's; -1 is no limit.
+fn retry_limit(job: &JobRow, task: &TaskRow) -> i32
+    ensures { result ≡ retry_limit job.now task.now }
+{
+    task.retries.unwrap_or(job.retries)
+}
+
+/// Whether the job takes no actions on failures, and the task is not tried again.
+fn is_tried_once(task: &TaskRow, job: &JobRow) -> bool
+    ensures { result ≡ is_tried_once task.now job.now }
+{
+    !job.on_fail && is_zero_limit(retry_limit(job, task))
+}
+
+/// Whether the task's job takes no actions, and the task is not tried again.
+fn has_plain_job(tables: &Tables, task: &TaskRow) -> bool
+    ensures { result ≡ has_plain_job tables.now.state task.now }
+{
+    match tables.find_job(&task.job) {
+        None => false,
+        Some(job) => is_tried_once(task, job),
+    }
+}
+
+/// Whether the task is over, and is to be completed as its main run ended.
+fn is_to_complete(tables: &Tables, task: &TaskRow) -> bool
+    ensures { result ≡ is_to_complete tables.now.state task.now }
+{
+    is_over(tables, task)
+        && is_undisturbed(task)
+        && has_no_conditions(task)
+        && has_plain_job(tables, task)
+        && main_ending(tables, task).is_some()
+}
+
+/// Whether a requeue of the task is wanted.
+fn wants_requeue(wanted: Option<Want>) -> bool
+    ensures { result ≡ wants_requeue wanted }
+{
+    wanted == Some(Want::Requeue)
+}
+
+/// Whether the task is over, and is to be active again.
+fn is_to_requeue(tables: &Tables, task: &TaskRow) -> bool
+    ensures { result ≡ is_to_requeue tables.now.state task.now }
+{
+    is_over(tables, task) && wants_requeue(task.wanted)
+}
+
+/// Whether the task is to be requeued or completed.
+fn is_to_settle(tables: &Tables, task: &TaskRow) -> bool
+    ensures { result ≡ is_to_settle tables.now.state task.now }
+{
+    is_to_requeue(tables, task) || is_to_complete(tables, task)
+}
+
+/// The first task that is to be settled.
+fn first_to_settle<'a>(tables: &'a Tables) -> Option<&'a TaskRow>
+    ensures { option_copied result ≡ find (is_to_settle tables.now.state) tables.now.state.tasks }
+{
+    tables
+        .tasks()
+        .iter()
+        .find(|task| is_to_settle(tables, task))
+}
+
+/// How a task is closed whose main run ended in this way at `now`, in milliseconds since 1970.
+fn closed_by(now: u64, ending: Ending) -> Closed
+    ensures { result ≡ closed_by now ending }
+{
+    let success = is_success(ending);
+    Closed {
+        how: How::Ended(ending),
+        success,
+        satisfies: success,
+        at: now,
+    }
+}
+
+/// The outcome in the line of a task that ended with success or without.
+fn outcome_of(success: bool) -> Outcome
+    ensures { result ≡ outcome_of success }
+{
+    if success {
+        Outcome::Success
+    } else {
+        Outcome::Failure
+    }
+}
+
+/// The task with no end wanted and no start failed.
+fn cleared(task: &TaskRow) -> Result<TaskRow, NoMemory>
+    ensures { IfOk result (λ row. row ≡ cleared task.now) }
+{
+    let mut row = task.copy()?;
+    row.wanted = None;
+    row.fail = None;
+    row.started = None;
+    Ok(row)
+}
+
+/// The task, completed and closed in this way.
+fn completed(closed: Closed, task: &TaskRow) -> Result<TaskRow, NoMemory>
+    ensures { IfOk result (λ row. row ≡ completed closed task.now) }
+{
+    let mut row = cleared(task)?;
+    row.stage = TaskStage::Completed;
+    row.closed = Some(closed);
+    Ok(row)
+}
+
+/// The task, active again with the failures that it has.
+fn active_again(task: &TaskRow) -> Result<TaskRow, NoMemory>
+    ensures { IfOk result (λ row. row ≡ active_again task.now) }
+{
+    let mut row = cleared(task)?;
+    row.stage = TaskStage::Active;
+    Ok(row)
+}
+
+/// The line that tells what became of the task.
+fn settled(task: &TaskRow, outcome: Outcome) -> Result<Due, NoMemory>
+    ensures { IfOk result (λ due. due ≡ TaskSettled task.now.job task.now.id outcome) }
+{
+    let job = task.job.copy()?;
+    Ok(Due::TaskSettled(job, task.id.copy()?, outcome))
+}
+
+/// The plan that completes the task as its main run ended.
+fn complete(
+    alloc: Global,
+    tables: &Tables,
+    task: &TaskRow,
+    ending: Ending,
+) -> Result<Plan, NoMemory>
+    requires keys { KeysAreDistinct tables.now.state }
+    requires found { find (is_to_settle tables.now.state) tables.now.state.tasks ≡ Some task.now }
+    ensures { IfOk result (IsPlanOf (answer_of_step (complete tables.now.state task.now ending)) tables.now.state) }
+{
+    let due = settled(task, outcome_of(is_success(ending)))?;
+    let row = completed(closed_by(tables.moment(), ending), task)?;
+    step_one(alloc, due, Change::PutTask(row))
+}
+
+/// The plan that completes the task, if its main run ended.
+fn complete_as_ended(
+    alloc: Global,
+    tables: &Tables,
+    task: &TaskRow,
+) -> Result<Option<Plan>, NoMemory>
+    requires keys { KeysAreDistinct tables.now.state }
+    requires found { find (is_to_settle tables.now.state) tables.now.state.tasks ≡ Some task.now }
+    ensures { IfOk result (IsRule (complete_as_ended tables.now.state task.now) tables.now.state) }
+{
+    match main_ending(tables, task) {
+        None => Ok(None),
+        Some(ending) => Ok(Some(complete(alloc, tables, task, ending)?)),
+    }
+}
+
+/// The plan that makes the task active again.
+fn requeue(alloc: Global, tables: &Tables, task: &TaskRow) -> Result<Plan, NoMemory>
+    requires keys { KeysAreDistinct tables.now.state }
+    requires found { find (is_to_settle tables.now.state) tables.now.state.tasks ≡ Some task.now }
+    ensures { IfOk result (IsPlanOf (answer_of_step (requeue tables.now.state task.now)) tables.now.state) }
+{
+    let due = settled(task, Outcome::Again(task.failures))?;
+    step_one(alloc, due, Change::PutTask(active_again(task)?))
+}
+
+/// The plan that settles the task: a wanted requeue goes before the ending of the main run.
+fn settle(alloc: Global, tables: &Tables, task: &TaskRow) -> Result<Option<Plan>, NoMemory>
+    requires keys { KeysAreDistinct tables.now.state }
+    requires found { find (is_to_settle tables.now.state) tables.now.state.tasks ≡ Some task.now }
+    ensures { IfOk result (IsRule (settle tables.now.state task.now) tables.now.state) }
+{
+    if is_to_requeue(tables, task) {
+        Ok(Some(requeue(alloc, tables, task)?))
+    } else {
+        complete_as_ended(alloc, tables, task)
+    }
+}
+
+/// The plan that settles the first task that is to be settled.
+pub fn settle_first(alloc: Global, tables: &Tables) -> Result<Option<Plan>, NoMemory>
+    requires { KeysAreDistinct tables.now.state }
+    ensures { IfOk result (IsRule (settle_first tables.now.state) tables.now.state) }
+{
+    match first_to_settle(tables) {
+        None => Ok(None),
+        Some(task) => settle(alloc, tables, task),
+    }
+}
