@@ -1,8 +1,8 @@
-//! The texts of the service in one place: what the lines of a script ask, and what replies, due steps and tables look
-//! like. It hands on what the crates of the wire do.
+//! The texts of the service under one name: the lines of a script, and the texts of replies, due steps and tables. It re-exports
+//! the crates of the wire.
 #![tactic(auto)]
 
-pub use wire_lines::{LineRequest, read_line, split_line};
+pub use wire_lines::{LINE_LIMIT, LineRequest, read_line, split_line};
 pub use wire_texts::{
     name_of, number_of, push_line, status_of, write_due, write_reply, write_tables,
 };
