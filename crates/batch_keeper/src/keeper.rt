@@ -11,13 +11,13 @@ use std::alloc::Global;
 
 /// A keeper of the tables.
 pub trait Keeper {
-    /// Its tables, where it tells them.
+    /// Its tables, if its content is visible to contracts.
     ghost told: { Self → Option State };
 
     /// How often it has failed. The count never falls.
     ghost faults: { Self → ℕ };
 
-    /// Gives its tables, which are well formed. `Failed` comes only where the count of faults rose in this call; an error
+    /// Returns its tables, which are well formed. `Failed` comes only if the count of faults rose in this call; an error
     /// leaves the tables as before.
     fn load(&mut self, alloc: Global) -> Result<Tables, KeepError>
         ensures tables { IfOk result (λ tables. IfSome (told self.old) (λ s. tables.state ≡ s)) }
@@ -25,7 +25,7 @@ pub trait Keeper {
         ensures same { told self.new ≡ told self.old }
         ensures cause { FailsWithCause (faults self.old) (faults self.new) result };
 
-    /// Makes these changes in order, all of them or none, where they leave well-formed tables. `Failed` comes only where
+    /// Makes these changes in order, all of them or none; they have to leave well-formed tables. `Failed` comes only if
     /// the count of faults rose in this call; an error leaves the tables as before.
     fn save(&mut self, alloc: Global, changes: &[Change]) -> Result<(), KeepError>
         requires { IfSome (told self.old) (λ s. IsWellFormed (apply_changes changes.now s)) }

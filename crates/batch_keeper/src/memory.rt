@@ -9,8 +9,10 @@ use crate::keeper::Keeper;
 use crate::sure::SureKeeper;
 use bt_rows::tables::{Change, Tables};
 use std::alloc::Global;
+use std::marker::Model;
 
-/// A keeper in memory of which some calls fail.
+/// A keeper in memory of which the calls of given numbers fail. Contracts see its tables, these numbers, and how many calls were
+/// made and failed.
 #[derive(Drop)]
 pub struct MemoryKeeper {
     inner: SureKeeper,
@@ -19,14 +21,19 @@ pub struct MemoryKeeper {
     faults: u64,
 }
 
+impl Model for MemoryKeeper {
+    ghost use Rattle.batch_keeper.specs.Listed.{ListedKeeper};
+
+    ghost Value = { ListedKeeper };
+
+    ghost view = { λ k. record { tables = k.inner; fails = k.fails.items; calls = k.calls; faults = k.faults } };
+}
+
 impl MemoryKeeper {
-    /// A keeper of these tables. The loads and saves of these numbers fail, counted together from 1. It takes no memory.
+    /// A keeper of these tables. The loads and saves of these numbers fail, counted together from 1. It does not allocate.
     pub fn new(tables: Tables, fails: Vec<u64>) -> MemoryKeeper
         requires { IsWellFormed tables.state }
-        ensures told { result.inner ≡ tables.state }
-        ensures fails { result.fails.items ≡ fails.items }
-        ensures calls { result.calls ≡ 0 }
-        ensures faults { result.faults ≡ 0 }
+        ensures { result ≡ record { tables = tables.state; fails = fails.items; calls = 0; faults = 0 } }
     {
         MemoryKeeper {
             inner: SureKeeper::new(tables),
@@ -36,12 +43,12 @@ impl MemoryKeeper {
         }
     }
 
-    // Counts a call, and its fault if it is to fail; whether it is.
+    // Counts a call, and its fault if it is to fail; whether it is to fail.
     fn fails_now(&mut self) -> bool
-        ensures inner { self.new.inner ≡ self.old.inner }
+        ensures tables { self.new.tables ≡ self.old.tables }
         ensures counted { self.new.calls ≡ min (self.old.calls + 1) (2 ^ 64 - 1) }
-        ensures listed { IsTrue result ↔ Contains self.old.fails.items self.new.calls }
-        ensures kept { self.new.fails.items ≡ self.old.fails.items }
+        ensures listed { IsTrue result ↔ Contains self.old.fails self.new.calls }
+        ensures kept { self.new.fails ≡ self.old.fails }
         ensures later { self.old.faults ≤ self.new.faults }
         ensures faulted { IsTrue result → self.new.faults ≡ min (self.old.faults + 1) (2 ^ 64 - 1) }
         ensures faultless { ¬ IsTrue result → self.new.faults ≡ self.old.faults }
@@ -58,19 +65,19 @@ impl MemoryKeeper {
 impl Keeper for MemoryKeeper {
     ghost use Rattle.std.specs.Prelude.{Some};
 
-    ghost told = { λ k. Some k.inner };
+    ghost told = { λ k. Some k.tables };
 
     ghost faults = { λ k. k.faults };
 
-    /// Fails exactly where the number of the call is listed. Where memory runs out no fault is counted.
+    /// Answers `Failed` exactly if the number of the call is listed. If memory runs out no fault is counted.
     fn load(&mut self, alloc: Global) -> Result<Tables, KeepError>
-        ensures tables { IfOk result (λ tables. tables.state ≡ self.old.inner) }
+        ensures tables { IfOk result (λ tables. tables.state ≡ self.old.tables) }
         ensures well_formed { IfOk result (λ tables. IsWellFormed tables.state) }
-        ensures same { self.new.inner ≡ self.old.inner }
+        ensures same { self.new.tables ≡ self.old.tables }
         ensures cause { FailsWithCause self.old.faults self.new.faults result }
         ensures counted { self.new.calls ≡ min (self.old.calls + 1) (2 ^ 64 - 1) }
-        ensures listed { IsErrOf result KeepError.Failed ↔ Contains self.old.fails.items self.new.calls }
-        ensures kept { self.new.fails.items ≡ self.old.fails.items }
+        ensures listed { IsErrOf result KeepError.Failed ↔ Contains self.old.fails self.new.calls }
+        ensures kept { self.new.fails ≡ self.old.fails }
         ensures faulted { IsErrOf result KeepError.Failed → self.new.faults ≡ min (self.old.faults + 1) (2 ^ 64 - 1) }
         ensures faultless { ¬ IsErrOf result KeepError.Failed → self.new.faults ≡ self.old.faults }
     {
@@ -80,15 +87,15 @@ impl Keeper for MemoryKeeper {
         self.inner.load(alloc)
     }
 
-    /// Fails exactly where the number of the call is listed. Where memory runs out no fault is counted.
+    /// Answers `Failed` exactly if the number of the call is listed. If memory runs out no fault is counted.
     fn save(&mut self, alloc: Global, changes: &[Change]) -> Result<(), KeepError>
-        requires { IsWellFormed (apply_changes changes.now self.old.inner) }
-        ensures ok { OnOk result (self.new.inner ≡ apply_changes changes.now self.old.inner) }
-        ensures err { OnErr result (self.new.inner ≡ self.old.inner) }
+        requires { IsWellFormed (apply_changes changes.now self.old.tables) }
+        ensures ok { OnOk result (self.new.tables ≡ apply_changes changes.now self.old.tables) }
+        ensures err { OnErr result (self.new.tables ≡ self.old.tables) }
         ensures cause { FailsWithCause self.old.faults self.new.faults result }
         ensures counted { self.new.calls ≡ min (self.old.calls + 1) (2 ^ 64 - 1) }
-        ensures listed { IsErrOf result KeepError.Failed ↔ Contains self.old.fails.items self.new.calls }
-        ensures kept { self.new.fails.items ≡ self.old.fails.items }
+        ensures listed { IsErrOf result KeepError.Failed ↔ Contains self.old.fails self.new.calls }
+        ensures kept { self.new.fails ≡ self.old.fails }
         ensures faulted { IsErrOf result KeepError.Failed → self.new.faults ≡ min (self.old.faults + 1) (2 ^ 64 - 1) }
         ensures faultless { ¬ IsErrOf result KeepError.Failed → self.new.faults ≡ self.old.faults }
     {

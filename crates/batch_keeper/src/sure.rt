@@ -27,7 +27,7 @@ impl Model for SureKeeper {
 }
 
 impl SureKeeper {
-    /// A keeper of these tables. It takes no memory.
+    /// A keeper of these tables. It does not allocate.
     pub fn new(tables: Tables) -> SureKeeper
         requires { IsWellFormed tables.state }
         ensures { result ≡ tables.state }
