@@ -37,16 +37,20 @@ pub record IsNext (seats n : ℕ) (s : State) (step : DueStep) : Type 0 where
   pub dues : due_list seats (suc n) s ≡ due_list seats n s ++ step.due ∷ []
 
 -- the first of several steps
-state_first : (seats n : ℕ) (s : State) (o : Option DueStep) → due_step seats s ≡ o → due_state seats (suc n) s ≡ option_map_or (λ (x : DueStep). due_state seats n x.state) o s
+state_first : (seats n : ℕ) (s : State) (o : Option DueStep) → due_step seats s ≡ o →
+    due_state seats (suc n) s ≡ option_map_or (λ (x : DueStep). due_state seats n x.state) o s
 state_first seats n s o e = ap (λ w. option_map_or (λ (x : DueStep). due_state seats n x.state) w s) e
 
-list_first : (seats n : ℕ) (s : State) (o : Option DueStep) → due_step seats s ≡ o → due_list seats (suc n) s ≡ option_map_or (λ (x : DueStep). x.due ∷ due_list seats n x.state) o []
+list_first : (seats n : ℕ) (s : State) (o : Option DueStep) → due_step seats s ≡ o →
+    due_list seats (suc n) s ≡ option_map_or (λ (x : DueStep). x.due ∷ due_list seats n x.state) o []
 list_first seats n s o e = ap (λ w. option_map_or (λ (x : DueStep). x.due ∷ due_list seats n x.state) w []) e
 
 none_is_some : (step : DueStep) → None ≡ Some step → ⊥
 none_is_some step e = cc
 
-next_from : (seats n : ℕ) (s : State) (step : DueStep) (o : Option DueStep) → due_step seats s ≡ o → ((t : State) → due_step seats (due_state seats n t) ≡ Some step → IsNext seats n t step) → due_step seats (due_state seats (suc n) s) ≡ Some step → IsNext seats (suc n) s step
+next_from : (seats n : ℕ) (s : State) (step : DueStep) (o : Option DueStep) → due_step seats s ≡ o →
+    ((t : State) → due_step seats (due_state seats n t) ≡ Some step → IsNext seats n t step) → due_step seats (due_state seats (suc n) s) ≡ Some step →
+    IsNext seats (suc n) s step
 next_from seats n s step None e below d =
     absurd (none_is_some step (sym e ∙ (sym (ap (due_step seats) (state_first seats n s None e)) ∙ d)))
 next_from seats n s step (Some first) e below d =
@@ -68,7 +72,8 @@ pub record DuesSo (seats : ℕ) (dues : List Due) (s now : State) : Type 0 where
   pub list : dues ≡ due_list seats (length dues) s
 
 -- one more
-pub dues_more : (seats : ℕ) (dues more : List Due) (s now new : State) (due : Due) → DuesSo seats dues s now → MakesDue seats now new due → more ≡ dues ++ due ∷ [] → DuesSo seats more s new
+pub dues_more : (seats : ℕ) (dues more : List Due) (s now new : State) (due : Due) → DuesSo seats dues s now → MakesDue seats now new due →
+    more ≡ dues ++ due ∷ [] → DuesSo seats more s new
 dues_more seats dues more s now new due so made e =
     let step : DueStep = record { due = due; state = new } in
     let next = next_at seats (length dues) s step (ap (due_step seats) (sym so.state) ∙ made.applies) in

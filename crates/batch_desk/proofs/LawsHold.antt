@@ -18,7 +18,9 @@ use Rattle.batch_desk.specs.Laws.{IsReached, at_opening, in_call, KeepsSlots}
 -- due steps keep tables sound
 
 module _ (seats : ℕ) where
-  sound_after_step : (n : ℕ) (s : State) (o : Option DueStep) → due_step seats s ≡ o → IsSound seats s → ((t : State) → IsSound seats t → IsSound seats (due_state seats n t)) → IsSound seats (option_map_or (λ (step : DueStep). due_state seats n step.state) o s)
+  sound_after_step : (n : ℕ) (s : State) (o : Option DueStep) → due_step seats s ≡ o → IsSound seats s →
+      ((t : State) → IsSound seats t → IsSound seats (due_state seats n t)) →
+      IsSound seats (option_map_or (λ (step : DueStep). due_state seats n step.state) o s)
   sound_after_step n s None e h more = h
   sound_after_step n s (Some step) e h more = more step.state (sound_by_due seats s step h e)
 
@@ -40,14 +42,16 @@ module _ (seats : ℕ) where
     pub sound : IsSound seats s
     pub call : IsCall seats s e
 
-  before_call : (s : State) (before : List Entry) (e : Entry) (rest : List Entry) → IsSound seats s → IsLegal seats s (before ++ e ∷ rest) → Before (after_all seats s before) e
+  before_call : (s : State) (before : List Entry) (e : Entry) (rest : List Entry) → IsSound seats s → IsLegal seats s (before ++ e ∷ rest) →
+      Before (after_all seats s before) e
   before_call s [] e rest h l = record { sound = h; call = l.0 }
   before_call s (first ∷ before) e rest h l = before_call (after_call seats s first) before e rest (by_mark s first first.mark refl h l.0) l.1
 
 -- slots
 
 -- at each moment of a legal history from sound tables
-reached_within : (seats : ℕ) (opened : State) (entries : List Entry) (s : State) → IsSound seats opened → IsLegal seats opened entries → IsReached seats opened entries s → HoldsWithinSlots seats s
+reached_within : (seats : ℕ) (opened : State) (entries : List Entry) (s : State) → IsSound seats opened → IsLegal seats opened entries →
+    IsReached seats opened entries s → HoldsWithinSlots seats s
 reached_within seats opened entries s h l at_opening = within_slots seats opened h
 reached_within seats opened entries s h l (in_call before e rest refusal n is made few) =
     let at = before_call seats opened before e rest h (subst (IsLegal seats opened) is l) in

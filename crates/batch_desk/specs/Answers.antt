@@ -4,6 +4,8 @@ use Rattle.bt_base.specs.Causes.{Rose}
 use Rattle.bt_rows.specs.declared.event.EventKind.{EventKind}
 use Rattle.batch_model.specs.Sound.{IsSound}
 use Rattle.batch_model.specs.Variants.{State}
+use Rattle.batch_keeper.specs.declared.error.KeepError.{KeepError}
+use Rattle.batch_keeper.specs.declared.error.KeepError.TheVariants.{Failed}
 use Rattle.batch_desk.specs.declared.entry.Entry.{Entry}
 use Rattle.batch_desk.specs.declared.entry.Mark.{Mark}
 use Rattle.batch_desk.specs.declared.entry.Mark.TheVariants.{Done as Made, KeeperFault as NotKept}
@@ -62,6 +64,13 @@ pub record HasSameOpening {K : Type 0} (old new : Desk K) : Type 0 where
   pub opened : new.opened ≡ old.opened
   pub seats : new.seats ≡ old.seats
   pub limit : new.limit ≡ old.limit
+
+-- A desk was not opened: the keeper tells what it told before, and its count of faults did not fall, and rose if the error is
+-- a keeper fault.
+pub record FailsToOpen (told_before told_now : Option State) (faults_before faults_now : ℕ) (error : KeepError) : Type 0 where
+  pub same : told_now ≡ told_before
+  pub later : faults_before ≤ faults_now
+  pub failed : error ≡ Failed → Rose faults_before faults_now
 
 -- a desk that has just been opened
 pub record Begins {K : Type 0} (d : Desk K) (seats limit : ℕ) : Type 0 where

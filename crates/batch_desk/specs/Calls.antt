@@ -13,11 +13,12 @@ use Rattle.batch_desk.specs.declared.entry.Stop.{Stop}
 use Rattle.batch_desk.specs.declared.entry.Stop.TheVariants.{KeeperFault as FaultStop}
 use Rattle.batch_desk.specs.declared.answer.Answer.{Answer}
 use Rattle.batch_desk.specs.declared.answer.Answer.TheVariants.{Done, KeeperFault, JournalFull, Memory}
-use Rattle.batch_desk.specs.Kept.{Pair}
+use Rattle.batch_desk.specs.Kept.{SavedMachine}
 use Rattle.batch_desk.specs.History.{due_state, due_list, StopsSo, fault_entry, done_entry}
 
 -- due steps were made after an event with this reply, and the call was entered
-pub record Finishes {K : Type 0} (faults : K → ℕ) (old new : Pair K) (before now : List Entry) (moment : ℕ) (event : EventKind) (reply : Reply) (dues : List Due) (stop : Stop) : Type 0 where
+pub record Finishes {K : Type 0} (faults : K → ℕ) (old new : SavedMachine K) (before now : List Entry) (moment : ℕ) (event : EventKind) (reply : Reply)
+    (dues : List Due) (stop : Stop) : Type 0 where
   pub state : new.state ≡ due_state old.seats (length dues) old.state
   pub list : dues ≡ due_list old.seats (length dues) old.state
   pub stops : StopsSo old.seats stop new.state
@@ -25,7 +26,8 @@ pub record Finishes {K : Type 0} (faults : K → ℕ) (old new : Pair K) (before
   pub entries : now ≡ before ++ done_entry moment event reply (length dues) stop ∷ []
 
 -- the event was made, and then due steps, and the call was entered
-pub record Makes {K : Type 0} (faults : K → ℕ) (old new : Pair K) (before now : List Entry) (moment : ℕ) (event : EventKind) (reply : Reply) (dues : List Due) (stop : Stop) : Type 0 where
+pub record Makes {K : Type 0} (faults : K → ℕ) (old new : SavedMachine K) (before now : List Entry) (moment : ℕ) (event : EventKind) (reply : Reply)
+    (dues : List Due) (stop : Stop) : Type 0 where
   pub made : State
   pub step : event_step moment event old.state ≡ record { reply = reply; state = made }
   pub state : new.state ≡ due_state old.seats (length dues) made
@@ -40,32 +42,33 @@ IsFailed NoMemory answer moment event before now = (answer ≡ Memory) × (now �
 IsFailed Failed answer moment event before now = (answer ≡ KeeperFault) × (now ≡ before ++ fault_entry moment event ∷ [])
 
 -- a keeper fault left the call undone, and it was entered
-pub record LeavesUndone {K : Type 0} (faults : K → ℕ) (old new : Pair K) (before now : List Entry) (moment : ℕ) (event : EventKind) : Type 0 where
+pub record LeavesUndone {K : Type 0} (faults : K → ℕ) (old new : SavedMachine K) (before now : List Entry) (moment : ℕ) (event : EventKind) : Type 0 where
   pub state : new.state ≡ old.state
   pub entries : now ≡ before ++ fault_entry moment event ∷ []
   pub rose : Rose (faults old.keeper) (faults new.keeper)
 
 -- the call left all but the keeper
-pub record LeavesAll {K : Type 0} (old new : Pair K) (before now : List Entry) : Type 0 where
+pub record LeavesAll {K : Type 0} (old new : SavedMachine K) (before now : List Entry) : Type 0 where
   pub state : new.state ≡ old.state
   pub entries : now ≡ before
 
 -- by the answer
-abbrev pub IsCalled : {K : Type 0} → (K → ℕ) → Pair K → Pair K → List Entry → List Entry → ℕ → EventKind → Answer → Type 0
+abbrev pub IsCalled : {K : Type 0} → (K → ℕ) → SavedMachine K → SavedMachine K → List Entry → List Entry → ℕ → EventKind → Answer → Type 0
 IsCalled faults old new before now moment event JournalFull = ⊥
 IsCalled faults old new before now moment event Memory = LeavesAll old new before now
 IsCalled faults old new before now moment event KeeperFault = LeavesUndone faults old new before now moment event
 IsCalled faults old new before now moment event (Done reply dues stop) = Makes faults old new before now moment event reply dues stop
 
 -- a full journal, and nothing changed
-pub record IsFull {K : Type 0} (limit : ℕ) (old new : Pair K) (before now : List Entry) : Type 0 where
+pub record IsFull {K : Type 0} (limit : ℕ) (old new : SavedMachine K) (before now : List Entry) : Type 0 where
   pub full : limit ≤ length before
-  pub pair : new ≡ old
+  pub saved : new ≡ old
   pub entries : now ≡ before
 
 -- by the answer, in a journal with a limit
-abbrev pub IsCalledWithin : {K : Type 0} → (K → ℕ) → ℕ → Pair K → Pair K → List Entry → List Entry → ℕ → EventKind → Answer → Type 0
+abbrev pub IsCalledWithin : {K : Type 0} → (K → ℕ) → ℕ → SavedMachine K → SavedMachine K → List Entry → List Entry → ℕ → EventKind → Answer → Type 0
 IsCalledWithin faults limit old new before now moment event JournalFull = IsFull limit old new before now
 IsCalledWithin faults limit old new before now moment event Memory = (length before < limit) × IsCalled faults old new before now moment event Memory
 IsCalledWithin faults limit old new before now moment event KeeperFault = (length before < limit) × IsCalled faults old new before now moment event KeeperFault
-IsCalledWithin faults limit old new before now moment event (Done reply dues stop) = (length before < limit) × IsCalled faults old new before now moment event (Done reply dues stop)
+IsCalledWithin faults limit old new before now moment event (Done reply dues stop) = (length before < limit)
+    × IsCalled faults old new before now moment event (Done reply dues stop)

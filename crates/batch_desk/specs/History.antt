@@ -19,23 +19,23 @@ use Rattle.batch_desk.specs.declared.entry.Mark.TheVariants.{Done, KeeperFault a
 use Rattle.batch_desk.specs.declared.entry.Stop.{Stop}
 use Rattle.batch_desk.specs.declared.entry.Stop.TheVariants.{Rest, KeeperFault as FaultStop, Memory as MemoryStop}
 
--- the tables after so many due steps
+-- the tables after this many due steps, or at rest before
 abbrev pub due_state : ℕ → ℕ → State → State
 due_state seats zero s = s
 due_state seats (suc n) s = option_map_or (λ (step : DueStep). due_state seats n step.state) (due_step seats s) s
 
--- what so many due steps tell
+-- what this many due steps show
 abbrev pub due_list : ℕ → ℕ → State → List Due
 due_list seats zero s = []
 due_list seats (suc n) s = option_map_or (λ (step : DueStep). step.due ∷ due_list seats n step.state) (due_step seats s) []
 
--- the due steps may stop so at these tables: at rest no rule applies, and at a keeper fault one does
+-- the due steps may stop for this reason at these tables: at rest no rule applies, and at a keeper fault one does
 abbrev pub StopsSo : ℕ → Stop → State → Type 0
 StopsSo seats Rest s = due_step seats s ≡ None
 StopsSo seats FaultStop s = IsSome (due_step seats s)
 StopsSo seats MemoryStop s = Unit {0}
 
--- so many due steps are made, and may stop so after them
+-- this many due steps are made, and may stop for this reason after them
 pub record DuesGo (seats n : ℕ) (stop : Stop) (s : State) : Type 0 where
   pub each : length (due_list seats n s) ≡ n
   pub stops : StopsSo seats stop (due_state seats n s)
@@ -53,7 +53,7 @@ reply_to s e = (event_step e.moment e.event s).reply
 abbrev pub after_event : State → Entry → State
 after_event s e = (event_step e.moment e.event s).state
 
--- what the call's due steps tell
+-- what the call's due steps show
 abbrev pub dues_of : ℕ → State → Entry → List Due
 dues_of seats s e = due_list seats e.dues (after_event s e)
 
@@ -92,7 +92,7 @@ after_all seats s (e ∷ es) = after_all seats (after_call seats s e) es
 abbrev pub asked_of : Entry → ℕ × EventKind
 asked_of e = (e.moment, e.event)
 
--- 1 where the entry shows a keeper fault
+-- 1 if the entry records a keeper fault
 abbrev pub faults_of : Entry → ℕ
 faults_of e = by_stop e.stop
   where
@@ -101,7 +101,7 @@ faults_of e = by_stop e.stop
     by_stop FaultStop = 1
     by_stop MemoryStop = 0
 
--- how many entries show one
+-- how many entries record one
 abbrev pub fault_count : List Entry → ℕ
 fault_count [] = 0
 fault_count (e ∷ es) = faults_of e + fault_count es

@@ -4,16 +4,16 @@ use Rattle.bt_rows.specs.State.{State}
 use Rattle.batch_desk.specs.declared.entry.Entry.{Entry}
 
 -- a keeper, and the machine's tables beside it
-pub record Pair (K : Type 0) : Type 0 where
+pub record SavedMachine (K : Type 0) : Type 0 where
   pub keeper : K
   pub state : State
   pub seats : ℕ
 
--- the tables that are told are these
+-- a keeper that tells its tables tells these
 abbrev pub Tells : Option State → State → Type 0
 Tells told s = IfSome told (λ kept. kept ≡ s)
 
--- a keeper, the tables, and the journal: the opened tables, the seats, how many calls it takes, and its entries
+-- a keeper, the tables, and the journal: the opened tables, the seats, the most calls that it takes, and its entries
 pub record Desk (K : Type 0) : Type 0 where
   pub keeper : K
   pub state : State

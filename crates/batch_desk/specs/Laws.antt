@@ -11,7 +11,8 @@ use Rattle.batch_desk.specs.History.{due_state, after_event, after_all}
 -- each of its due steps
 pub data IsReached (seats : ℕ) (opened : State) (entries : List Entry) : State → Type 0 where
   at_opening : IsReached seats opened entries opened
-  in_call : (before : List Entry) (e : Entry) (rest : List Entry) (refusal : Option Refusal) (n : ℕ) → entries ≡ before ++ e ∷ rest → e.mark ≡ Done refusal → n ≤ e.dues → IsReached seats opened entries (due_state seats n (after_event (after_all seats opened before) e))
+  in_call : (before : List Entry) (e : Entry) (rest : List Entry) (refusal : Option Refusal) (n : ℕ) → entries ≡ before ++ e ∷ rest → e.mark ≡ Done refusal →
+      n ≤ e.dues → IsReached seats opened entries (due_state seats n (after_event (after_all seats opened before) e))
 
 -- at no moment a node holds more slots than its pool has, and each due step that places a task takes the slots that it
 -- requires from those that are free on a usable node of its job's pool

@@ -17,12 +17,12 @@ pub record IsAtRest (seats : ℕ) (old new : State) : Type 0 where
   pub rest : due_step seats old ≡ None
   pub same : new ≡ old
 
--- the due step was made, and this is what it tells
+-- the due step was made, and this is what it shows
 pub record MakesDue (seats : ℕ) (old new : State) (told : Due) : Type 0 where
   pub sound : IsSound seats old
   pub applies : due_step seats old ≡ Some (record { due = told; state = new })
 
--- what was told, if a due step was made
+-- what the due step shows, if one was made
 abbrev pub IsDueTurn : ℕ → State → State → Option Due → Type 0
 IsDueTurn seats old new None = IsAtRest seats old new
 IsDueTurn seats old new (Some told) = MakesDue seats old new told

@@ -8,7 +8,7 @@ use bt_rows::reply::Reply;
 /// What a call is answered.
 #[derive(Drop)]
 pub enum Answer {
-    /// It was made: its reply, what its due steps tell, and why they stopped.
+    /// It was made: its reply, what its due steps show, and why they stopped.
     Done {
         reply: Reply,
         dues: List<Due>,

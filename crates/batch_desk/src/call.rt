@@ -6,7 +6,7 @@ ghost use Rattle.batch_desk.specs.Calls.{Finishes, IsFailed, IsCalled, IsCalledW
 
 use crate::answer::Answer;
 use crate::entry::{Entry, Mark, Stop};
-use crate::pair::Pair;
+use crate::saved_machine::SavedMachine;
 use batch_keeper::{KeepError, Keeper};
 use bt_base::{List, Moment};
 use bt_rows::due::Due;
@@ -36,19 +36,19 @@ fn refusal_of(reply: &Reply) -> Option<Refusal>
 /// Makes the due steps that follow an event with this reply, and enters the call.
 fn finish<K: Keeper + Drop>(
     alloc: Global,
-    pair: &mut Pair<K>,
+    saved: &mut SavedMachine<K>,
     entries: &mut Vec<Entry>,
     moment: Moment,
     event: Event,
     reply: &Reply,
 ) -> (List<Due>, Stop)
     requires { vec_len entries.old < vec_capacity entries.old }
-    ensures finished { Finishes K.faults pair.old pair.new entries.old.items entries.new.items moment event reply.now result.0 result.1 }
-    ensures seats { pair.new.seats ≡ pair.old.seats }
-    ensures kept { Tells (K.told pair.new.keeper) pair.new.state }
-    ensures later { K.faults pair.old.keeper ≤ K.faults pair.new.keeper }
+    ensures finished { Finishes K.faults saved.old saved.new entries.old.items entries.new.items moment event reply.now result.0 result.1 }
+    ensures seats { saved.new.seats ≡ saved.old.seats }
+    ensures kept { Tells (K.told saved.new.keeper) saved.new.state }
+    ensures later { K.faults saved.old.keeper ≤ K.faults saved.new.keeper }
 {
-    let (dues, stop) = pair.due_steps(alloc);
+    let (dues, stop) = saved.due_steps(alloc);
     entries.push_reserved(Entry {
         moment,
         event,
@@ -59,7 +59,7 @@ fn finish<K: Keeper + Drop>(
     (dues, stop)
 }
 
-/// Enters a call that was left undone because of a keeper fault, and answers it. Want of memory has no entry.
+/// Enters a call that was left undone because of a keeper fault, and answers it. A call for which memory ran out has no entry.
 fn enter_failed(entries: &mut Vec<Entry>, moment: Moment, event: Event, error: KeepError) -> Answer
     requires { vec_len entries.old < vec_capacity entries.old }
     ensures { IsFailed error result moment event entries.old.items entries.new.items }
@@ -83,20 +83,20 @@ fn enter_failed(entries: &mut Vec<Entry>, moment: Moment, event: Event, error: K
 /// made. Each is saved before it is made.
 fn make_call<K: Keeper + Drop>(
     alloc: Global,
-    pair: &mut Pair<K>,
+    saved: &mut SavedMachine<K>,
     entries: &mut Vec<Entry>,
     moment: Moment,
     event: Event,
 ) -> Answer
     requires { vec_len entries.old < vec_capacity entries.old }
-    ensures called { IsCalled K.faults pair.old pair.new entries.old.items entries.new.items moment event result }
-    ensures seats { pair.new.seats ≡ pair.old.seats }
-    ensures kept { Tells (K.told pair.new.keeper) pair.new.state }
-    ensures later { K.faults pair.old.keeper ≤ K.faults pair.new.keeper }
+    ensures called { IsCalled K.faults saved.old saved.new entries.old.items entries.new.items moment event result }
+    ensures seats { saved.new.seats ≡ saved.old.seats }
+    ensures kept { Tells (K.told saved.new.keeper) saved.new.state }
+    ensures later { K.faults saved.old.keeper ≤ K.faults saved.new.keeper }
 {
-    match pair.event(alloc, moment, &event) {
+    match saved.event(alloc, moment, &event) {
         Ok(reply) => {
-            let (dues, stop) = finish(alloc, pair, entries, moment, event, &reply);
+            let (dues, stop) = finish(alloc, saved, entries, moment, event, &reply);
             Answer::Done { reply, dues, stop }
         }
         Err(error) => enter_failed(entries, moment, event, error),
@@ -108,16 +108,16 @@ fn make_call<K: Keeper + Drop>(
 pub fn call_within<K: Keeper + Drop>(
     alloc: Global,
     limit: u32,
-    pair: &mut Pair<K>,
+    saved: &mut SavedMachine<K>,
     entries: &mut Vec<Entry>,
     moment: Moment,
     event: Event,
 ) -> Answer
-    requires { Tells (K.told pair.old.keeper) pair.old.state }
-    ensures called { IsCalledWithin K.faults limit pair.old pair.new entries.old.items entries.new.items moment event result }
-    ensures seats { pair.new.seats ≡ pair.old.seats }
-    ensures kept { Tells (K.told pair.new.keeper) pair.new.state }
-    ensures later { K.faults pair.old.keeper ≤ K.faults pair.new.keeper }
+    requires { Tells (K.told saved.old.keeper) saved.old.state }
+    ensures called { IsCalledWithin K.faults limit saved.old saved.new entries.old.items entries.new.items moment event result }
+    ensures seats { saved.new.seats ≡ saved.old.seats }
+    ensures kept { Tells (K.told saved.new.keeper) saved.new.state }
+    ensures later { K.faults saved.old.keeper ≤ K.faults saved.new.keeper }
 {
     if entries.len() >= limit as usize {
         drop(event);
@@ -127,5 +127,5 @@ pub fn call_within<K: Keeper + Drop>(
         drop(event);
         return Answer::Memory;
     }
-    make_call(alloc, pair, entries, moment, event)
+    make_call(alloc, saved, entries, moment, event)
 }

@@ -1,6 +1,5 @@
 //! The desk and its journal.
 ghost use Rattle.std.specs.Prelude.{◌≡◌, ◌≤◌, None, IfOk, IfErr, IfSome, OnOk, OnErr, nat_lt};
-ghost use Rattle.bt_base.specs.Causes.{Rose};
 ghost use Rattle.bt_rows.specs.Changes.{apply_changes};
 ghost use Rattle.batch_model.specs.Opening.{opening};
 ghost use Rattle.batch_model.specs.Sound.{IsSound};
@@ -8,13 +7,13 @@ ghost use Rattle.batch_keeper.specs.Told.{FailsWithCause};
 ghost use Rattle.batch_desk.specs.Kept.{Tells};
 ghost use Rattle.batch_desk.specs.Laws.{KeepsSlots};
 ghost use Rattle.batch_desk.specs.History.{IsLegal, after_all, fault_count, faults_of};
-ghost use Rattle.batch_desk.specs.Answers.{Answers, IsInOrder, HasSameOpening, Begins};
+ghost use Rattle.batch_desk.specs.Answers.{Answers, IsInOrder, HasSameOpening, FailsToOpen, Begins};
 
 use crate::answer::Answer;
 use crate::call::{call_within, know_ranges};
 use crate::entry::{Entry, Stop};
 use crate::journal::Journal;
-use crate::pair::Pair;
+use crate::saved_machine::SavedMachine;
 use crate::saving::save;
 use batch_keeper::{KeepError, Keeper};
 use batch_machine::Machine;
@@ -27,7 +26,7 @@ use std::marker::Model;
 /// Calls one after the other over a keeper, and the journal of them.
 #[derive(Drop)]
 pub struct Desk<K: Keeper + Drop> {
-    pair: Pair<K>,
+    saved: SavedMachine<K>,
     opened: Tables,
     limit: u32,
     entries: Vec<Entry>,
@@ -40,25 +39,25 @@ impl<K: Keeper + Drop> Model for Desk<K> {
     ghost Value = { Seen K };
 
     ghost view = { λ d. record {
-      keeper = d.pair.keeper;
-      state = d.pair.state;
+      keeper = d.saved.keeper;
+      state = d.saved.state;
       opened = d.opened.state;
-      seats = d.pair.seats;
+      seats = d.saved.seats;
       limit = d.limit;
       entries = d.entries.items;
     } };
 
     ghost invariant = { λ d. IsInOrder K.told K.faults (record {
-      keeper = d.pair.keeper;
-      state = d.pair.state;
+      keeper = d.saved.keeper;
+      state = d.saved.state;
       opened = d.opened.state;
-      seats = d.pair.seats;
+      seats = d.saved.seats;
       limit = d.limit;
       entries = d.entries.items;
     }) };
 }
 
-/// Whether the entry shows a keeper fault.
+/// Whether the entry records a keeper fault.
 fn is_fault(entry: &Entry) -> bool
     ensures { result ≡ nat_lt 0 (faults_of entry.now) }
 {
@@ -68,7 +67,7 @@ fn is_fault(entry: &Entry) -> bool
     }
 }
 
-/// Whether one of them does.
+/// Whether any entry records a keeper fault.
 fn any_fault(entries: &[Entry]) -> bool
     ensures { result ≡ nat_lt 0 (fault_count entries.now) }
 {
@@ -80,7 +79,7 @@ fn any_fault(entries: &[Entry]) -> bool
     false
 }
 
-/// Saves the changes of the opening, if there are any, and hands out a copy of the opened tables, which is taken before.
+/// Saves the changes of the opening, if there are any, and returns a copy of the opened tables, which is made before the save.
 fn save_opening<K: Keeper>(
     alloc: Global,
     keeper: &mut K,
@@ -99,7 +98,7 @@ fn save_opening<K: Keeper>(
     Ok(opened)
 }
 
-/// The machine over the tables that the keeper gives, and the changes of the opening, which are not saved yet.
+/// The machine over the tables that the keeper loads, and the changes of the opening, which are not saved yet.
 fn load_machine<K: Keeper>(
     alloc: Global,
     keeper: &mut K,
@@ -116,7 +115,7 @@ fn load_machine<K: Keeper>(
     Ok(Machine::open(alloc, tables, seats)?)
 }
 
-/// The machine over the tables that the keeper gives, with the opening saved, and a copy of the opened tables.
+/// The machine over the tables that the keeper loads, with the opening saved, and a copy of the opened tables.
 fn open_machine<K: Keeper>(
     alloc: Global,
     keeper: &mut K,
@@ -136,7 +135,9 @@ fn open_machine<K: Keeper>(
 }
 
 impl<K: Keeper + Drop> Desk<K> {
-    /// Opens the tables that the keeper gives, for so many seats, with a journal that takes so many calls.
+    /// Opens the tables that the keeper loads, for `seats` seats (1 to 32), with a journal of at most `limit` calls, which is
+    /// empty. `Failed` comes only if the keeper's count of faults rose in this call, by the load or by the save of the opening.
+    /// After an error the keeper tells the same tables as before.
     pub fn open(
         alloc: Global,
         mut keeper: K,
@@ -148,13 +149,12 @@ impl<K: Keeper + Drop> Desk<K> {
         ensures in_order { IfOk result (λ d. IsInOrder K.told K.faults d) }
         ensures begins { IfOk result (λ d. Begins d seats limit) }
         ensures opened { IfOk result (λ d. IfSome (K.told keeper) (λ s. d.opened ≡ opening s)) }
-        ensures untouched { IfErr result (λ e. K.told e.0 ≡ K.told keeper) }
-        ensures failed { IfErr result (λ e. e.1 ≡ KeepError.Failed → Rose (K.faults keeper) (K.faults e.0)) }
         ensures later { IfOk result (λ d. K.faults keeper ≤ K.faults d.keeper) }
+        ensures unopened { IfErr result (λ e. FailsToOpen (K.told keeper) (K.told e.0) (K.faults keeper) (K.faults e.0) e.1) }
     {
         match open_machine(alloc, &mut keeper, seats) {
             Ok((machine, opened)) => Ok(Desk {
-                pair: Pair::new(keeper, machine, seats),
+                saved: SavedMachine::new(keeper, machine, seats),
                 opened,
                 limit,
                 entries: Vec::new(alloc),
@@ -168,24 +168,24 @@ impl<K: Keeper + Drop> Desk<K> {
         ensures state { result.now.state ≡ self.now.state }
         ensures sound { IsSound self.now.seats self.now.state }
     {
-        self.pair.tables()
+        self.saved.tables()
     }
 
-    /// How many calls the journal takes.
+    /// The most calls that the journal takes.
     pub fn limit(&self) -> u32
         ensures { result ≡ self.now.limit }
     {
         self.limit
     }
 
-    /// Whether the journal shows a keeper fault.
+    /// Whether the journal records a keeper fault.
     pub fn has_faults(&self) -> bool
         ensures { result ≡ nat_lt 0 (fault_count self.now.entries) }
     {
         any_fault(&self.entries)
     }
 
-    /// Gives back the keeper and the journal. The journal is a legal history, the keeper tells the tables after it, and
+    /// Returns the keeper and the journal. The journal is a legal history, the keeper tells the tables after it, and
     /// counted each keeper fault in it. At no moment of it a node holds more slots than its pool has.
     pub fn close(self) -> (K, Journal)
         ensures keeper { result.0 ≡ self.keeper }
@@ -199,19 +199,19 @@ impl<K: Keeper + Drop> Desk<K> {
         ensures counted { fault_count result.1.entries ≤ K.faults result.0 }
     {
         let Desk {
-            pair,
+            saved,
             opened,
             limit,
             entries,
         } = self;
-        let seats = pair.seats();
+        let seats = saved.seats();
         let journal = Journal {
             opened,
             seats,
             limit,
             entries: List::of_vec(entries),
         };
-        (pair.into_keeper(), journal)
+        (saved.into_keeper(), journal)
     }
 
     /// Makes a call: the event, and then due steps until no rule applies or until one can't be made. Each is saved before
@@ -227,7 +227,7 @@ impl<K: Keeper + Drop> Desk<K> {
         call_within(
             alloc,
             self.limit,
-            &mut self.pair,
+            &mut self.saved,
             &mut self.entries,
             moment,
             event,

@@ -4,7 +4,7 @@ use crate::entry::Entry;
 use bt_base::List;
 use bt_rows::tables::Tables;
 
-/// The opened tables, the seats, how many calls the journal takes, and the calls in order.
+/// The opened tables, the seats, the most calls that the journal takes, and the calls in order.
 #[derive(Drop)]
 pub struct Journal {
     pub opened: Tables,

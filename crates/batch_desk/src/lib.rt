@@ -6,7 +6,7 @@ mod call;
 mod desk;
 mod entry;
 mod journal;
-mod pair;
+mod saved_machine;
 mod saving;
 
 pub use answer::Answer;

@@ -42,7 +42,7 @@ fn save_reserved<K: Keeper>(
     save(alloc, keeper, machine.reserved())
 }
 
-/// Makes a plan once it is saved, and hands out its reply. Where it is not saved, it is given up.
+/// Makes a plan once it is saved, and returns its reply. A plan that could not be saved is given up.
 pub fn make_saved<K: Keeper>(
     alloc: Global,
     machine: &mut Machine,

@@ -1,4 +1,4 @@
-//! A keeper, and the machine beside it, whose tables are those that the keeper tells.
+//! A machine whose tables its keeper keeps: each step is saved before it is made.
 ghost use Rattle.std.specs.Prelude.{◌≡◌, ◌≤◌, [], None, IfOk, OnOk, OnErr, IsErrOf, IsSome, length};
 ghost use Rattle.bt_base.specs.Causes.{Rose};
 ghost use Rattle.bt_rows.specs.declared.reply.Reply.TheVariants.{Step};
@@ -24,15 +24,15 @@ use std::marker::Model;
 
 /// A keeper, and the machine beside it. Each step is saved before it is made.
 #[derive(Drop)]
-pub struct Pair<K: Keeper + Drop> {
+pub struct SavedMachine<K: Keeper + Drop> {
     keeper: K,
     machine: Machine,
     seats: u8,
 }
 
-impl<K: Keeper + Drop> Model for Pair<K> {
+impl<K: Keeper + Drop> Model for SavedMachine<K> {
     ghost use Rattle.std.specs.Prelude.{◌≡◌, None};
-    ghost use Rattle.batch_desk.specs.Kept.{Pair as Seen, Tells};
+    ghost use Rattle.batch_desk.specs.Kept.{SavedMachine as Seen, Tells};
 
     ghost Value = { Seen K };
 
@@ -45,7 +45,7 @@ impl<K: Keeper + Drop> Model for Pair<K> {
     } };
 }
 
-/// What a due step's reply tells.
+/// What a due step's reply shows.
 fn due_of(reply: Reply) -> Due
     requires { IsStep reply }
     ensures { reply ≡ Step result }
@@ -56,26 +56,26 @@ fn due_of(reply: Reply) -> Due
     }
 }
 
-impl<K: Keeper + Drop> Pair<K> {
-    pub fn new(keeper: K, machine: Machine, seats: u8) -> Pair<K>
+impl<K: Keeper + Drop> SavedMachine<K> {
+    pub fn new(keeper: K, machine: Machine, seats: u8) -> SavedMachine<K>
         requires kept { Tells (K.told keeper) machine.state }
         requires seated { machine.seats ≡ seats }
         requires free { machine.reserved ≡ None }
         ensures { result ≡ record { keeper = keeper; state = machine.state; seats = seats } }
     {
-        Pair {
+        SavedMachine {
             keeper,
             machine,
             seats,
         }
     }
 
-    /// Gives back the keeper.
+    /// Returns the keeper.
     pub fn into_keeper(self) -> K
         ensures keeper { result ≡ self.keeper }
         ensures kept { Tells (K.told result) self.state }
     {
-        let Pair {
+        let SavedMachine {
             keeper,
             machine,
             seats: _,
@@ -116,7 +116,7 @@ impl<K: Keeper + Drop> Pair<K> {
         make_saved(alloc, &mut self.machine, &mut self.keeper, plan)
     }
 
-    /// Makes the due step, and hands out what it tells; none where no rule applies. `Failed` comes only where one does.
+    /// Makes the due step, and returns what it shows; None if no rule applies. `Failed` comes only if one does.
     fn due_step(&mut self, alloc: Global) -> Result<Option<Due>, KeepError>
         ensures ok { IfOk result (IsDueTurn self.old.seats self.old.state self.new.state) }
         ensures err { OnErr result (self.new.state ≡ self.old.state) }
@@ -132,7 +132,7 @@ impl<K: Keeper + Drop> Pair<K> {
         Ok(Some(due_of(reply)))
     }
 
-    /// Makes due steps until no rule applies, or until one can't be made, and adds what each tells.
+    /// Makes due steps until no rule applies, or until one can't be made, and adds what each shows.
     fn add_due_steps(&mut self, alloc: Global, dues: &mut Vec<Due>) -> Stop
         requires { dues.old.items ≡ [] }
         ensures state { self.new.state ≡ due_state self.old.seats (length dues.new.items) self.old.state }
@@ -155,7 +155,7 @@ impl<K: Keeper + Drop> Pair<K> {
         }
     }
 
-    /// Makes due steps until no rule applies, or until one can't be made: what they tell, and why they stopped.
+    /// Makes due steps until no rule applies, or until one can't be made: what they show, and why they stopped.
     pub fn due_steps(&mut self, alloc: Global) -> (List<Due>, Stop)
         ensures state { self.new.state ≡ due_state self.old.seats (length result.0) self.old.state }
         ensures dues { result.0 ≡ due_list self.old.seats (length result.0) self.old.state }

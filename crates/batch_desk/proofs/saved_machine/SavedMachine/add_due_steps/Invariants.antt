@@ -1,6 +1,6 @@
 use Rattle.std.proofs.Common.{◌≡◌, ◌≤◌}
 use Rattle.batch_desk.proofs.DueRuns.{DuesSo, turns_left}
-use Rattle.batch_desk.proofs.pair.Pair.add_due_steps.Given as goal
+use Rattle.batch_desk.proofs.saved_machine.SavedMachine.add_due_steps.Given as goal
 
 abbrev pub invariant-loop-alloc : goal.invariant-loop-alloc
 invariant-loop-alloc g l = record {
