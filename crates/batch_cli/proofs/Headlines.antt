@@ -1,110 +1,181 @@
 -- From the run of an opened desk to the whole run.
 use Rattle.std.proofs.Common.{◌≡◌, ◌≤◌, ℕ, List, Option, Some, None, IfSome, ap, ◌∙◌, sym, subst, arith, inr, map, take}
 use Rattle.std.specs.Str.Lines.{lines}
-use Rattle.bt_base.specs.Content.{Gains, GainsFront}
+use Rattle.bt_base.specs.Content.{Gains}
 use Rattle.batch_model.specs.Opening.{opening}
+use Rattle.batch_model.specs.Sound.{IsSound}
 use Rattle.batch_model.specs.Variants.{State}
 use Rattle.batch_desk.specs.declared.entry.Entry.{Entry}
 use Rattle.batch_desk.specs.Kept.{Desk, Tells}
 use Rattle.batch_desk.specs.Laws.{KeepsSlots}
 use Rattle.batch_desk.specs.History.{IsLegal, after_all, asked_of, fault_count}
 use Rattle.batch_desk.specs.Answers.{IsInOrder, Begins, HasSameOpening}
-use Rattle.batch_cli.specs.Shown.{outputs, calls_of}
+use Rattle.batch_cli.specs.Shown.{outputs, outputs_before, calls_of}
 use Rattle.batch_cli.specs.Advance.{RoseBy}
+use Rattle.batch_cli.specs.Written.{GainsBetween}
 use Rattle.batch_cli.specs.Ending.{ending_of}
-use Rattle.batch_cli.specs.Going.{Part, NothingDone, EndsWith, DeskRan}
-use Rattle.batch_cli.specs.Headline.{IsDone, IsBegun, IsUntouched, RanWith}
+use Rattle.batch_cli.specs.Going.{Part, CutOff, NothingDone, EndsWith, DeskRan}
+use Rattle.batch_cli.specs.Headline.{Seen, BeginsFrom, IsDone, IsBegun, IsCutOff, IsOpened, RanWith}
 use Rattle.cli_words.specs.declared.command.ReplayOptions.{ReplayOptions as Options}
 use Rattle.batch_cli.specs.declared.status.Status.{Status}
-use Rattle.batch_cli.specs.declared.status.Status.TheVariants.{Done, Memory, Usage, SourceFault, SinkFault, KeeperFault, UnreadableLines, ScriptTooLong, FormulaError, JournalFull}
+use Rattle.batch_cli.specs.declared.status.Status.TheVariants.{Done, Memory, Usage, SourceFault, SinkFault, KeeperFault, UnreadableLines, ScriptTooLong}
+use Rattle.batch_cli.specs.declared.status.Status.TheVariants.{FormulaError, JournalFull}
 
--- a desk in order, on its way from one that was opened on these tables
-record Runs {K : Type 0} (told : K → Option State) (faults : K → ℕ) (options : Options) (loaded : State) (before : ℕ) (start now : Desk K) : Type 0 where
+-- a desk in order, on its way from one that was opened
+record Runs {K : Type 0} (told : K → Option State) (faults : K → ℕ) (options : Options) (loaded : Option State) (count : ℕ) (start now : Desk K) : Type 0 where
   begins : Begins start options.seats options.limit
-  opened : start.opened ≡ opening loaded
-  later : before ≤ faults start.keeper
+  opened : IfSome loaded (λ s. start.opened ≡ opening s)
+  later : count ≤ faults start.keeper
   in_order : IsInOrder told faults now
 
--- what shows the history, from the opened tables
-shown_from : {K : Type 0} {start : Desk K} (options : Options) (loaded : State) (script : List (List ℕ)) (history : List Entry) → Begins start options.seats options.limit → start.opened ≡ opening loaded → outputs start.seats 1 script start.limit history start.state ≡ outputs options.seats 1 script options.limit history (opening loaded)
-shown_from {K} {start} options loaded script history b o =
-    ap (λ seats. outputs seats 1 script start.limit history start.state) b.seats_are
-    ∙ ap (λ limit. outputs options.seats 1 script limit history start.state) b.limit_is
-    ∙ ap (λ s. outputs options.seats 1 script options.limit history s) (b.state ∙ o)
+-- what is seen of such a run
+abbrev seen_of : {K : Type 0} → (K → Option State) → (K → ℕ) → Option State → ℕ → Desk K → Option (List ℕ) → Option (List ℕ) → Seen
+seen_of told faults loaded count now before taken =
+    record { taken_before = before; taken_now = taken; loaded = loaded; kept = told now.keeper; faults_before = count; faults_now = faults now.keeper }
 
-legal_from : {K : Type 0} {told : K → Option State} {faults : K → ℕ} {options : Options} {loaded : State} {before : ℕ} {start now : Desk K} → Runs told faults options loaded before start now → HasSameOpening start now → IsLegal options.seats (opening loaded) now.entries
-legal_from {K} {told} {faults} {options} {loaded} {before} {start} {now} r same =
-    subst (λ seats. IsLegal seats (opening loaded) now.entries) (same.seats ∙ r.begins.seats_are)
-    (subst (λ s. IsLegal now.seats s now.entries) (same.opened ∙ r.opened) r.in_order.legal)
+module _ {K : Type 0} {told : K → Option State} {faults : K → ℕ} {options : Options} {loaded : Option State} {count : ℕ} {start now : Desk K} where
+  seats_from : Runs told faults options loaded count start now → HasSameOpening start now → now.seats ≡ options.seats
+  seats_from r same = same.seats ∙ r.begins.seats_are
 
-slots_from : {K : Type 0} {told : K → Option State} {faults : K → ℕ} {options : Options} {loaded : State} {before : ℕ} {start now : Desk K} → Runs told faults options loaded before start now → HasSameOpening start now → KeepsSlots options.seats (opening loaded) now.entries
-slots_from {K} {told} {faults} {options} {loaded} {before} {start} {now} r same =
-    subst (λ seats. KeepsSlots seats (opening loaded) now.entries) (same.seats ∙ r.begins.seats_are)
-    (subst (λ s. KeepsSlots now.seats s now.entries) (same.opened ∙ r.opened) r.in_order.slots)
+  -- what shows a history, from the opened tables
+  shown_from : (script : List (List ℕ)) (history : List Entry) → Runs told faults options loaded count start now →
+      outputs start.seats 1 script start.limit history start.state ≡ outputs options.seats 1 script options.limit history start.opened
+  shown_from script history r =
+      ap (λ seats. outputs seats 1 script start.limit history start.state) r.begins.seats_are
+      ∙ ap (λ limit. outputs options.seats 1 script limit history start.state) r.begins.limit_is
+      ∙ ap (λ s. outputs options.seats 1 script options.limit history s) r.begins.state
 
-kept_from : {K : Type 0} {told : K → Option State} {faults : K → ℕ} {options : Options} {loaded : State} {before : ℕ} {start now : Desk K} → Runs told faults options loaded before start now → HasSameOpening start now → Tells (told now.keeper) (after_all options.seats (opening loaded) now.entries)
-kept_from {K} {told} {faults} {options} {loaded} {before} {start} {now} r same =
-    subst (λ s. Tells (told now.keeper) s)
-    (r.in_order.state
-    ∙ ap (λ seats. after_all seats now.opened now.entries) (same.seats ∙ r.begins.seats_are)
-    ∙ ap (λ s. after_all options.seats s now.entries) (same.opened ∙ r.opened))
-    r.in_order.kept
+  before_from : (script : List (List ℕ)) (history : List Entry) → Runs told faults options loaded count start now →
+      outputs_before start.seats script start.limit history start.state ≡ outputs_before options.seats script options.limit history start.opened
+  before_from script history r =
+      ap (λ seats. outputs_before seats script start.limit history start.state) r.begins.seats_are
+      ∙ ap (λ limit. outputs_before options.seats script limit history start.state) r.begins.limit_is
+      ∙ ap (λ s. outputs_before options.seats script options.limit history s) r.begins.state
 
-counted_from : (by before opened now : ℕ) → before ≤ opened → RoseBy by opened now → RoseBy by before now
-counted_from by before opened now later rose = omega (arith, later, rose)
+  begins_from : Runs told faults options loaded count start now → HasSameOpening start now → BeginsFrom options.seats loaded start.opened
+  begins_from r same = record {
+    sound = subst (λ seats. IsSound seats start.opened) (seats_from r same) (subst (IsSound now.seats) same.opened r.in_order.begun);
+    opening_is = r.opened;
+  }
 
-begun_from : {K : Type 0} {told : K → Option State} {faults : K → ℕ} {options : Options} {loaded : State} {count : ℕ} {start now : Desk K} (script : List ℕ) (before taken : Option (List ℕ)) → Runs told faults options loaded count start now → Part faults start now (lines script) before taken → IsBegun options script (opening loaded) before taken (told now.keeper) count (faults now.keeper)
-begun_from {K} {told} {faults} {options} {loaded} {count} {start} {now} script before taken r p = record {
-  history = now.entries;
-  legal = legal_from r p.same;
-  slots = slots_from r p.same;
-  calls = p.calls;
-  written = subst (λ w. GainsFront before taken w) (shown_from options loaded (lines script) now.entries r.begins r.opened) p.written;
-  kept = kept_from r p.same;
-  counted = counted_from (fault_count now.entries) count (faults start.keeper) (faults now.keeper) r.later p.rose;
-}
+  legal_from : Runs told faults options loaded count start now → HasSameOpening start now → IsLegal options.seats start.opened now.entries
+  legal_from r same =
+      subst (λ seats. IsLegal seats start.opened now.entries) (seats_from r same)
+      (subst (λ s. IsLegal now.seats s now.entries) same.opened r.in_order.legal)
 
-done_from : {K : Type 0} {told : K → Option State} {faults : K → ℕ} {options : Options} {loaded : State} {count : ℕ} {start now : Desk K} {status : Status} (script : List ℕ) (before taken : Option (List ℕ)) → Runs told faults options loaded count start now → EndsWith faults start now script before taken status → IsDone options script (opening loaded) before taken (told now.keeper) count (faults now.keeper) status
-done_from {K} {told} {faults} {options} {loaded} {count} {start} {now} {status} script before taken r e =
-    let p = e.whole in
-    record {
-      few = e.few;
-      history = now.entries;
-      legal = legal_from r p.same;
-      slots = slots_from r p.same;
-      calls = subst (λ limit. map asked_of now.entries ≡ take limit (calls_of (lines script))) r.begins.limit_is p.calls;
-      settled = p.settled;
-      written = subst (λ w. Gains before taken w) (shown_from options loaded (lines script) now.entries r.begins r.opened) p.written;
-      kept = kept_from r p.same;
-      counted = counted_from (fault_count now.entries) count (faults start.keeper) (faults now.keeper) r.later p.rose;
-      ending = subst (λ limit. status ≡ ending_of limit (lines script) now.entries) r.begins.limit_is e.ending;
-    }
+  slots_from : Runs told faults options loaded count start now → HasSameOpening start now → KeepsSlots options.seats start.opened now.entries
+  slots_from r same =
+      subst (λ seats. KeepsSlots seats start.opened now.entries) (seats_from r same)
+      (subst (λ s. KeepsSlots now.seats s now.entries) same.opened r.in_order.slots)
 
-untouched_from : {K : Type 0} {told : K → Option State} {faults : K → ℕ} {options : Options} {loaded : State} {count : ℕ} {start now : Desk K} (before taken : Option (List ℕ)) → Runs told faults options loaded count start now → NothingDone start now before taken → IsUntouched (opening loaded) before taken (told now.keeper)
-untouched_from {K} {told} {faults} {options} {loaded} {count} {start} {now} before taken r d = record {
-  written = d.written;
-  kept = subst (λ s. Tells (told now.keeper) s) (ap (λ d. d.state) d.same ∙ r.begins.state ∙ r.opened) r.in_order.kept;
-}
+  kept_from : Runs told faults options loaded count start now → HasSameOpening start now →
+      Tells (told now.keeper) (after_all options.seats start.opened now.entries)
+  kept_from r same =
+      subst (λ s. Tells (told now.keeper) s)
+      (r.in_order.state
+      ∙ ap (λ seats. after_all seats now.opened now.entries) (seats_from r same)
+      ∙ ap (λ s. after_all options.seats s now.entries) same.opened)
+      r.in_order.kept
 
-ran_from : {K : Type 0} {told : K → Option State} {faults : K → ℕ} {options : Options} {loaded : State} {count : ℕ} {start now : Desk K} (script : List ℕ) (before taken : Option (List ℕ)) (status : Status) → Runs told faults options loaded count start now → DeskRan faults start now script before taken status → RanWith options script loaded before taken (told now.keeper) count (faults now.keeper) status
-ran_from script before taken Usage r d = d
-ran_from script before taken SourceFault r d = untouched_from before taken r d
-ran_from script before taken ScriptTooLong r d = (d.0, untouched_from before taken r d.1)
-ran_from script before taken SinkFault r d = (d.0, begun_from script before taken r d.1)
-ran_from script before taken Memory r d = inr (begun_from script before taken r d)
-ran_from script before taken KeeperFault r d = inr (done_from script before taken r d)
-ran_from script before taken JournalFull r d = done_from script before taken r d
-ran_from script before taken UnreadableLines r d = done_from script before taken r d
-ran_from script before taken FormulaError r d = d
-ran_from script before taken Done r d = done_from script before taken r d
+  counted_from : (by : ℕ) → Runs told faults options loaded count start now → RoseBy by (faults start.keeper) (faults now.keeper) →
+      RoseBy by count (faults now.keeper)
+  counted_from by r rose = omega (arith, r.later, rose)
 
--- where source and keeper tell what they have
-pub ran_opened : {K : Type 0} (told : K → Option State) (faults : K → ℕ) (options : Options) (keeper kept : K) (start now : Desk K) (left before taken : Option (List ℕ)) (status : Status) → Begins start options.seats options.limit → IfSome (told keeper) (λ s. start.opened ≡ opening s) → faults keeper ≤ faults start.keeper → IsInOrder told faults now → IfSome left (λ script. DeskRan faults start now script before taken status) → kept ≡ now.keeper → IfSome left (λ script. IfSome (told keeper) (λ loaded. RanWith options script loaded before taken (told kept) (faults keeper) (faults kept) status))
+  begun_from : (script : List ℕ) (before taken : Option (List ℕ)) → Runs told faults options loaded count start now →
+      Part faults start now (lines script) before taken →
+      IsBegun options script (seen_of told faults loaded count now before taken)
+  begun_from script before taken r p = record {
+    opened = start.opened;
+    begins = begins_from r p.same;
+    history = now.entries;
+    legal = legal_from r p.same;
+    slots = slots_from r p.same;
+    calls = p.calls;
+    settled = p.settled;
+    written = subst (λ w. GainsBetween before taken w (outputs options.seats 1 (lines script) options.limit now.entries start.opened))
+        (before_from (lines script) now.entries r)
+        (subst (λ w. GainsBetween before taken (outputs_before start.seats (lines script) start.limit now.entries start.state) w)
+        (shown_from (lines script) now.entries r) p.written);
+    kept = kept_from r p.same;
+    counted = counted_from (fault_count now.entries) r p.rose;
+  }
+
+  done_from : {status : Status} (script : List ℕ) (before taken : Option (List ℕ)) → Runs told faults options loaded count start now →
+      EndsWith faults start now script before taken status →
+      IsDone options script (seen_of told faults loaded count now before taken) status
+  done_from {status} script before taken r e =
+      let p = e.whole in
+      record {
+        few = e.few;
+        opened = start.opened;
+        begins = begins_from r p.same;
+        history = now.entries;
+        legal = legal_from r p.same;
+        slots = slots_from r p.same;
+        calls = subst (λ limit. map asked_of now.entries ≡ take limit (calls_of (lines script))) r.begins.limit_is p.calls;
+        settled = p.settled;
+        written = subst (λ w. Gains before taken w) (shown_from (lines script) now.entries r) p.written;
+        kept = kept_from r p.same;
+        counted = counted_from (fault_count now.entries) r p.rose;
+        ending = subst (λ limit. status ≡ ending_of limit (lines script) now.entries) r.begins.limit_is e.ending;
+      }
+
+  opened_from : (before taken : Option (List ℕ)) → Runs told faults options loaded count start now → NothingDone start now before taken →
+      IsOpened options (seen_of told faults loaded count now before taken)
+  opened_from before taken r d = record {
+    opened = start.opened;
+    begins = record {
+      sound = subst (λ seats. IsSound seats start.opened) r.begins.seats_are (subst (λ (x : Desk K). IsSound x.seats x.opened) d.same r.in_order.begun);
+      opening_is = r.opened;
+    };
+    written = d.written;
+    kept = subst (λ s. Tells (told now.keeper) s) (ap (λ (x : Desk K). x.state) d.same ∙ r.begins.state) r.in_order.kept;
+  }
+
+  cut_off_from : (script : List ℕ) (before taken : Option (List ℕ)) → Runs told faults options loaded count start now →
+      CutOff faults start now script before taken →
+      IsCutOff options script (seen_of told faults loaded count now before taken)
+  unfolding begun_from
+  cut_off_from script before taken r d = record { few = d.few; begun = begun_from script before taken r d.part; settled = d.settled }
+
+  ran_from : (script : List ℕ) (before taken : Option (List ℕ)) (status : Status) → Runs told faults options loaded count start now →
+      DeskRan faults start now script before taken status →
+      RanWith options script (seen_of told faults loaded count now before taken) status
+  ran_from script before taken Usage r d = d
+  ran_from script before taken SourceFault r d = opened_from before taken r d
+  ran_from script before taken ScriptTooLong r d = (d.0, opened_from before taken r d.1)
+  ran_from script before taken SinkFault r d = cut_off_from script before taken r d
+  ran_from script before taken Memory r d = inr (begun_from script before taken r d)
+  ran_from script before taken KeeperFault r d = inr (done_from script before taken r d)
+  ran_from script before taken JournalFull r d = done_from script before taken r d
+  ran_from script before taken UnreadableLines r d = done_from script before taken r d
+  ran_from script before taken FormulaError r d = d
+  ran_from script before taken Done r d = done_from script before taken r d
+
+-- where the source tells what it has
+pub ran_opened : {K : Type 0} (told : K → Option State) (faults : K → ℕ) (options : Options) (keeper kept : K) (start now : Desk K)
+    (left before taken : Option (List ℕ)) (status : Status) →
+    Begins start options.seats options.limit → IfSome (told keeper) (λ s. start.opened ≡ opening s) → faults keeper ≤ faults start.keeper →
+    IsInOrder told faults now →
+    IfSome left (λ script. DeskRan faults start now script before taken status) → kept ≡ now.keeper →
+    IfSome left (λ script. RanWith options script (record {
+      taken_before = before;
+      taken_now = taken;
+      loaded = told keeper;
+      kept = told kept;
+      faults_before
+          = faults keeper;
+      faults_now = faults kept;
+    }) status)
 ran_opened {K} told faults options keeper kept start now left before taken status b o later in_order d back =
-    subst (λ k. IfSome left (λ script. IfSome (told keeper) (λ loaded. RanWith options script loaded before taken (told k) (faults keeper) (faults k) status))) (sym back)
-    (by_told (told keeper) left o d)
+    subst (λ k. IfSome left (λ script. RanWith options script
+    (record { taken_before = before; taken_now = taken; loaded = told keeper; kept = told k; faults_before = faults keeper; faults_now = faults k })
+    status)) (sym back)
+    (by_left left d)
   where
-    by_told : (tells : Option State) (left : Option (List ℕ)) → IfSome tells (λ s. start.opened ≡ opening s) → IfSome left (λ script. DeskRan faults start now script before taken status) → IfSome left (λ script. IfSome tells (λ loaded. RanWith options script loaded before taken (told now.keeper) (faults keeper) (faults now.keeper) status))
-    by_told tells None o d = tt
-    by_told None (Some script) o d = tt
-    by_told (Some loaded) (Some script) o d = ran_from script before taken status (record { begins = b; opened = o; later = later; in_order = in_order }) d
+    by_left : (left : Option (List ℕ)) → IfSome left (λ script. DeskRan faults start now script before taken status) →
+        IfSome left (λ script. RanWith options script (seen_of told faults (told keeper) (faults keeper) now before taken) status)
+    by_left None d = tt
+    by_left (Some script) d =
+        ran_from {told = told} {faults = faults} {options = options} {loaded = told keeper} {count = faults keeper} {start = start} {now = now} script
+        before taken status (record { begins = b; opened = o; later = later; in_order = in_order }) d

@@ -1,7 +1,8 @@
 -- The exit statuses.
 use Rattle.std.specs.Prelude.{ℕ}
 use Rattle.batch_cli.specs.declared.status.Status.{Status}
-use Rattle.batch_cli.specs.declared.status.Status.TheVariants.{Done, Memory, Usage, SourceFault, SinkFault, KeeperFault, UnreadableLines, ScriptTooLong, FormulaError, JournalFull}
+use Rattle.batch_cli.specs.declared.status.Status.TheVariants.{Done, Memory, Usage, SourceFault, SinkFault, KeeperFault, UnreadableLines, ScriptTooLong}
+use Rattle.batch_cli.specs.declared.status.Status.TheVariants.{FormulaError, JournalFull}
 
 abbrev pub exit_code : Status → ℕ
 exit_code Done = 0

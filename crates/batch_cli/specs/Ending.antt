@@ -11,7 +11,7 @@ abbrev pub script_limit : ℕ
 script_limit = 67108864
 
 -- The status of a script that was done to its end: a call or its due steps met a keeper fault, or a call found the
--- journal full, since the lines ask more than it takes, or a line is no request.
+-- journal full, since the lines ask more than it takes, or a line is not a valid request.
 abbrev pub ending_of : ℕ → List (List ℕ) → List Entry → Status
 ending_of limit script history =
     if nat_lt 0 (fault_count history) then KeeperFault

@@ -4,3 +4,4 @@ pub mod Ending
 pub mod Going
 pub mod Headline
 pub mod Shown
+pub mod Written

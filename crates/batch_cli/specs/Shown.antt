@@ -1,5 +1,5 @@
 -- What a script writes, as a function of its lines and of the history of its calls.
-use Rattle.std.specs.Prelude.{ℕ, zero, suc, ◌+◌, Bool, true, false, List, [], ◌∷◌, ◌++◌, flat_map, codes, Result, Ok, Err}
+use Rattle.std.specs.Prelude.{ℕ, zero, suc, ◌+◌, ◌-◌, Bool, true, false, List, [], ◌∷◌, ◌++◌, length, take, flat_map, codes, Result, Ok, Err}
 use Rattle.std.specs.List.{list_any}
 use Rattle.bt_rows.specs.declared.event.EventKind.{EventKind}
 use Rattle.bt_rows.specs.declared.due.Due.{Due}
@@ -33,7 +33,7 @@ fault_text = codes "fault"
 unfoldable pub full_text : List ℕ
 full_text = codes "full"
 
--- the lines that show due steps behind the reply to the line with number n
+-- the lines that show due steps after the reply to line n
 abbrev pub due_lines : ℕ → List Due → List ℕ
 due_lines n dues = flat_map (λ due. numbered n (due_text due)) dues
 
@@ -50,8 +50,8 @@ answer_text n KeeperFault = numbered n fault_text
 answer_text n JournalFull = numbered n full_text
 answer_text n Memory = []
 
--- A call has the next entry of the history, or finds the journal full where that takes no entry more. Where the history
--- has no entry for it, nothing more is known.
+-- A call has the next entry of the history, or finds the journal full if it takes no more entries. If the history has no entry
+-- for it, the output ends here.
 abbrev pub call_shown : ℕ → (ℕ → List Entry → State → List ℕ) → ℕ → ℕ → List Entry → State → List ℕ
 call_shown seats rest n zero es s = answer_text n JournalFull ++ rest zero es s
 call_shown seats rest n (suc room) [] s = []
@@ -63,8 +63,8 @@ line_shown seats rest n (Ok Skip) room es s = rest room es s
 line_shown seats rest n (Ok (Call moment event)) room es s = call_shown seats rest n room es s
 line_shown seats rest n (Err refusal) room es s = numbered n (refusal_text refusal) ++ rest room es s
 
--- The outputs of the lines from number n on, and then the tables text: where the journal takes so many entries more, these
--- are the next entries, and these are the tables.
+-- The outputs of the lines from number n on, and then the tables text: if the journal takes `room` more entries, these are
+-- the next entries, and these are the tables.
 abbrev pub outputs : ℕ → ℕ → List (List ℕ) → ℕ → List Entry → State → List ℕ
 outputs seats n [] room es s = tables_text s
 outputs seats n (line ∷ lines) room es s = line_shown seats (λ r fs t. outputs seats (n + 1) lines r fs t) n (line_of line) room es s
@@ -79,27 +79,37 @@ call_in (Err refusal) = []
 abbrev pub calls_of : List (List ℕ) → List (ℕ × EventKind)
 calls_of lines = flat_map (λ line. call_in (line_of line)) lines
 
--- a line that is no request
+-- a line that is not a valid request
 abbrev pub is_refused : Result LineRequest Refusal → Bool
 is_refused (Ok request) = false
 is_refused (Err refusal) = true
 
--- some line is no request
+-- some line is not a valid request
 abbrev pub has_refused : List (List ℕ) → Bool
 has_refused lines = list_any (λ line. is_refused (line_of line)) lines
 
--- 1 where due steps stopped for want of memory
+-- 1 if due steps stopped because memory ran out
 abbrev pub memory_stop : Stop → ℕ
 memory_stop Rest = 0
 memory_stop FaultStop = 0
 memory_stop MemoryStop = 1
 
--- how many entries stopped so
+-- how many entries stopped for this reason
 abbrev pub memory_stops : List Entry → ℕ
 memory_stops [] = 0
 memory_stops (e ∷ es) = memory_stop e.stop + memory_stops es
 
--- an answer after which the run ends for want of memory
+-- the entries but the last
+abbrev pub but_last : List Entry → List Entry
+but_last history = take (length history - 1) history
+
+-- What is written before the last call is made: the outputs of all lines before the line of that call. Without a call nothing
+-- has to be written.
+abbrev pub outputs_before : ℕ → List (List ℕ) → ℕ → List Entry → State → List ℕ
+outputs_before seats lines limit [] s = []
+outputs_before seats lines limit (e ∷ es) s = outputs seats 1 lines limit (but_last (e ∷ es)) s
+
+-- an answer after which the run ends because memory ran out
 abbrev pub ran_out : Answer → Bool
 ran_out Memory = true
 ran_out KeeperFault = false

@@ -46,7 +46,7 @@ fn push_dues(alloc: Global, out: &mut String, n: u64, dues: &[Due]) -> Result<()
     Ok(())
 }
 
-/// Adds a line where a keeper fault stopped the due steps.
+/// Adds a line if a keeper fault stopped the due steps.
 #[tactic(auto, unfolding(crate::specs::Shown::stop_text))]
 fn push_stop(out: &mut String, n: u64, stop: Stop) -> Result<(), AllocError>
     ensures { OnOk result (string_bytes out.new ≡ string_bytes out.old ++ stop_line n stop) }
@@ -73,7 +73,7 @@ fn push_full(out: &mut String, n: u64) -> Result<(), AllocError>
     push_line(out, n, "full")
 }
 
-/// The lines that show what the line with number `n` was answered.
+/// The lines that show what line `n` was answered.
 fn show_answer(alloc: Global, n: u64, answer: &Answer) -> Result<String, NoMemory>
     ensures { IfOk result (λ text. string_bytes text ≡ answer_text n answer.now) }
 {
@@ -99,7 +99,7 @@ fn push_refusal(alloc: Global, out: &mut String, n: u64, refusal: Refusal) -> Re
     push_reply(alloc, out, n, &Reply::Refused(refusal))
 }
 
-/// The line that answers the line with number `n`, which is no request.
+/// The answer to line `n`, which is not a valid request.
 pub fn show_refusal(alloc: Global, n: u64, refusal: Refusal) -> Result<String, NoMemory>
     ensures { IfOk result (λ text. string_bytes text ≡ numbered n (refusal_text refusal)) }
 {
@@ -108,7 +108,7 @@ pub fn show_refusal(alloc: Global, n: u64, refusal: Refusal) -> Result<String, N
     Ok(out)
 }
 
-/// Whether the run ends behind this answer for want of memory.
+/// Whether the run ends after this answer because memory ran out.
 fn ran_out(answer: &Answer) -> bool
     ensures { result ≡ ran_out answer.now }
 {
@@ -122,7 +122,7 @@ fn ran_out(answer: &Answer) -> bool
     }
 }
 
-/// The lines that show what the line with number `n` was answered, where the run goes on behind it.
+/// The lines that show what line `n` was answered. `NoMemory` also if the run ends after that answer.
 fn show_if_going(alloc: Global, n: u64, answer: &Answer) -> Result<String, NoMemory>
     ensures { IfOk result (λ text. (ran_out answer.now ≡ false) × (string_bytes text ≡ answer_text n answer.now)) }
 {
@@ -133,8 +133,8 @@ fn show_if_going(alloc: Global, n: u64, answer: &Answer) -> Result<String, NoMem
     }
 }
 
-/// Makes a call, and hands out the lines that show what it was answered. The only error is want of memory, of the call or
-/// of these lines.
+/// Makes a call, and returns the lines that show what it was answered. `NoMemory` comes if memory runs out in the call or for
+/// these lines.
 pub fn show_call<K: Keeper + Drop>(
     alloc: Global,
     desk: &mut Desk<K>,

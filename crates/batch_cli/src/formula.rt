@@ -1,7 +1,7 @@
 //! The command `formula`, as one of the program's.
 ghost use Rattle.std.specs.Prelude.{◌≡◌, Some, IfSome};
 ghost use Rattle.bt_base.specs.Causes.{Rose};
-ghost use Rattle.batch_cli.specs.Headline.{RanFormula, end_of};
+ghost use Rattle.batch_cli.specs.Headline.{RanFormula, WritesNothing, end_of};
 
 use crate::status::Status;
 use bt_base::{Sink, Source};
@@ -31,6 +31,7 @@ pub fn formula<R: Source, W: Sink>(
     sink: &mut W,
 ) -> Status
     ensures ran { IfSome (R.left source.old) (λ formula. RanFormula options formula (W.taken sink.old) (W.taken sink.new) (end_of result)) }
+    ensures unwritten { WritesNothing result → sink.new ≡ sink.old }
     ensures no_usage { result ≡ Status.Usage → ⊥ }
     ensures no_keeper_fault { result ≡ Status.KeeperFault → ⊥ }
     ensures source_fault { result ≡ Status.SourceFault → Rose (R.faults source.old) (R.faults source.new) }

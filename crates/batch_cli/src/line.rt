@@ -7,7 +7,7 @@ ghost use Rattle.wire_lines.specs.declared.line.LineRequest.TheVariants.{Call};
 ghost use Rattle.wire_lines.specs.Lines.{line_of};
 ghost use Rattle.wire_texts.specs.Lines.{numbered};
 ghost use Rattle.wire_texts.specs.Refusals.{refusal_text};
-ghost use Rattle.batch_cli.specs.Shown.{call_in};
+ghost use Rattle.batch_cli.specs.Shown.{call_in, memory_stops};
 ghost use Rattle.batch_cli.specs.Advance.{Did, Halts, Counts};
 
 use crate::call::{show_call, show_refusal};
@@ -32,6 +32,7 @@ fn do_call<K: Keeper + Drop, W: Sink>(
 ) -> Result<(), Stopped>
     ensures ok { OnOk result (Did K.faults desk.old desk.new n (Ok (Call moment event)) (W.taken sink.old) (W.taken sink.new)) }
     ensures err { OnErr result (Halts K.faults desk.old desk.new n (Ok (Call moment event)) (W.taken sink.old) (W.taken sink.new)) }
+    ensures settled { IsErrOf result Stopped.SinkFault → memory_stops desk.new.entries ≡ memory_stops desk.old.entries }
     ensures same { HasSameOpening desk.old desk.new }
     ensures in_order { IsInOrder K.told K.faults desk.new }
     ensures keeper_later { K.faults desk.old.keeper ≤ K.faults desk.new.keeper }
@@ -43,7 +44,7 @@ fn do_call<K: Keeper + Drop, W: Sink>(
     Ok(())
 }
 
-/// Writes the line that answers a line that is no request.
+/// Writes the answer to a line that is not a valid request.
 fn do_refusal<W: Sink>(alloc: Global, n: u64, refusal: Refusal, sink: &mut W) -> Result<(), Stopped>
     ensures ok { OnOk result (Gains (W.taken sink.old) (W.taken sink.new) (numbered n (refusal_text refusal))) }
     ensures err { OnErr result (GainsFront (W.taken sink.old) (W.taken sink.new) (numbered n (refusal_text refusal))) }
@@ -55,7 +56,7 @@ fn do_refusal<W: Sink>(alloc: Global, n: u64, refusal: Refusal, sink: &mut W) ->
     Ok(())
 }
 
-/// Does what a line asks, and writes what shows it. It tells how many calls the line asks.
+/// Does what a line asks, and writes its output. Returns how many calls the line asks.
 fn do_request<K: Keeper + Drop, W: Sink>(
     alloc: Global,
     desk: &mut Desk<K>,
@@ -67,6 +68,7 @@ fn do_request<K: Keeper + Drop, W: Sink>(
     ensures ok { OnOk result (Did K.faults desk.old desk.new n (Ok request) (W.taken sink.old) (W.taken sink.new)) }
     ensures err { OnErr result (Halts K.faults desk.old desk.new n (Ok request) (W.taken sink.old) (W.taken sink.new)) }
     ensures calls { IfOk result (λ calls. calls ≡ length (call_in (Ok request))) }
+    ensures settled { IsErrOf result Stopped.SinkFault → memory_stops desk.new.entries ≡ memory_stops desk.old.entries }
     ensures same { HasSameOpening desk.old desk.new }
     ensures in_order { IsInOrder K.told K.faults desk.new }
     ensures keeper_later { K.faults desk.old.keeper ≤ K.faults desk.new.keeper }
@@ -82,7 +84,7 @@ fn do_request<K: Keeper + Drop, W: Sink>(
     }
 }
 
-/// Does a line and writes what shows it, and tells what the line asks.
+/// Does a line and writes its output. Returns what the line asks.
 pub fn do_line<K: Keeper + Drop, W: Sink>(
     alloc: Global,
     desk: &mut Desk<K>,
@@ -94,6 +96,7 @@ pub fn do_line<K: Keeper + Drop, W: Sink>(
     ensures ok { OnOk result (Did K.faults desk.old desk.new n (line_of line.now) (W.taken sink.old) (W.taken sink.new)) }
     ensures err { OnErr result (Halts K.faults desk.old desk.new n (line_of line.now) (W.taken sink.old) (W.taken sink.new)) }
     ensures counts { IfOk result (Counts (line_of line.now)) }
+    ensures settled { IsErrOf result Stopped.SinkFault → memory_stops desk.new.entries ≡ memory_stops desk.old.entries }
     ensures same { HasSameOpening desk.old desk.new }
     ensures in_order { IsInOrder K.told K.faults desk.new }
     ensures keeper_later { K.faults desk.old.keeper ≤ K.faults desk.new.keeper }

@@ -7,6 +7,7 @@ ghost use Rattle.batch_desk.specs.Answers.{IsInOrder, Begins};
 ghost use Rattle.wire_texts.specs.Tables.{tables_text};
 ghost use Rattle.batch_cli.specs.Ending.{script_limit};
 ghost use Rattle.batch_cli.specs.Going.{Going, Whole, Part, CountsAll};
+ghost use Rattle.batch_cli.specs.Shown.{memory_stops};
 
 use crate::line::do_line;
 use crate::stopped::Stopped;
@@ -30,7 +31,7 @@ fn finish<W: Sink>(alloc: Global, tables: &Tables, sink: &mut W) -> Result<(), S
     Ok(())
 }
 
-/// Does the lines of a script, and tells what they ask.
+/// Does the lines of a script. Returns what they ask.
 fn do_lines<K: Keeper + Drop, W: Sink>(
     alloc: Global,
     desk: &mut Desk<K>,
@@ -42,8 +43,10 @@ fn do_lines<K: Keeper + Drop, W: Sink>(
     requires begins { Begins desk.old desk.old.seats desk.old.limit }
     ensures ok { OnOk result (Going K.faults desk.old desk.new (lines script.now) [] 1 (W.taken sink.old) (W.taken sink.new)) }
     ensures err { OnErr result (Part K.faults desk.old desk.new (lines script.now) (W.taken sink.old) (W.taken sink.new)) }
+    ensures settled { IsErrOf result Stopped.SinkFault → memory_stops desk.new.entries ≡ 0 }
     ensures counts { IfOk result (CountsAll (lines script.now)) }
     ensures in_order { IsInOrder K.told K.faults desk.new }
+    ensures keeper_later { K.faults desk.old.keeper ≤ K.faults desk.new.keeper }
     ensures later { W.faults sink.old ≤ W.faults sink.new }
     ensures fault { IsErrOf result Stopped.SinkFault → Rose (W.faults sink.old) (W.faults sink.new) }
 {
@@ -63,7 +66,7 @@ fn do_lines<K: Keeper + Drop, W: Sink>(
     Ok(tally)
 }
 
-/// Does a script to its end, and tells what its lines ask.
+/// Does a script to its end. Returns what its lines ask.
 pub fn do_script<K: Keeper + Drop, W: Sink>(
     alloc: Global,
     desk: &mut Desk<K>,
@@ -75,8 +78,10 @@ pub fn do_script<K: Keeper + Drop, W: Sink>(
     requires begins { Begins desk.old desk.old.seats desk.old.limit }
     ensures ok { OnOk result (Whole K.faults desk.old desk.new (lines script.now) (W.taken sink.old) (W.taken sink.new)) }
     ensures err { OnErr result (Part K.faults desk.old desk.new (lines script.now) (W.taken sink.old) (W.taken sink.new)) }
+    ensures settled { IsErrOf result Stopped.SinkFault → memory_stops desk.new.entries ≡ 0 }
     ensures counts { IfOk result (CountsAll (lines script.now)) }
     ensures in_order { IsInOrder K.told K.faults desk.new }
+    ensures keeper_later { K.faults desk.old.keeper ≤ K.faults desk.new.keeper }
     ensures fault { IsErrOf result Stopped.SinkFault → Rose (W.faults sink.old) (W.faults sink.new) }
 {
     let tally = do_lines(alloc, desk, script, sink)?;

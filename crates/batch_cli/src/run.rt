@@ -5,7 +5,7 @@ ghost use Rattle.bt_base.specs.Causes.{Rose};
 ghost use Rattle.batch_desk.specs.Answers.{IsInOrder, Begins};
 ghost use Rattle.cli_words.specs.Commands.{command_of};
 ghost use Rattle.batch_cli.specs.Going.{DeskRan};
-ghost use Rattle.batch_cli.specs.Headline.{Ran, RanWith, RanAlone, CallsNoKeeper};
+ghost use Rattle.batch_cli.specs.Headline.{Ran, RanWith, WritesNothing, CallsNoKeeper};
 
 use crate::formula::formula;
 use crate::replay::do_script;
@@ -48,7 +48,9 @@ fn run_desk<R: Source, W: Sink, K: Keeper + Drop>(
     requires in_order { IsInOrder K.told K.faults desk.old }
     requires begins { Begins desk.old desk.old.seats desk.old.limit }
     ensures ran { IfSome (R.left source.old) (λ script. DeskRan K.faults desk.old desk.new script (W.taken sink.old) (W.taken sink.new) result) }
+    ensures unwritten { WritesNothing result → sink.new ≡ sink.old }
     ensures in_order { IsInOrder K.told K.faults desk.new }
+    ensures later { K.faults desk.old.keeper ≤ K.faults desk.new.keeper }
     ensures no_usage { result ≡ Status.Usage → ⊥ }
     ensures source_fault { result ≡ Status.SourceFault → Rose (R.faults source.old) (R.faults source.new) }
     ensures sink_fault { result ≡ Status.SinkFault → Rose (W.faults sink.old) (W.faults sink.new) }
@@ -66,7 +68,7 @@ fn run_desk<R: Source, W: Sink, K: Keeper + Drop>(
     }
 }
 
-/// Opens the tables that the keeper loads, does the script that the source gives, and hands back the keeper.
+/// Opens the tables that the keeper loads, does the script that the source gives, and returns the keeper.
 fn replay<R: Source, W: Sink, K: Keeper + Drop>(
     alloc: Global,
     options: ReplayOptions,
@@ -76,8 +78,17 @@ fn replay<R: Source, W: Sink, K: Keeper + Drop>(
 ) -> (Status, K)
     requires some { 1 ≤ options.seats }
     requires few { options.seats ≤ 32 }
-    ensures ran { IfSome (R.left source.old) (λ script. IfSome (K.told keeper) (λ loaded.
-        RanWith options script loaded (W.taken sink.old) (W.taken sink.new) (K.told result.1) (K.faults keeper) (K.faults result.1) result.0)) }
+    ensures ran { IfSome (R.left source.old) (λ script. RanWith options script
+        (record {
+          taken_before = W.taken sink.old;
+          taken_now = W.taken sink.new;
+          loaded = K.told keeper;
+          kept = K.told result.1;
+          faults_before = K.faults keeper;
+          faults_now = K.faults result.1;
+        }) result.0) }
+    ensures unwritten { WritesNothing result.0 → sink.new ≡ sink.old }
+    ensures later { K.faults keeper ≤ K.faults result.1 }
     ensures no_usage { result.0 ≡ Status.Usage → ⊥ }
     ensures source_fault { result.0 ≡ Status.SourceFault → Rose (R.faults source.old) (R.faults source.new) }
     ensures sink_fault { result.0 ≡ Status.SinkFault → Rose (W.faults sink.old) (W.faults sink.new) }
@@ -95,14 +106,13 @@ fn replay<R: Source, W: Sink, K: Keeper + Drop>(
     }
 }
 
-/// Does what the words say, and hands back the keeper. `replay` with its options opens the tables that the keeper loads,
-/// reads a script from the source to its end, makes the calls of its lines one by one, as many as the journal takes, and
-/// writes what shows each line before the next; then the tables. `formula` with its options reads a formula from the source to
+/// Does what the words say, and returns the keeper. `replay` with its options opens the tables that the keeper loads, reads a
+/// script from the source to its end, makes the calls of its lines one by one, up to the journal's limit, and writes the output
+/// of each line before it makes the next call; then the tables. `formula` with its options reads a formula from the source to
 /// its end, evaluates it over no samples and no current values, and writes its results or its fault; it calls no keeper.
 ///
-/// Where no count of faults can rise, as over objects that never fail, the last three clauses leave out the statuses of
-/// source, sink and keeper; and by `counted` of the history no call of it was left undone and none of its due steps were
-/// stopped by a fault.
+/// If no count of faults can rise, as over objects that never fail, the last three clauses exclude the statuses of source, sink
+/// and keeper, and by `counted` of the history no call of it was left undone and no due steps were stopped by a fault.
 pub fn run_words<R: Source, W: Sink, K: Keeper + Drop>(
     alloc: Global,
     words: &[Word],
@@ -110,16 +120,24 @@ pub fn run_words<R: Source, W: Sink, K: Keeper + Drop>(
     sink: &mut W,
     keeper: K,
 ) -> (Status, K)
-    // Where source, sink and keeper tell their content: the bytes, the status and the kept tables are those of one legal history,
-    // or the bytes and the status those of one evaluation.
-    ensures ran { IfSome (R.left source.old) (λ script. IfSome (K.told keeper) (λ loaded.
-        Ran (command_of words.now) script loaded (W.taken sink.old) (W.taken sink.new) (K.told result.1) (K.faults keeper) (K.faults result.1) result.0)) }
-    // Where the keeper is not called, the bytes and the status are these whatever it tells.
-    ensures alone { RanAlone (command_of words.now) (R.left source.old) (W.taken sink.old) (W.taken sink.new) result.0 }
-    // Whatever they tell, each fault was counted.
-    ensures usage { (result.0 ≡ Status.Usage) ↔ (command_of words.now ≡ None) }
-    // The keeper is not called where the words are no command, or one that needs no tables.
+    // Where the source tells its bytes: the written bytes, the status and the kept tables are those of one legal history, or the
+    // bytes and the status those of one evaluation.
+    ensures ran { Ran (command_of words.now) (R.left source.old)
+        (record {
+          taken_before = W.taken sink.old;
+          taken_now = W.taken sink.new;
+          loaded = K.told keeper;
+          kept = K.told result.1;
+          faults_before = K.faults keeper;
+          faults_now = K.faults result.1;
+        }) result.0 }
+    // Whatever source, sink and keeper tell: nothing is written with these statuses.
+    ensures unwritten { WritesNothing result.0 → sink.new ≡ sink.old }
+    // The keeper is not called if the words are no command, or one that needs no tables.
     ensures unused { CallsNoKeeper (command_of words.now) → result.1 ≡ keeper }
+    // Each status that names a fault has its cause.
+    ensures usage { (result.0 ≡ Status.Usage) ↔ (command_of words.now ≡ None) }
+    ensures later { K.faults keeper ≤ K.faults result.1 }
     ensures source_fault { result.0 ≡ Status.SourceFault → Rose (R.faults source.old) (R.faults source.new) }
     ensures sink_fault { result.0 ≡ Status.SinkFault → Rose (W.faults sink.old) (W.faults sink.new) }
     ensures keeper_fault { result.0 ≡ Status.KeeperFault → Rose (K.faults keeper) (K.faults result.1) }

@@ -5,7 +5,7 @@
 pub enum Status {
     /// 0: none of the others.
     Done,
-    /// 1: want of memory; the run ended at once.
+    /// 1: out of memory; the run ended at once.
     Memory,
     /// 2: the words are no command; nothing was written.
     Usage,
@@ -16,7 +16,7 @@ pub enum Status {
     /// 5: the keeper failed at the opening, and nothing was written; or the script was done to its end, and a call or its
     /// due steps met a keeper fault.
     KeeperFault,
-    /// 6: the script was done to its end, and a line of it is no request.
+    /// 6: the script was done to its end, and a line of it is not a valid request.
     UnreadableLines,
     /// 7: the source gave more than 67,108,864 bytes, or for `formula` more than 8,192; nothing was called.
     ScriptTooLong,

@@ -5,6 +5,6 @@
 pub struct Tally {
     /// How many calls they ask.
     pub calls: u64,
-    /// Whether one of them is no request.
+    /// Whether one of them is not a valid request.
     pub refused: bool,
 }

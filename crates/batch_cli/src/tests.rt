@@ -25,16 +25,28 @@ fn words_of(alloc: Global, words: &[&str]) -> Result<Vec<Word>, AllocError> {
     Ok(all)
 }
 
-/// What is run: the words, the script, and the calls of source and sink that fail.
+/// A run: the words, the script, and the numbers of the calls of source, sink and keeper that fail.
 #[derive(Clone, Copy)]
 struct Run<'a> {
     words: &'a [&'a str],
     script: &'a str,
     source_fails: &'a [u64],
     sink_fails: &'a [u64],
+    keeper_fails: &'a [u64],
 }
 
-/// The status, the output and the keeper that is handed back.
+/// A run over objects that never fail.
+fn sure<'a>(words: &'a [&'a str], script: &'a str) -> Run<'a> {
+    Run {
+        words,
+        script,
+        source_fails: &[],
+        sink_fails: &[],
+        keeper_fails: &[],
+    }
+}
+
+/// The status, the output and the keeper that comes back, of a run over this keeper.
 fn run_over(
     alloc: Global,
     run: Run,
@@ -48,26 +60,15 @@ fn run_over(
     Ok((status, sink.into_bytes().ok_or(AllocError)?, keeper))
 }
 
-/// Whether a run over a keeper of empty tables, of which these calls fail, has this status and output.
-fn gives(
-    alloc: Global,
-    run: Run,
-    keeper_fails: &[u64],
-    status: Status,
-    output: &str,
-) -> Result<bool, AllocError> {
-    let (ended, written, _keeper) = run_over(alloc, run, keeper(alloc, keeper_fails)?)?;
-    Ok(ended == status && written.as_slice() == output.as_bytes())
+/// The same, over a keeper of empty tables.
+fn run_anew(alloc: Global, run: Run) -> Result<(Status, Vec<u8>, MemoryKeeper), AllocError> {
+    run_over(alloc, run, keeper(alloc, run.keeper_fails)?)
 }
 
-/// The words and the script of a run whose source and sink never fail.
-fn sure<'a>(words: &'a [&'a str], script: &'a str) -> Run<'a> {
-    Run {
-        words,
-        script,
-        source_fails: &[],
-        sink_fails: &[],
-    }
+/// Whether a run over a keeper of empty tables has this status and output.
+fn gives(alloc: Global, run: Run, status: Status, output: &str) -> Result<bool, AllocError> {
+    let (ended, written, _keeper) = run_anew(alloc, run)?;
+    Ok(ended == status && written.as_slice() == output.as_bytes())
 }
 
 const POOL: &str = "0 add-pool {\"id\":\"p\",\"targetDedicatedNodes\":1}\n";
@@ -83,9 +84,6 @@ const TAKEN: &str = "0 add-pool {\"id\":\"p\",\"targetDedicatedNodes\":1}\n\
 const ENDED: &str = "0 add-pool {\"id\":\"p\",\"targetDedicatedNodes\":1}\n\
     0 add-job {\"id\":\"j\",\"poolInfo\":{\"poolId\":\"p\"}}\n\
     0 add-task j {\"id\":\"t\",\"commandLine\":\"echo hi\"}\n5 take 1\n9 end 1 0\n";
-
-const ENDED_TABLES: &str = "tables 9\npool p active steady 1 0 1 spread\nnode 1 p 1 idle\n\
-    job j p active 0 -\ntask j t completed success 0 0\nrun 1 task 1 j t ended 0\n";
 
 #[test]
 fn scripts_are_done(rt: HostRuntime) -> Result<(), Fail> {
@@ -112,69 +110,41 @@ fn scripts_are_done(rt: HostRuntime) -> Result<(), Fail> {
     ];
     for (script, status, output) in rows {
         let run = sure(&["replay"], script);
-        assert!(rt; gives(rt.alloc(), run, &[], status, output)?, "{script}");
+        assert!(rt; gives(rt.alloc(), run, status, output)?, "{script}");
     }
     Ok(())
 }
 
+/// What the ended task gives if the save of the first node fails.
+const STOPPED: &str =
+    "1 201\n1 stop fault\n2 201\n2 U15 p 1 1\n2 U11 p steady\n3 201\n3 U16 j t 1 1\n4 200\n\
+    5 200\n5 U5 j t success\ntables 9\npool p active steady 1 0 1 spread\nnode 1 p 1 idle\n\
+    job j p active 0 -\ntask j t completed success 0 0\nrun 1 task 1 j t ended 0\n";
+
+/// What it gives if the save of its pool fails.
+const WITHOUT_POOL: &str = "1 fault\n2 404 PoolNotFound\n3 404 JobNotFound\n4 404 RunNotFound\n\
+    5 404 RunNotFound\ntables 9\n";
+
 #[test]
-fn stream_faults_have_statuses_of_their_own(rt: HostRuntime) -> Result<(), Fail> {
-    let run = sure(&["replay"], POOL);
-    let source_fails = Run {
-        source_fails: &[1],
-        ..run
-    };
-    let first_write_fails = Run {
-        sink_fails: &[1],
-        ..run
-    };
-    let second_write_fails = Run {
-        sink_fails: &[2],
-        ..run
-    };
-    let rows = [
-        (source_fails, Status::SourceFault, ""),
-        (first_write_fails, Status::SinkFault, ""),
-        (second_write_fails, Status::SinkFault, POOL_OUTPUT),
+fn faults_have_statuses_and_outputs(rt: HostRuntime) -> Result<(), Fail> {
+    let rows: [(&[u64], &[u64], &[u64], Status, &str); 6] = [
+        (&[1], &[], &[], Status::SourceFault, ""),
+        (&[], &[1], &[], Status::SinkFault, ""),
+        (&[], &[2], &[], Status::SinkFault, POOL_OUTPUT),
+        (&[], &[], &[1], Status::KeeperFault, ""),
+        (&[], &[], &[2], Status::KeeperFault, WITHOUT_POOL),
+        (&[], &[], &[3], Status::KeeperFault, STOPPED),
     ];
-    for (run, status, output) in rows {
-        assert!(rt; gives(rt.alloc(), run, &[], status, output)?, "{output}");
+    for (source_fails, sink_fails, keeper_fails, status, output) in rows {
+        let run = Run {
+            words: &["replay"],
+            script: ENDED,
+            source_fails,
+            sink_fails,
+            keeper_fails,
+        };
+        assert!(rt; gives(rt.alloc(), run, status, output)?, "{output}");
     }
-    Ok(())
-}
-
-#[test]
-fn keeper_faults_are_shown(rt: HostRuntime) -> Result<(), Fail> {
-    let alloc = rt.alloc();
-    let run = sure(&["replay"], ENDED);
-    let second_save = format!(in alloc;
-        "1 201\n1 stop fault\n2 201\n2 U15 p 1 1\n2 U11 p steady\n3 201\n3 U16 j t 1 1\n4 200\n5 200\n5 U5 j t success\n{ENDED_TABLES}"
-    )?;
-    let first_save = "1 fault\n2 404 PoolNotFound\n3 404 JobNotFound\n4 404 RunNotFound\n\
-        5 404 RunNotFound\ntables 9\n";
-    let rows = [(1, ""), (2, first_save), (3, second_save.as_str())];
-    for (call, output) in rows {
-        assert!(rt;
-            gives(alloc, run, &[call], Status::KeeperFault, output)?,
-            "{call}"
-        );
-    }
-    Ok(())
-}
-
-/// How many loads and saves the script of an ended task makes.
-const ENDED_CALLS: u64 = 10;
-
-#[test]
-fn a_fault_of_any_call_ends_with_its_status(rt: HostRuntime) -> Result<(), Fail> {
-    let alloc = rt.alloc();
-    let run = sure(&["replay"], ENDED);
-    for call in 1..=ENDED_CALLS {
-        let (status, _output, _keeper) = run_over(alloc, run, keeper(alloc, &[call])?)?;
-        assert_eq!(rt; status, Status::KeeperFault, "{call}");
-    }
-    let (status, _output, _keeper) = run_over(alloc, run, keeper(alloc, &[ENDED_CALLS + 1])?)?;
-    assert_eq!(rt; status, Status::Done);
     Ok(())
 }
 
@@ -214,22 +184,78 @@ fn shows_kept(alloc: Global, output: &[u8], keeper: &mut MemoryKeeper) -> bool {
     }
 }
 
+/// Whether the keeper keeps the tables of this text.
+fn keeps(alloc: Global, keeper: &mut MemoryKeeper, text: &str) -> bool {
+    let Some(tables) = kept(alloc, keeper) else {
+        return false;
+    };
+    match write_tables(alloc, &tables) {
+        Ok(kept) => kept.as_str() == text,
+        Err(_) => false,
+    }
+}
+
+#[test]
+fn no_call_is_made_after_a_sink_fault(rt: HostRuntime) -> Result<(), Fail> {
+    let rows: [(&[u64], &str); 2] = [
+        (
+            &[1],
+            "tables 0\npool p active steady 1 0 1 spread\nnode 1 p 1 idle\n",
+        ),
+        (
+            &[2],
+            "tables 0\npool p active steady 1 0 1 spread\nnode 1 p 1 idle\njob j p active 0 -\n",
+        ),
+    ];
+    for (sink_fails, wanted) in rows {
+        let run = Run {
+            sink_fails,
+            ..sure(&["replay"], ENDED)
+        };
+        let (status, _output, mut keeper) = run_anew(rt.alloc(), run)?;
+        assert_eq!(rt; status, Status::SinkFault);
+        assert!(rt; keeps(rt.alloc(), &mut keeper, wanted), "{wanted}");
+    }
+    Ok(())
+}
+
+/// The lines of an ended task, and how many loads and saves the script up to each makes.
+const LINES: [(&str, u64); 5] = [
+    (POOL, 4),
+    (
+        "0 add-job {\"id\":\"j\",\"poolInfo\":{\"poolId\":\"p\"}}\n",
+        5,
+    ),
+    (
+        "0 add-task j {\"id\":\"t\",\"commandLine\":\"echo hi\"}\n",
+        7,
+    ),
+    ("5 take 1\n", 8),
+    ("9 end 1 0\n", 10),
+];
+
+/// The status of a script of which this call of the keeper fails.
+fn status_at(call: u64, calls: u64) -> Status {
+    if call <= calls {
+        Status::KeeperFault
+    } else {
+        Status::Done
+    }
+}
+
 #[test]
 fn the_keeper_has_the_tables_that_are_shown_after_each_line(rt: HostRuntime) -> Result<(), Fail> {
     let alloc = rt.alloc();
-    let lines = [
-        POOL,
-        "0 add-job {\"id\":\"j\",\"poolInfo\":{\"poolId\":\"p\"}}\n",
-        "0 add-task j {\"id\":\"t\",\"commandLine\":\"echo hi\"}\n",
-        "5 take 1\n",
-        "9 end 1 0\n",
-    ];
     let mut script = String::new(alloc);
-    for line in lines {
+    for (line, calls) in LINES {
         script.push_str(line)?;
-        for call in 2..=ENDED_CALLS + 1 {
-            let run = sure(&["replay"], script.as_str());
-            let (_status, output, mut keeper) = run_over(alloc, run, keeper(alloc, &[call])?)?;
+        for call in 2..=11 {
+            let run = Run {
+                keeper_fails: &[call],
+                ..sure(&["replay"], script.as_str())
+            };
+            let (status, output, mut keeper) = run_anew(alloc, run)?;
+            assert_eq!(rt; status, status_at(call, calls), "{script}{call}");
             assert!(rt;
                 shows_kept(alloc, output.as_slice(), &mut keeper),
                 "{script}{call}"
@@ -244,39 +270,22 @@ fn the_keeper_has_the_tables_that_are_shown_after_an_opening(rt: HostRuntime) ->
     let alloc = rt.alloc();
     for script in ["20 tick\n", "20 tick\n21 end 1 0\n"] {
         for call in 3..=9 {
-            let (_status, _output, mut left) = run_over(
-                alloc,
-                sure(&["replay"], TAKEN),
-                keeper(alloc, &[])?,
-            )?;
-            let faulty = with_fault(alloc, &mut left, call)?;
-            assert!(rt; faulty.is_some());
-            if let Some(faulty) = faulty {
-                let run = sure(&["replay"], script);
-                let (_status, output, mut keeper) = run_over(alloc, run, faulty)?;
-                assert!(rt;
-                    shows_kept(alloc, output.as_slice(), &mut keeper),
-                    "{script}{call}"
-                );
-            }
+            let (_status, _output, mut left) = run_anew(alloc, sure(&["replay"], TAKEN))?;
+            let faulty = with_fault(alloc, &mut left, call)?.ok_or("no tables")?;
+            let (_status, output, mut keeper) = run_over(alloc, sure(&["replay"], script), faulty)?;
+            assert!(rt;
+                shows_kept(alloc, output.as_slice(), &mut keeper),
+                "{script}{call}"
+            );
         }
     }
     Ok(())
 }
 
 #[test]
-fn a_full_journal_takes_no_call(rt: HostRuntime) -> Result<(), Fail> {
-    let run = sure(&["replay", "--journal", "2"], ENDED);
-    let wanted = "1 201\n1 U15 p 1 1\n1 U11 p steady\n2 201\n3 full\n4 full\n5 full\n\
-        tables 0\npool p active steady 1 0 1 spread\nnode 1 p 1 idle\njob j p active 0 -\n";
-    assert!(rt; gives(rt.alloc(), run, &[], Status::JournalFull, wanted)?);
-    Ok(())
-}
-
-#[test]
 fn what_an_earlier_run_left_is_withdrawn(rt: HostRuntime) -> Result<(), Fail> {
     let alloc = rt.alloc();
-    let (_status, _output, kept) = run_over(alloc, sure(&["replay"], TAKEN), keeper(alloc, &[])?)?;
+    let (_status, _output, kept) = run_anew(alloc, sure(&["replay"], TAKEN))?;
     let next = sure(&["replay"], "20 tick\n21 end 1 0\n");
     let (status, output, _keeper) = run_over(alloc, next, kept)?;
     let wanted = "1 200\n1 U5 j t active 0\n1 U15 p 2 1\n1 U11 p steady\n1 U16 j t 2 2\n\
@@ -288,27 +297,46 @@ fn what_an_earlier_run_left_is_withdrawn(rt: HostRuntime) -> Result<(), Fail> {
     Ok(())
 }
 
-#[test]
-fn words_that_are_no_command_do_nothing(rt: HostRuntime) -> Result<(), Fail> {
-    let rows: [&[&str]; 4] = [
-        &[],
-        &["replay", "--seats", "33"],
-        &["replay", "--seats", "2", "--seats", "2"],
-        &["formula", "--seats", "2"],
-    ];
-    for words in rows {
-        assert!(rt; gives(rt.alloc(), sure(words, POOL), &[], Status::Usage, "")?);
-    }
-    Ok(())
-}
+/// What the ended task gives with a journal of two calls.
+const FULL: &str = "1 201\n1 U15 p 1 1\n1 U11 p steady\n2 201\n3 full\n4 full\n5 full\n\
+    tables 0\npool p active steady 1 0 1 spread\nnode 1 p 1 idle\njob j p active 0 -\n";
+
+const TWO_NODES: &str = "0 add-pool {\"id\":\"p\",\"targetDedicatedNodes\":2}\n0 tick\n";
+
+const ONE_SEAT: &str = "1 201\n1 U15 p 1 1\n2 full\ntables 0\n\
+    pool p active resizing 2 0 1 spread\nnode 1 p 1 idle\n";
 
 #[test]
-fn options_are_followed(rt: HostRuntime) -> Result<(), Fail> {
-    let pools = "0 add-pool {\"id\":\"p\",\"targetDedicatedNodes\":2}\n0 tick\n";
-    let wanted = "1 201\n1 U15 p 1 1\n2 full\ntables 0\npool p active resizing 2 0 1 spread\n\
-        node 1 p 1 idle\n";
-    let run = sure(&["replay", "--journal=1", "--seats", "1"], pools);
-    assert!(rt; gives(rt.alloc(), run, &[], Status::JournalFull, wanted)?);
+fn words_are_followed(rt: HostRuntime) -> Result<(), Fail> {
+    let rows: [(&[&str], &str, Status, &str); 6] = [
+        (&[], POOL, Status::Usage, ""),
+        (&["replay", "--seats", "33"], POOL, Status::Usage, ""),
+        (
+            &["replay", "--seats", "2", "--seats", "2"],
+            POOL,
+            Status::Usage,
+            "",
+        ),
+        (&["formula", "--seats", "2"], POOL, Status::Usage, ""),
+        (
+            &["replay", "--journal", "2"],
+            ENDED,
+            Status::JournalFull,
+            FULL,
+        ),
+        (
+            &["replay", "--journal=1", "--seats", "1"],
+            TWO_NODES,
+            Status::JournalFull,
+            ONE_SEAT,
+        ),
+    ];
+    for (words, script, status, output) in rows {
+        assert!(rt;
+            gives(rt.alloc(), sure(words, script), status, output)?,
+            "{output}"
+        );
+    }
     Ok(())
 }
 
@@ -322,8 +350,11 @@ fn formulas_call_no_keeper(rt: HostRuntime) -> Result<(), Fail> {
         ("x = ", Status::FormulaError, "error UnexpectedToken 4\n"),
     ];
     for (formula, status, wanted) in rows {
-        let run = sure(&["formula", "--dedicated", "4"], formula);
-        assert!(rt; gives(rt.alloc(), run, &[1], status, wanted)?, "{formula}");
+        let run = Run {
+            keeper_fails: &[1],
+            ..sure(&["formula", "--dedicated", "4"], formula)
+        };
+        assert!(rt; gives(rt.alloc(), run, status, wanted)?, "{formula}");
     }
     Ok(())
 }
@@ -342,7 +373,7 @@ fn the_65th_pool_is_refused(rt: HostRuntime) -> Result<(), Fail> {
     let alloc = rt.alloc();
     let script = pools(alloc, 65)?;
     let run = sure(&["replay"], script.as_str());
-    let (status, output, _keeper) = run_over(alloc, run, keeper(alloc, &[])?)?;
+    let (status, output, _keeper) = run_anew(alloc, run)?;
     assert_eq!(rt; status, Status::Done);
     let wanted = b"\n64 201\n65 409 TableFull pools 64\ntables 0\n".as_slice();
     assert!(rt; output.windows(wanted.len()).any(|part| part == wanted));
@@ -358,62 +389,65 @@ const FOUR_TASKS: &str = "0 add-job {\"id\":\"j\",\"poolInfo\":{\"poolId\":\"p\"
 const STARTED: &str = "0 add-job {\"id\":\"j\",\"poolInfo\":{\"poolId\":\"p\"}}\n\
     0 add-task j {\"id\":\"t\",\"commandLine\":\"w\"}\n1 take 1\n2 end 1 1\n";
 
-/// Whether a script of two parts has this output.
-fn shows(alloc: Global, first: &str, rest: &str, output: &str) -> Result<bool, AllocError> {
-    let mut script = String::from_str(alloc, first)?;
-    script.push_str(rest)?;
-    gives(
-        alloc,
-        sure(&["replay"], script.as_str()),
-        &[],
-        Status::Done,
-        output,
-    )
-}
+const SPREAD: &str =
+    "0 add-pool {\"id\":\"p\",\"targetDedicatedNodes\":2,\"taskSlotsPerNode\":2}\n";
 
-#[test]
-fn pools_spread_or_pack_their_tasks(rt: HostRuntime) -> Result<(), Fail> {
-    let spread = "0 add-pool {\"id\":\"p\",\"targetDedicatedNodes\":2,\"taskSlotsPerNode\":2}\n";
-    let spread_output =
-        "1 201\n1 U15 p 1 1\n1 U15 p 2 2\n1 U11 p steady\n2 201\n3 200 201 201 201 201\n\
-        3 U16 j a 1 1\n3 U16 j b 2 2\n3 U16 j d 1 3\ntables 0\npool p active steady 2 0 2 spread\n\
-        node 1 p 1 running\nnode 2 p 2 running\njob j p active 0 -\ntask j a running - - 0\n\
-        task j b running - - 0\ntask j c active - - 0\ntask j d running - - 0\n\
-        run 1 task 1 j a queued -\nrun 2 task 2 j b queued -\nrun 3 task 1 j d queued -\n";
-    assert!(rt; shows(rt.alloc(), spread, FOUR_TASKS, spread_output)?);
-    let pack = "0 add-pool {\"id\":\"p\",\"targetDedicatedNodes\":2,\"taskSlotsPerNode\":2,\
-        \"taskSchedulingPolicy\":{\"nodeFillType\":\"Pack\"}}\n";
-    let pack_output =
-        "1 201\n1 U15 p 1 1\n1 U15 p 2 2\n1 U11 p steady\n2 201\n3 200 201 201 201 201\n\
-        3 U16 j a 1 1\n3 U16 j b 1 2\n3 U16 j c 2 3\ntables 0\npool p active steady 2 0 2 pack\n\
-        node 1 p 1 running\nnode 2 p 2 running\njob j p active 0 -\ntask j a running - - 0\n\
-        task j b running - - 0\ntask j c running - - 0\ntask j d active - - 0\n\
-        run 1 task 1 j a queued -\nrun 2 task 1 j b queued -\nrun 3 task 2 j c queued -\n";
-    assert!(rt; shows(rt.alloc(), pack, FOUR_TASKS, pack_output)?);
-    Ok(())
-}
+const SPREAD_OUTPUT: &str =
+    "1 201\n1 U15 p 1 1\n1 U15 p 2 2\n1 U11 p steady\n2 201\n3 200 201 201 201 201\n\
+    3 U16 j a 1 1\n3 U16 j b 2 2\n3 U16 j d 1 3\ntables 0\npool p active steady 2 0 2 spread\n\
+    node 1 p 1 running\nnode 2 p 2 running\njob j p active 0 -\ntask j a running - - 0\n\
+    task j b running - - 0\ntask j c active - - 0\ntask j d running - - 0\n\
+    run 1 task 1 j a queued -\nrun 2 task 2 j b queued -\nrun 3 task 1 j d queued -\n";
 
+const PACK: &str = "0 add-pool {\"id\":\"p\",\"targetDedicatedNodes\":2,\"taskSlotsPerNode\":2,\
+    \"taskSchedulingPolicy\":{\"nodeFillType\":\"Pack\"}}\n";
+
+const PACK_OUTPUT: &str =
+    "1 201\n1 U15 p 1 1\n1 U15 p 2 2\n1 U11 p steady\n2 201\n3 200 201 201 201 201\n\
+    3 U16 j a 1 1\n3 U16 j b 1 2\n3 U16 j c 2 3\ntables 0\npool p active steady 2 0 2 pack\n\
+    node 1 p 1 running\nnode 2 p 2 running\njob j p active 0 -\ntask j a running - - 0\n\
+    task j b running - - 0\ntask j c running - - 0\ntask j d active - - 0\n\
+    run 1 task 1 j a queued -\nrun 2 task 1 j b queued -\nrun 3 task 2 j c queued -\n";
+
+/// A start task that is waited for and has failed once, and is taken again.
 const WAITING: &str = "0 add-pool {\"id\":\"p\",\"targetDedicatedNodes\":1,\
     \"startTask\":{\"commandLine\":\"init\",\"maxTaskRetryCount\":1}}\n\
     0 add-job {\"id\":\"j\",\"poolInfo\":{\"poolId\":\"p\"}}\n\
     0 add-task j {\"id\":\"t\",\"commandLine\":\"w\"}\n1 take 1\n2 end 1 1\n3 take 2\n";
 
+const STARTED_OUTPUT: &str =
+    "1 201\n1 U15 p 1 1\n1 U11 p steady\n2 201\n3 201\n4 200\n5 200\n6 200\n7 200\n\
+    7 U16 j t 1 3\ntables 4\npool p active steady 1 0 1 spread\nnode 1 p 1 running\njob j p active 0 -\n\
+    task j t running - - 0\nrun 1 start 1 - - ended 1\nrun 2 start 1 - - ended 0\nrun 3 task 1 j t queued -\n";
+
+const FAILED_OUTPUT: &str =
+    "1 201\n1 U15 p 1 1\n1 U11 p steady\n2 201\n3 201\n4 200\n5 200\n6 200\n7 200\n\
+    tables 4\npool p active steady 1 0 1 spread\nnode 1 p 1 starttaskfailed\njob j p active 0 -\n\
+    task j t active - - 0\nrun 1 start 1 - - ended 1\nrun 2 start 1 - - ended 1\n";
+
+const UNAWAITED: &str = "0 add-pool {\"id\":\"p\",\"targetDedicatedNodes\":1,\"startTask\":\
+    {\"commandLine\":\"init\",\"maxTaskRetryCount\":1,\"waitForSuccess\":false}}\n";
+
+const UNAWAITED_OUTPUT: &str =
+    "1 201\n1 U15 p 1 1\n1 U11 p steady\n2 201\n3 201\n3 U16 j t 1 2\n4 200\n5 200\n\
+    tables 2\npool p active steady 1 0 1 spread\nnode 1 p 1 running\njob j p active 0 -\n\
+    task j t running - - 0\nrun 1 start 1 - - ended 1\nrun 2 task 1 j t queued -\nrun 3 start 1 - - queued -\n";
+
 #[test]
-fn nodes_run_their_start_task(rt: HostRuntime) -> Result<(), Fail> {
-    let started = "1 201\n1 U15 p 1 1\n1 U11 p steady\n2 201\n3 201\n4 200\n5 200\n6 200\n7 200\n\
-        7 U16 j t 1 3\ntables 4\npool p active steady 1 0 1 spread\nnode 1 p 1 running\njob j p active 0 -\n\
-        task j t running - - 0\nrun 1 start 1 - - ended 1\nrun 2 start 1 - - ended 0\nrun 3 task 1 j t queued -\n";
-    assert!(rt; shows(rt.alloc(), WAITING, "4 end 2 0\n", started)?);
-    let failed = "1 201\n1 U15 p 1 1\n1 U11 p steady\n2 201\n3 201\n4 200\n5 200\n6 200\n7 200\n\
-        tables 4\npool p active steady 1 0 1 spread\nnode 1 p 1 starttaskfailed\njob j p active 0 -\n\
-        task j t active - - 0\nrun 1 start 1 - - ended 1\nrun 2 start 1 - - ended 1\n";
-    assert!(rt; shows(rt.alloc(), WAITING, "4 end 2 1\n", failed)?);
-    let unawaited = "0 add-pool {\"id\":\"p\",\"targetDedicatedNodes\":1,\"startTask\":\
-        {\"commandLine\":\"init\",\"maxTaskRetryCount\":1,\"waitForSuccess\":false}}\n";
-    let unawaited_output =
-        "1 201\n1 U15 p 1 1\n1 U11 p steady\n2 201\n3 201\n3 U16 j t 1 2\n4 200\n5 200\n\
-        tables 2\npool p active steady 1 0 1 spread\nnode 1 p 1 running\njob j p active 0 -\n\
-        task j t running - - 0\nrun 1 start 1 - - ended 1\nrun 2 task 1 j t queued -\nrun 3 start 1 - - queued -\n";
-    assert!(rt; shows(rt.alloc(), unawaited, STARTED, unawaited_output)?);
+fn nodes_have_slots_and_run_start_tasks(rt: HostRuntime) -> Result<(), Fail> {
+    let alloc = rt.alloc();
+    let rows = [
+        (SPREAD, FOUR_TASKS, SPREAD_OUTPUT),
+        (PACK, FOUR_TASKS, PACK_OUTPUT),
+        (WAITING, "4 end 2 0\n", STARTED_OUTPUT),
+        (WAITING, "4 end 2 1\n", FAILED_OUTPUT),
+        (UNAWAITED, STARTED, UNAWAITED_OUTPUT),
+    ];
+    for (first, rest, output) in rows {
+        let mut script = String::from_str(alloc, first)?;
+        script.push_str(rest)?;
+        let run = sure(&["replay"], script.as_str());
+        assert!(rt; gives(alloc, run, Status::Done, output)?, "{script}");
+    }
     Ok(())
 }

@@ -73,3 +73,12 @@ FormulaRan now nodes bytes before taken TooLong = (LIMIT < length bytes) × Gain
 FormulaRan now nodes bytes before taken SourceFault = Gains before taken []
 FormulaRan now nodes bytes before taken SinkFault = WritesFront now nodes bytes before taken
 FormulaRan now nodes bytes before taken Memory = Gains before taken [] ⊎ WritesFront now nodes bytes before taken
+
+-- the ends with which nothing is written
+abbrev pub WritesNothing : End → Type 0
+WritesNothing Done = ⊥
+WritesNothing Fault = ⊥
+WritesNothing TooLong = Unit {0}
+WritesNothing SourceFault = Unit {0}
+WritesNothing SinkFault = ⊥
+WritesNothing Memory = ⊥

@@ -13,6 +13,7 @@ invariant-loop-line g l = record {
   calls : l.tally.calls + length (calls_of (lines l.rest)) ≡ length (calls_of (lines l.script));
   made : l.tally.calls + 1 ≤ l.n;
   refused : (l.tally.refused || has_refused (lines l.rest)) ≡ has_refused (lines l.script);
+  keeper_later : g.K.Keeper.faults l.fn.desk.keeper ≤ g.K.Keeper.faults l.desk.keeper;
   later : g.W.Sink.faults l.fn.sink ≤ g.W.Sink.faults l.sink;
 }
 
