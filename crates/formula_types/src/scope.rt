@@ -1,5 +1,5 @@
 //! Parts of a formula's text, and the variables that it sets.
-ghost use Rattle.std.specs.Prelude.{◌≡◌, OnOk, OnErr};
+ghost use Rattle.std.specs.Prelude.{◌≡◌, OnOk};
 ghost use Rattle.formula_types.specs.Scopes.{part, nothing, name_type, with_variable};
 
 use bt_base::NoMemory;
@@ -48,10 +48,9 @@ impl<'a> Scope<'a> {
         }
     }
 
-    /// Sets the type of a variable. If memory runs out, nothing changes.
+    /// Sets the type of a variable.
     pub fn set(&mut self, name: &'a [u8], value: ValueType) -> Result<(), NoMemory>
-        ensures set { OnOk result (types_in self.new ≡ with_variable (types_in self.old) name.now value) }
-        ensures unchanged { OnErr result (types_in self.new ≡ types_in self.old) }
+        ensures { OnOk result (types_in self.new ≡ with_variable (types_in self.old) name.now value) }
     {
         self.types.insert(name, value)?;
         Ok(())
