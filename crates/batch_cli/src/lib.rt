@@ -6,6 +6,7 @@
 mod call;
 mod formula;
 mod line;
+mod message;
 mod replay;
 mod run;
 mod status;
