@@ -36,7 +36,7 @@ pub record Seen : Type 0 where
   pub faults_before : ℕ
   pub faults_now : ℕ
 
--- the tables that a run begins from: sound ones, and where the keeper told its tables, their opening
+-- the tables that a run begins from: sound ones, and if the keeper told its tables, their opening
 pub record BeginsFrom (seats : ℕ) (loaded : Option State) (opened : State) : Type 0 where
   pub sound : IsSound seats opened
   pub opening_is : IfSome loaded (λ s. opened ≡ opening s)
@@ -49,7 +49,7 @@ pub record IsDone (options : Options) (script : List ℕ) (seen : Seen) (status 
   pub begins : BeginsFrom options.seats seen.loaded opened
   pub history : List Entry
   pub legal : IsLegal options.seats opened history
-  -- at no moment of the history a node holds more slots than its pool has
+  -- at no moment of the history a node holds more slots than its pool has, and each task is placed in free slots of its node
   pub slots : KeepsSlots options.seats opened history
   pub calls : map asked_of history ≡ take options.limit (calls_of (lines script))
   -- no due steps stopped because memory ran out
@@ -61,14 +61,14 @@ pub record IsDone (options : Options) (script : List ℕ) (seen : Seen) (status 
   pub ending : status ≡ ending_of options.limit (lines script) history
 
 -- The script was begun: the first of its calls are one legal history from the opened tables, and the keeper tells the tables
--- after them. What was written is a prefix of what shows them, and has all before the line of the last call: no call was made
--- before the lines before it were written.
+-- after them. What was written is a prefix of what shows them, and has all before the line of the last call that has an
+-- entry: no such call was made before the lines before it were written.
 pub record IsBegun (options : Options) (script : List ℕ) (seen : Seen) : Type 0 where
   pub opened : State
   pub begins : BeginsFrom options.seats seen.loaded opened
   pub history : List Entry
   pub legal : IsLegal options.seats opened history
-  -- at no moment of the history a node holds more slots than its pool has
+  -- at no moment of the history a node holds more slots than its pool has, and each task is placed in free slots of its node
   pub slots : KeepsSlots options.seats opened history
   pub calls : map asked_of history ≡ take (length history) (calls_of (lines script))
   -- no due steps but those of the last call stopped because memory ran out

@@ -1,6 +1,6 @@
 //! The top call of the program: what its words ask, done over a source, a sink and a keeper of the tables. Its contract is
 //! the theorem of the whole program: the bytes that the sink takes and the tables that the keeper tells are those of the
-//! written machines, called one by one in one history.
+//! defined machines, called one by one in one history.
 #![tactic(auto)]
 
 mod call;

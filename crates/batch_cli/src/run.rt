@@ -120,7 +120,7 @@ pub fn run_words<R: Source, W: Sink, K: Keeper + Drop>(
     sink: &mut W,
     keeper: K,
 ) -> (Status, K)
-    // Where the source tells its bytes: the written bytes, the status and the kept tables are those of one legal history, or the
+    // If the source tells its bytes: the written bytes, the status and the kept tables are those of one legal history, or the
     // bytes and the status those of one evaluation.
     ensures ran { Ran (command_of words.now) (R.left source.old)
         (record {
@@ -133,7 +133,7 @@ pub fn run_words<R: Source, W: Sink, K: Keeper + Drop>(
         }) result.0 }
     // Whatever source, sink and keeper tell: nothing is written with these statuses.
     ensures unwritten { WritesNothing result.0 → sink.new ≡ sink.old }
-    // The keeper is not called if the words are no command, or one that needs no tables.
+    // The keeper is not called if the words are not a command, or one that needs no tables.
     ensures unused { CallsNoKeeper (command_of words.now) → result.1 ≡ keeper }
     // Each status that names a fault has its cause.
     ensures usage { (result.0 ≡ Status.Usage) ↔ (command_of words.now ≡ None) }

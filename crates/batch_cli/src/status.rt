@@ -7,7 +7,7 @@ pub enum Status {
     Done,
     /// 1: out of memory; the run ended at once.
     Memory,
-    /// 2: the words are no command; nothing was written.
+    /// 2: the words are not a command; nothing was written.
     Usage,
     /// 3: the source failed; nothing was called or written.
     SourceFault,

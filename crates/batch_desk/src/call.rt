@@ -15,7 +15,7 @@ use bt_rows::refusal::Refusal;
 use bt_rows::reply::Reply;
 use std::alloc::Global;
 
-/// The moment and the event's values are in their ranges, as their types say. It does nothing.
+/// The moment and the event's values are in their ranges, as their types say. It only tells the check this.
 pub fn know_ranges(moment: Moment, event: &Event)
     ensures { IsAskable moment event.now }
 {

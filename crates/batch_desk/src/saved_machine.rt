@@ -167,6 +167,7 @@ impl<K: Keeper + Drop> SavedMachine<K> {
     {
         let mut dues = Vec::new(alloc);
         let stop = self.add_due_steps(alloc, &mut dues);
+        // tells the check what the type says of keeper and machine
         let _ = &self.keeper;
         (List::of_vec(dues), stop)
     }

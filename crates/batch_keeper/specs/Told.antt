@@ -12,7 +12,7 @@ use Rattle.batch_keeper.specs.declared.error.KeepError.TheVariants.{Failed}
 abbrev pub told_after : List Change → Option State → Option State
 told_after changes told = option_map (apply_changes changes) told
 
--- the count never falls, and rose where `Failed` was answered
+-- the count never falls, and rose if `Failed` was returned
 pub record FailsWithCause {T : Type 0} (before now : ℕ) (result : Result T KeepError) : Type 0 where
   pub later : before ≤ now
   pub failed : IsErrOf result Failed → Rose before now

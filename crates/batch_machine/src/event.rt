@@ -62,14 +62,14 @@ fn plan_at(alloc: Global, view: &View, event: &Event) -> Result<Plan, NoMemory>
     or_refused(alloc, view.tables, view.now, answer)
 }
 
-/// The later of the tables' moment and the one handed in.
+/// The later of the tables' moment and the given one.
 fn later(tables: &Tables, moment: u64) -> u64
     ensures { result ≡ max tables.now.state.moment moment }
 {
     tables.moment().max(moment)
 }
 
-/// The plan of an event that is handed in at `moment`, in milliseconds since 1970. It is made at the tables' own moment if that is
+/// The plan of an event that is given at `moment`, in milliseconds since 1970. It is made at the tables' own moment if that is
 /// later. The only error is out of memory.
 pub fn plan_event(
     alloc: Global,

@@ -30,7 +30,7 @@ fn tick(alloc: Global, tables: &Tables, now: u64) -> Result<Plan, Fail<Refusal>>
 /// which they are listed here:
 ///
 /// - `take`: `RunNotFound`, `RunAlreadyEnded`, `RunWithdrawn`, `RunAlreadyTaken`, `RunWaiting`;
-/// - `end`: `RunNotFound`, `RunAlreadyEnded`, `RunWithdrawn`, `RunNotTaken`;
+/// - `end` of a run that is there: `RunAlreadyEnded`, `RunWithdrawn`, `RunNotTaken`;
 /// - `tick` is never refused, and changes the last moment alone.
 ///
 /// The only other error is out of memory.

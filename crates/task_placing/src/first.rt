@@ -214,9 +214,9 @@ fn place_by_ledger(
 }
 
 /// The plan of U16, until run numbers are used up: the earlier job first, and its first task that fits, on the node that the pool's
-/// fill type chooses. None exactly if no task fits. The only error is out of memory. The ledger of the nodes and the least slots that the jobs ask for are
-/// each made by one pass, so that no job, node or pool costs a pass over the tasks or the runs of its own unless a task is
-/// placed there.
+/// fill type chooses. None exactly if no task fits. The only error is out of memory. The ledger of the nodes and the least
+/// slots that the jobs ask for are each made by one pass, so that no job, node or pool costs a pass over the tasks or the runs
+/// of its own unless a task is placed there.
 pub fn place_first(alloc: Global, tables: &Tables) -> Result<Option<Plan>, NoMemory>
     requires keys { KeysAreDistinct tables.now.state }
     requires numbers { NumbersAreNew tables.now.state }

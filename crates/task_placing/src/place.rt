@@ -18,6 +18,7 @@ use bt_rows::task::{TaskRow, TaskStage};
 use machine_plans::step_three;
 use std::alloc::Global;
 
+/// The task as it is once it is placed: its next attempt.
 fn placed(task: &TaskRow) -> Result<TaskRow, NoMemory>
     requires { task.now.attempt < 2 ^ 63 }
     ensures { IfOk result (λ row. row ≡ placed task.now) }

@@ -82,7 +82,7 @@ refusal_status (refusals.TableFull table limit) = 409
 refusal_status (refusals.SampleTooOld label) = 409
 refusal_status refusals.TerminationEngaged = 400
 
--- the name (Azure Batch REST reference: error codes)
+-- the name (this project's profile)
 unfoldable pub refusal_name : Refusal → List ℕ
 refusal_name refusals.UnreadableBody = codes "UnreadableBody"
 refusal_name (refusals.InvalidPropertyValue member) = codes "InvalidPropertyValue"
