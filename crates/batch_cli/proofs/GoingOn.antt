@@ -280,22 +280,6 @@ pub if_some_anyway : {A : Type 0} (o : Option A) (P : A → Type 0) → ((x : A)
 if_some_anyway None P h = tt
 if_some_anyway (Some x) P h = h x
 
--- no line was begun
-pub part_none : {K : Type 0} {d : Desk K} (faults : K → ℕ) (script : List (List ℕ)) (a : Option (List ℕ)) → Begins d d.seats d.limit →
-    Part faults d d script a a
-part_none {K} {d} faults script a b = record {
-  written = record {
-    front = [];
-    gained = gains_nothing a;
-    at_least = subst (λ (es : List Entry). BeginsWith [] (outputs_before d.seats script d.limit es d.state)) (sym b.entries) (record { rest = []; cut = refl });
-    at_most = record { rest = outputs d.seats 1 script d.limit d.entries d.state; cut = refl };
-  };
-  settled = ap (λ (es : List Entry). memory_stops (but_last es)) b.entries;
-  calls = ap (map asked_of) b.entries ∙ ap (λ es. take (length es) (calls_of script)) (sym b.entries);
-  rose = omega (arith, ap fault_count b.entries);
-  same = same_at_once d;
-}
-
 or_assoc : (a b c : Bool) → ((a || b) || c) ≡ (a || (b || c))
 or_assoc true b c = refl
 or_assoc false b c = refl

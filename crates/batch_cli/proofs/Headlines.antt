@@ -1,5 +1,5 @@
 -- From the run of an opened desk to the whole run.
-use Rattle.std.proofs.Common.{◌≡◌, ◌≤◌, ℕ, List, Option, Some, None, IfSome, ap, ◌∙◌, sym, subst, arith, inr, map, take}
+use Rattle.std.proofs.Common.{◌≡◌, ◌≤◌, ℕ, List, Option, Some, None, IfSome, ap, ◌∙◌, sym, subst, arith, length, inl, inr, map, take}
 use Rattle.std.specs.Str.Lines.{lines}
 use Rattle.bt_base.specs.Content.{Gains}
 use Rattle.batch_model.specs.Opening.{opening}
@@ -77,6 +77,9 @@ module _ {K : Type 0} {told : K → Option State} {faults : K → ℕ} {options 
       ∙ ap (λ s. after_all options.seats s now.entries) same.opened)
       r.in_order.kept
 
+  within_from : Runs told faults options loaded count start now → HasSameOpening start now → length now.entries ≤ options.limit
+  within_from r same = omega (arith, r.in_order.within, same.limit, r.begins.limit_is)
+
   counted_from : (by : ℕ) → Runs told faults options loaded count start now → RoseBy by (faults start.keeper) (faults now.keeper) →
       RoseBy by count (faults now.keeper)
   counted_from by r rose = omega (arith, r.later, rose)
@@ -90,6 +93,7 @@ module _ {K : Type 0} {told : K → Option State} {faults : K → ℕ} {options 
     history = now.entries;
     legal = legal_from r p.same;
     slots = slots_from r p.same;
+    within = within_from r p.same;
     calls = p.calls;
     settled = p.settled;
     written = subst (λ w. GainsBetween before taken w (outputs options.seats 1 (lines script) options.limit now.entries start.opened))
@@ -145,7 +149,8 @@ module _ {K : Type 0} {told : K → Option State} {faults : K → ℕ} {options 
   ran_from script before taken SourceFault r d = opened_from before taken r d
   ran_from script before taken ScriptTooLong r d = (d.0, opened_from before taken r d.1)
   ran_from script before taken SinkFault r d = cut_off_from script before taken r d
-  ran_from script before taken Memory r d = inr (begun_from script before taken r d)
+  ran_from script before taken Memory r (inl d) = inr (inl (opened_from before taken r d))
+  ran_from script before taken Memory r (inr d) = inr (inr (d.0, begun_from script before taken r d.1))
   ran_from script before taken KeeperFault r d = inr (done_from script before taken r d)
   ran_from script before taken JournalFull r d = done_from script before taken r d
   ran_from script before taken UnreadableLines r d = done_from script before taken r d

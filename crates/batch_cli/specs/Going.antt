@@ -1,5 +1,5 @@
 -- A desk on its way through a script.
-use Rattle.std.specs.Prelude.{◌≡◌, ◌<◌, ◌≤◌, ℕ, List, [], ◌++◌, map, take, length, Option}
+use Rattle.std.specs.Prelude.{◌≡◌, ◌⊎◌, ◌<◌, ◌≤◌, ℕ, List, [], ◌++◌, map, take, length, Option}
 use Rattle.std.specs.Str.Lines.{lines}
 use Rattle.bt_base.specs.Content.{Gains}
 use Rattle.batch_desk.specs.declared.entry.Entry.{Entry}
@@ -74,7 +74,8 @@ abbrev pub DeskRan : {K : Type 0} → (K → ℕ) → Desk K → Desk K → List
 DeskRan faults start now script before taken Usage = ⊥
 DeskRan faults start now script before taken SourceFault = NothingDone start now before taken
 DeskRan faults start now script before taken ScriptTooLong = (script_limit < length script) × NothingDone start now before taken
-DeskRan faults start now script before taken Memory = Part faults start now (lines script) before taken
+DeskRan faults start now script before taken Memory =
+    NothingDone start now before taken ⊎ ((length script ≤ script_limit) × Part faults start now (lines script) before taken)
 DeskRan faults start now script before taken SinkFault = CutOff faults start now script before taken
 DeskRan faults start now script before taken KeeperFault = EndsWith faults start now script before taken KeeperFault
 DeskRan faults start now script before taken JournalFull = EndsWith faults start now script before taken JournalFull

@@ -70,6 +70,7 @@ pub record IsBegun (options : Options) (script : List ℕ) (seen : Seen) : Type 
   pub legal : IsLegal options.seats opened history
   -- at no moment of the history a node holds more slots than its pool has, and each task is placed in free slots of its node
   pub slots : KeepsSlots options.seats opened history
+  pub within : length history ≤ options.limit
   pub calls : map asked_of history ≡ take (length history) (calls_of (lines script))
   -- no due steps but those of the last call stopped because memory ran out
   pub settled : memory_stops (but_last history) ≡ 0
@@ -105,7 +106,7 @@ RanWith options script seen KeeperFault = IsUnopened seen Failed ⊎ IsDone opti
 RanWith options script seen SourceFault = IsOpened options seen
 RanWith options script seen ScriptTooLong = (script_limit < length script) × IsOpened options seen
 RanWith options script seen SinkFault = IsCutOff options script seen
-RanWith options script seen Memory = IsUnopened seen NoMemory ⊎ IsBegun options script seen
+RanWith options script seen Memory = IsUnopened seen NoMemory ⊎ (IsOpened options seen ⊎ ((length script ≤ script_limit) × IsBegun options script seen))
 RanWith options script seen JournalFull = IsDone options script seen JournalFull
 RanWith options script seen UnreadableLines = IsDone options script seen UnreadableLines
 RanWith options script seen FormulaError = ⊥
