@@ -37,7 +37,7 @@ module _ (s : State) (run : RunRow) (there : IsThere s run) (now : ℕ) (ending 
       ∙ node_put (with_end now ending run s) node change there.keys.nodes found keeps)
 
   -- the run ends, the failure is counted, and the start task is run again
-  pub end_and_again : (ended again : RunRow) (row node : NodeRow) (start : StartTask) (nodes runs : ℕ) → ended ≡ ended_run now ending run → row ≡ counted_node node → again ≡ start_run (record s { moment = max s.moment moment }) node start → nodes ≡ s.next_node → runs ≡ s.next_run + 1 → node_of s node.number ≡ Some node → apply_changes (PutRun ended ∷ PutNode row ∷ PutRun again ∷ Counters nodes runs ∷ []) (with_moment now s) ≡ start_again node start (with_end now ending run s)
+  pub end_and_again : (ended again : RunRow) (row node : NodeRow) (start : StartTask) (nodes runs : ℕ) → ended ≡ ended_run now ending run → row ≡ counted_node node → again ≡ start_run (with_moment now s) node start → nodes ≡ s.next_node → runs ≡ s.next_run + 1 → node_of s node.number ≡ Some node → apply_changes (PutRun ended ∷ PutNode row ∷ PutRun again ∷ Counters nodes runs ∷ []) (with_moment now s) ≡ start_again node start (with_end now ending run s)
   end_and_again ended again row node start nodes runs is_ended is_row is_again stays rises found =
       let counted = change_node node counted_node (with_end now ending run s) in
       ap (apply_changes (PutRun again ∷ Counters nodes runs ∷ [])) (end_and_node ended row node counted_node is_ended is_row (λ x. refl) found)
