@@ -93,7 +93,10 @@ module _ (place b : ℕ) (rest : List ℕ) (kind : Kind) (more : ℕ) where
   digit_found false e = string_found (b == 34) refl e
 
   name_found : (c : Bool) → begins_name b (next_byte rest) ≡ c → if_name c ≡ Lexeme kind more → Found place b rest kind more
-  name_found true is e = a_name is cc cc
+  name_found true is e =
+      let same : Name ≡ kind = cc in
+      let run : up_to (λ d. not (is_name_byte d)) rest ≡ more = cc in
+      a_name is same run
   name_found false is e = digit_found (is_ascii_digit b) e
 
   comment_found : (c : Bool) → if_comment c ≡ Lexeme kind more → Found place b rest kind more
