@@ -11,7 +11,7 @@ const SETTINGS: &str =
     "$TargetDedicatedNodes=4;$TargetLowPriorityNodes=0;$NodeDeallocationOption=requeue";
 
 // What a formula sets over these metrics, at this moment and with 4 dedicated nodes before, or `error`, its fault's name and place.
-fn shown(alloc: Global, metrics: &Metrics, ms: u64, text: &str) -> Result<Text, TestFail> {
+fn shown_over(alloc: Global, metrics: &Metrics, ms: u64, text: &str) -> Result<Text, TestFail> {
     let now = Moment::of_ms(ms).ok_or(NoMemory)?;
     let start = Targets {
         dedicated: 4,
@@ -29,9 +29,19 @@ fn shown(alloc: Global, metrics: &Metrics, ms: u64, text: &str) -> Result<Text, 
     }
 }
 
+// The same without samples. The metrics are made here, so that no test has to let go of them at each of its exits.
+fn shown(alloc: Global, ms: u64, text: &str) -> Result<Text, TestFail> {
+    let metrics = Metrics::new(alloc)?;
+    shown_over(alloc, &metrics, ms, text)
+}
+
+// The settings as they were before, and then these variables.
+fn unchanged(alloc: Global, variables: &str) -> Result<Text, NoMemory> {
+    Ok(Text::of_string(format!(in alloc; "{SETTINGS};{variables}")?))
+}
+
 #[test]
 fn formulas_set_targets_and_options(rt: HostRuntime) -> Result<(), TestFail> {
-    let metrics = Metrics::new(rt.alloc())?;
     let table = [
         (
             "$TargetDedicatedNodes = 2.9; a = 0 && 1/0; b = 7 || 1/0; c = 1 && 7; d = 0 || 0",
@@ -54,7 +64,7 @@ fn formulas_set_targets_and_options(rt: HostRuntime) -> Result<(), TestFail> {
         ),
     ];
     for (text, wanted) in table {
-        let found = shown(rt.alloc(), &metrics, 0, text)?;
+        let found = shown(rt.alloc(), 0, text)?;
         assert_eq!(rt; found.as_str(), wanted, "of {text}");
     }
     Ok(())
@@ -63,7 +73,6 @@ fn formulas_set_targets_and_options(rt: HostRuntime) -> Result<(), TestFail> {
 #[test]
 fn expressions_have_values(rt: HostRuntime) -> Result<(), TestFail> {
     let alloc = rt.alloc();
-    let metrics = Metrics::new(alloc)?;
     let table = [
         (
             "bb = 1; a = bb + 1; b = a * 10; bb = b + a + bb; $b = bb",
@@ -99,8 +108,8 @@ fn expressions_have_values(rt: HostRuntime) -> Result<(), TestFail> {
         ),
     ];
     for (text, variables) in table {
-        let found = shown(alloc, &metrics, 1_800_000_000_000, text)?;
-        let wanted = format!(in alloc; "{SETTINGS};{variables}")?;
+        let found = shown(alloc, 1_800_000_000_000, text)?;
+        let wanted = unchanged(alloc, variables)?;
         assert_eq!(rt; found.as_str(), wanted.as_str(), "of {text}");
     }
     Ok(())
@@ -108,7 +117,6 @@ fn expressions_have_values(rt: HostRuntime) -> Result<(), TestFail> {
 
 #[test]
 fn the_first_fault_counts(rt: HostRuntime) -> Result<(), TestFail> {
-    let metrics = Metrics::new(rt.alloc())?;
     let table = [
         ("x = [1,2] + [1]", "error LengthsDiffer 10"),
         ("x = [1] / [0, 0]", "error LengthsDiffer 8"),
@@ -122,7 +130,7 @@ fn the_first_fault_counts(rt: HostRuntime) -> Result<(), TestFail> {
         ("x = TimeInterval_Year * 10001", "error TimeOutOfRange 22"),
     ];
     for (text, wanted) in table {
-        let found = shown(rt.alloc(), &metrics, 0, text)?;
+        let found = shown(rt.alloc(), 0, text)?;
         assert_eq!(rt; found.as_str(), wanted, "of {text}");
     }
     Ok(())
@@ -140,10 +148,26 @@ fn sampled(alloc: Global) -> Result<Metrics, TestFail> {
     Ok(metrics)
 }
 
+// What a formula sets over these samples, at 90 seconds.
+fn shown_sampled(alloc: Global, text: &str) -> Result<Text, TestFail> {
+    let metrics = sampled(alloc)?;
+    shown_over(alloc, &metrics, 90_000, text)
+}
+
+// What `x` is set to by this call of a method of the metric with samples.
+fn shown_call(alloc: Global, call: &str) -> Result<Text, TestFail> {
+    let text = format!(in alloc; "x = $ActiveTasks.{call}")?;
+    shown_sampled(alloc, text.as_str())
+}
+
+// The settings as they were before, and then this value of `x`.
+fn unchanged_but_x(alloc: Global, value: &str) -> Result<Text, NoMemory> {
+    Ok(Text::of_string(format!(in alloc; "{SETTINGS};$x={value}")?))
+}
+
 #[test]
 fn methods_read_samples(rt: HostRuntime) -> Result<(), TestFail> {
     let alloc = rt.alloc();
-    let metrics = sampled(alloc)?;
     let table = [
         ("GetSample(2.9)", "[3,2]"),
         ("GetSample(0)", "[]"),
@@ -183,11 +207,15 @@ fn methods_read_samples(rt: HostRuntime) -> Result<(), TestFail> {
         ("HistoryBeginTime()", "1970-01-01T00:00:00.0000000Z"),
     ];
     for (call, wanted) in table {
-        let text = format!(in alloc; "x = $ActiveTasks.{call}")?;
-        let found = shown(alloc, &metrics, 90_000, text.as_str())?;
-        let wanted = format!(in alloc; "{SETTINGS};$x={wanted}")?;
+        let found = shown_call(alloc, call)?;
+        let wanted = unchanged_but_x(alloc, wanted)?;
         assert_eq!(rt; found.as_str(), wanted.as_str(), "of {call}");
     }
+    Ok(())
+}
+
+#[test]
+fn methods_have_faults(rt: HostRuntime) -> Result<(), TestFail> {
     let table = [
         (
             "x = $ActiveTasks.GetSample(-0.000001)",
@@ -203,7 +231,7 @@ fn methods_read_samples(rt: HostRuntime) -> Result<(), TestFail> {
         ),
     ];
     for (text, wanted) in table {
-        let found = shown(alloc, &metrics, 90_000, text)?;
+        let found = shown_sampled(rt.alloc(), text)?;
         assert_eq!(rt; found.as_str(), wanted, "of {text}");
     }
     Ok(())
