@@ -6,10 +6,12 @@
 mod key_text;
 mod keyed;
 mod places;
+mod rows;
 mod table;
 
 pub use key_text::KeyText;
 pub use keyed::Keyed;
+pub use rows::Rows;
 pub use table::{Table, places_are_lists};
 
 #[cfg(test)]

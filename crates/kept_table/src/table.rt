@@ -1,5 +1,5 @@
 //! The table.
-ghost use Rattle.std.specs.Prelude.{◌≡◌, ◌+◌, ◌*◌, ◌<◌, ◌≤◌, ◌^◌, [], ◌∷◌, ◌++◌, length, map, set, Some, None, Option, OnOk, OnErr};
+ghost use Rattle.std.specs.Prelude.{◌≡◌, ◌+◌, ◌*◌, ◌<◌, ◌≤◌, ◌^◌, [], ◌∷◌, ◌++◌, length, map, set, Some, None, Option, IfOk, OnOk, OnErr};
 ghost use Rattle.std.specs.Option.{option_copied};
 ghost use Rattle.std.specs.List.{find};
 ghost use Rattle.kept_table.specs.Lists.{put_row, drop_row, AreAsListed};
@@ -8,7 +8,8 @@ ghost use Rattle.kept_table.specs.Slots.{TableView, AreApart, place_of, has_text
 use crate::key_text::KeyText;
 use crate::keyed::Keyed;
 use crate::places::{add_spares, drop_place, put_place, reserve_places, spare_text};
-use bt_base::NoMemory;
+use crate::rows::Rows;
+use bt_base::{Duplicate, NoMemory};
 use std::alloc::Global;
 use std::collections::HashMap;
 use std::marker::Model;
@@ -59,6 +60,13 @@ impl<R: Keyed> Table<R> {
         ensures small { length self.now.slots < 2 ^ 63 }
     {
         self.slots.as_slice()
+    }
+
+    /// The rows, in the order of adding.
+    pub fn rows(&self) -> Rows<'_, R>
+        ensures { result ≡ rows self.now.slots }
+    {
+        Rows::of(&self.slots)
     }
 
     /// The number of places, with the free ones.
@@ -225,6 +233,43 @@ impl<R: Keyed> Table<R> {
         let slots = mem::replace(&mut self.slots, Vec::new(alloc));
         *self = with_rows_of(closed, slots);
         Ok(())
+    }
+}
+
+impl<R: Keyed + Duplicate> Table<R> {
+    /// A copy of the rows, in a table without free places and without room. The only error is out of memory.
+    pub fn copy(&self) -> Result<Table<R>, NoMemory>
+        ensures { IfOk result (λ copy. rows copy.slots ≡ rows self.now.slots) }
+    {
+        let alloc = *self.slots.allocator();
+        let slots = copied_slots(alloc, &self.slots)?;
+        let mut copy = Table::new(alloc);
+        copy.add_room(self.row_count)?;
+        Ok(with_rows_of(copy, slots))
+    }
+}
+
+/// Copies of the slots.
+fn copied_slots<R: Duplicate>(
+    alloc: Global,
+    slots: &[Option<R>],
+) -> Result<Vec<Option<R>>, NoMemory>
+    ensures { IfOk result (λ copies. copies.items ≡ slots.now) }
+{
+    let mut copies = Vec::with_capacity(alloc, slots.len())?;
+    for slot in slots {
+        copies.push(copied_slot(slot)?)?;
+    }
+    Ok(copies)
+}
+
+/// A copy of the slot.
+fn copied_slot<R: Duplicate>(slot: &Option<R>) -> Result<Option<R>, NoMemory>
+    ensures { IfOk result (λ copy. copy ≡ slot.now) }
+{
+    match slot {
+        None => Ok(None),
+        Some(row) => Ok(Some(row.copy()?)),
     }
 }
 
