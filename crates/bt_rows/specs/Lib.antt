@@ -1,6 +1,7 @@
 pub mod Lists
 pub mod Metrics
 pub mod Keys
+pub mod Texts
 pub mod State
 pub mod Changes
 pub mod Room

@@ -1,9 +1,11 @@
 //! Jobs.
-ghost use Rattle.bt_rows.specs.Keys.{job_has_id, same_job, same_job_equiv};
+ghost use Rattle.kept_table.specs.Keys.{id_text};
+ghost use Rattle.bt_rows.specs.Keys.{job_has_id, same_job};
+ghost use Rattle.bt_rows.specs.Texts.{job_text, job_by_text, same_job_by_text};
 
-use crate::lists::Row;
 use crate::pool::StartTask;
 use bt_base::{CommandLine, Duplicate, Id, NoMemory, Text};
+use kept_table::{KeyText, Keyed};
 
 /// The state of a job (Azure: state of a job).
 #[derive(Clone, Copy, Debug, PartialEq, Eq)]
@@ -96,20 +98,24 @@ impl Duplicate for JobRow {
     }
 }
 
-impl Row for JobRow {
+impl Keyed for JobRow {
     type Key = Id;
 
     ghost has_key = { job_has_id };
 
     ghost same_key = { same_job };
 
-    ghost same_key_equiv = { same_job_equiv };
+    ghost key_text = { id_text };
 
-    fn has_key(&self, key: &Id) -> bool {
-        self.id.same(key)
+    ghost row_text = { job_text };
+
+    ghost texts_decide = { record { has = job_by_text; same = same_job_by_text } };
+
+    fn key_text(id: &Id) -> KeyText {
+        KeyText::of_id(id)
     }
 
-    fn same_key(&self, other: &JobRow) -> bool {
-        self.id.same(&other.id)
+    fn row_text(&self) -> KeyText {
+        KeyText::of_id(&self.id)
     }
 }

@@ -1,9 +1,11 @@
 //! Nodes.
-ghost use Rattle.bt_rows.specs.Keys.{node_has_number, same_node, same_node_equiv};
+ghost use Rattle.kept_table.specs.Keys.{number_text};
+ghost use Rattle.bt_rows.specs.Keys.{node_has_number, same_node};
+ghost use Rattle.bt_rows.specs.Texts.{node_text, node_by_text, same_node_by_text};
 
-use crate::lists::Row;
 use crate::pool::Dealloc;
 use bt_base::{Duplicate, Id, NoMemory};
+use kept_table::{KeyText, Keyed};
 
 /// How far a node has come. Its state in replies follows from its stage and its runs (Azure: the state of a compute node).
 #[derive(Clone, Copy, Debug, PartialEq, Eq)]
@@ -39,20 +41,24 @@ impl Duplicate for NodeRow {
     }
 }
 
-impl Row for NodeRow {
+impl Keyed for NodeRow {
     type Key = u64;
 
     ghost has_key = { node_has_number };
 
     ghost same_key = { same_node };
 
-    ghost same_key_equiv = { same_node_equiv };
+    ghost key_text = { number_text };
 
-    fn has_key(&self, key: &u64) -> bool {
-        self.number == *key
+    ghost row_text = { node_text };
+
+    ghost texts_decide = { record { has = node_by_text; same = same_node_by_text } };
+
+    fn key_text(number: &u64) -> KeyText {
+        KeyText::of_number(*number)
     }
 
-    fn same_key(&self, other: &NodeRow) -> bool {
-        self.number == other.number
+    fn row_text(&self) -> KeyText {
+        KeyText::of_number(self.number)
     }
 }

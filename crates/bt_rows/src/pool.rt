@@ -1,8 +1,10 @@
 //! Pools.
-ghost use Rattle.bt_rows.specs.Keys.{pool_has_id, same_pool, same_pool_equiv};
+ghost use Rattle.kept_table.specs.Keys.{id_text};
+ghost use Rattle.bt_rows.specs.Keys.{pool_has_id, same_pool};
+ghost use Rattle.bt_rows.specs.Texts.{pool_text, pool_by_text, same_pool_by_text};
 
-use crate::lists::Row;
 pub use bt_base::Dealloc;
+use kept_table::{KeyText, Keyed};
 use bt_base::{CommandLine, Duplicate, Id, NoMemory};
 
 /// Whether a pool is being resized (Azure: allocationState).
@@ -111,20 +113,24 @@ impl Duplicate for PoolRow {
     }
 }
 
-impl Row for PoolRow {
+impl Keyed for PoolRow {
     type Key = Id;
 
     ghost has_key = { pool_has_id };
 
     ghost same_key = { same_pool };
 
-    ghost same_key_equiv = { same_pool_equiv };
+    ghost key_text = { id_text };
 
-    fn has_key(&self, key: &Id) -> bool {
-        self.id.same(key)
+    ghost row_text = { pool_text };
+
+    ghost texts_decide = { record { has = pool_by_text; same = same_pool_by_text } };
+
+    fn key_text(id: &Id) -> KeyText {
+        KeyText::of_id(id)
     }
 
-    fn same_key(&self, other: &PoolRow) -> bool {
-        self.id.same(&other.id)
+    fn row_text(&self) -> KeyText {
+        KeyText::of_id(&self.id)
     }
 }

@@ -1,8 +1,9 @@
 //! Preparations of jobs on nodes.
-ghost use Rattle.bt_rows.specs.Keys.{prep_has_key, same_prep, same_prep_equiv};
+ghost use Rattle.bt_rows.specs.Keys.{prep_has_key, same_prep};
+ghost use Rattle.bt_rows.specs.Texts.{prep_text, prep_key_text, prep_by_text, same_prep_by_text};
 
-use crate::lists::Row;
 use bt_base::{Duplicate, Id, NoMemory};
+use kept_table::{KeyText, Keyed};
 
 /// The state of a preparation (Azure: jobPreparationTaskExecutionInfo.state).
 #[derive(Clone, Copy, Debug, PartialEq, Eq)]
@@ -64,20 +65,24 @@ impl Duplicate for PrepKey {
     }
 }
 
-impl Row for PrepRow {
+impl Keyed for PrepRow {
     type Key = PrepKey;
 
     ghost has_key = { prep_has_key };
 
     ghost same_key = { same_prep };
 
-    ghost same_key_equiv = { same_prep_equiv };
+    ghost key_text = { prep_key_text };
 
-    fn has_key(&self, key: &PrepKey) -> bool {
-        self.job.same(&key.job) && self.node == key.node
+    ghost row_text = { prep_text };
+
+    ghost texts_decide = { record { has = prep_by_text; same = same_prep_by_text } };
+
+    fn key_text(key: &PrepKey) -> KeyText {
+        KeyText::of_number_and_id(key.node, &key.job)
     }
 
-    fn same_key(&self, other: &PrepRow) -> bool {
-        self.job.same(&other.job) && self.node == other.node
+    fn row_text(&self) -> KeyText {
+        KeyText::of_number_and_id(self.node, &self.job)
     }
 }

@@ -1,8 +1,10 @@
 //! Runs: executions of command lines on nodes.
-ghost use Rattle.bt_rows.specs.Keys.{run_has_number, same_run, same_run_equiv};
+ghost use Rattle.kept_table.specs.Keys.{number_text};
+ghost use Rattle.bt_rows.specs.Keys.{run_has_number, same_run};
+ghost use Rattle.bt_rows.specs.Texts.{run_text, run_by_text, same_run_by_text};
 
-use crate::lists::Row;
 use bt_base::{CommandLine, Duplicate, Id, NoMemory};
+use kept_table::{KeyText, Keyed};
 
 /// How a child program ended.
 #[derive(Clone, Copy, Debug, PartialEq, Eq)]
@@ -105,20 +107,24 @@ impl Duplicate for RunRow {
     }
 }
 
-impl Row for RunRow {
+impl Keyed for RunRow {
     type Key = u64;
 
     ghost has_key = { run_has_number };
 
     ghost same_key = { same_run };
 
-    ghost same_key_equiv = { same_run_equiv };
+    ghost key_text = { number_text };
 
-    fn has_key(&self, key: &u64) -> bool {
-        self.number == *key
+    ghost row_text = { run_text };
+
+    ghost texts_decide = { record { has = run_by_text; same = same_run_by_text } };
+
+    fn key_text(number: &u64) -> KeyText {
+        KeyText::of_number(*number)
     }
 
-    fn same_key(&self, other: &RunRow) -> bool {
-        self.number == other.number
+    fn row_text(&self) -> KeyText {
+        KeyText::of_number(self.number)
     }
 }

@@ -1,8 +1,11 @@
 //! Samples of metrics.
-ghost use Rattle.bt_rows.specs.Keys.{sample_has_key, same_sample, same_sample_equiv};
+ghost use Rattle.std.specs.Prelude.{◌≡◌};
+ghost use Rattle.bt_rows.specs.Keys.{sample_has_key, same_sample};
+ghost use Rattle.bt_rows.specs.Metrics.{place_of_metric};
+ghost use Rattle.bt_rows.specs.Texts.{label_text, sample_text, sample_key_text, sample_by_text, same_sample_by_text};
 
-use crate::lists::Row;
 pub use bt_base::Metric;
+use kept_table::{KeyText, Keyed};
 use bt_base::{Duplicate, Id, NoMemory, Num};
 
 /// A sample of a pool's metric (Azure: what `GetSample` of autoscale formulas reads). Its key is pool, metric and label.
@@ -41,20 +44,54 @@ impl Duplicate for SampleKey {
     }
 }
 
-impl Row for SampleRow {
+impl Keyed for SampleRow {
     type Key = SampleKey;
 
     ghost has_key = { sample_has_key };
 
     ghost same_key = { same_sample };
 
-    ghost same_key_equiv = { same_sample_equiv };
+    ghost key_text = { sample_key_text };
 
-    fn has_key(&self, key: &SampleKey) -> bool {
-        self.pool.same(&key.pool) && self.label == key.label && self.metric == key.metric
+    ghost row_text = { sample_text };
+
+    ghost texts_decide = { record { has = sample_by_text; same = same_sample_by_text } };
+
+    fn key_text(key: &SampleKey) -> KeyText {
+        label_text(&key.pool, key.metric, key.label)
     }
 
-    fn same_key(&self, other: &SampleRow) -> bool {
-        self.pool.same(&other.pool) && self.label == other.label && self.metric == other.metric
+    fn row_text(&self) -> KeyText {
+        label_text(&self.pool, self.metric, self.label)
     }
+}
+
+/// The number by which a metric stands in texts of keys.
+fn metric_number(metric: Metric) -> u8
+    ensures { result ≡ place_of_metric metric }
+{
+    match metric {
+        Metric::CpuPercent => 0,
+        Metric::ActiveTasks => 1,
+        Metric::RunningTasks => 2,
+        Metric::PendingTasks => 3,
+        Metric::SucceededTasks => 4,
+        Metric::FailedTasks => 5,
+        Metric::TaskSlotsPerNode => 6,
+        Metric::CurrentDedicatedNodes => 7,
+        Metric::CurrentLowPriorityNodes => 8,
+        Metric::PreemptedNodeCount => 9,
+    }
+}
+
+/// The text of the key of the pool's sample of this metric and label.
+#[tactic(auto, using(kept_table::proofs::KeyTexts::number_text_length))]
+fn label_text(pool: &Id, metric: Metric, label: u64) -> KeyText
+    ensures { result ≡ label_text metric label pool.now }
+{
+    let mut text = KeyText::new();
+    text.push(metric_number(metric));
+    text.push_number(label);
+    text.push_id(pool);
+    text
 }

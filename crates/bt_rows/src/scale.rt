@@ -1,8 +1,10 @@
 //! Automatic scaling of pools.
-ghost use Rattle.bt_rows.specs.Keys.{scale_has_pool, same_scale, same_scale_equiv};
+ghost use Rattle.kept_table.specs.Keys.{id_text};
+ghost use Rattle.bt_rows.specs.Keys.{scale_has_pool, same_scale};
+ghost use Rattle.bt_rows.specs.Texts.{scale_text, scale_by_text, same_scale_by_text};
 
-use crate::lists::Row;
 use bt_base::{Duplicate, Id, NoMemory, Text};
+use kept_table::{KeyText, Keyed};
 
 /// How a pool scales automatically. Its key is the pool.
 #[derive(Clone, Drop)]
@@ -25,20 +27,24 @@ impl Duplicate for ScaleRow {
     }
 }
 
-impl Row for ScaleRow {
+impl Keyed for ScaleRow {
     type Key = Id;
 
     ghost has_key = { scale_has_pool };
 
     ghost same_key = { same_scale };
 
-    ghost same_key_equiv = { same_scale_equiv };
+    ghost key_text = { id_text };
 
-    fn has_key(&self, key: &Id) -> bool {
-        self.pool.same(key)
+    ghost row_text = { scale_text };
+
+    ghost texts_decide = { record { has = scale_by_text; same = same_scale_by_text } };
+
+    fn key_text(pool: &Id) -> KeyText {
+        KeyText::of_id(pool)
     }
 
-    fn same_key(&self, other: &ScaleRow) -> bool {
-        self.pool.same(&other.pool)
+    fn row_text(&self) -> KeyText {
+        KeyText::of_id(&self.pool)
     }
 }

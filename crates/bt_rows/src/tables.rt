@@ -4,7 +4,6 @@ ghost use Rattle.bt_rows.specs.State.{State, empty_state};
 ghost use Rattle.bt_rows.specs.Changes.{apply_change, apply_changes};
 
 use crate::job::JobRow;
-use crate::lists;
 use crate::node::NodeRow;
 use crate::pool::PoolRow;
 use crate::prep::{PrepKey, PrepRow};
@@ -12,7 +11,8 @@ use crate::run::RunRow;
 use crate::sample::{SampleKey, SampleRow};
 use crate::scale::ScaleRow;
 use crate::task::{TaskKey, TaskRow};
-use bt_base::{Id, List, NoMemory, duplicates};
+use bt_base::{Id, List, NoMemory};
+use kept_table::{Rows, Table};
 use std::alloc::Global;
 use std::marker::Model;
 
@@ -21,14 +21,14 @@ use std::marker::Model;
 /// Contracts see them as a `State`, and beside it the room: the number of changes that may be applied without an allocation.
 #[derive(Drop)]
 pub struct Tables {
-    pools: Vec<PoolRow>,
-    nodes: Vec<NodeRow>,
-    jobs: Vec<JobRow>,
-    tasks: Vec<TaskRow>,
-    runs: Vec<RunRow>,
-    preps: Vec<PrepRow>,
-    samples: Vec<SampleRow>,
-    scales: Vec<ScaleRow>,
+    pub(crate) pools: Table<PoolRow>,
+    pub(crate) nodes: Table<NodeRow>,
+    pub(crate) jobs: Table<JobRow>,
+    pub(crate) tasks: Table<TaskRow>,
+    pub(crate) runs: Table<RunRow>,
+    pub(crate) preps: Table<PrepRow>,
+    pub(crate) samples: Table<SampleRow>,
+    pub(crate) scales: Table<ScaleRow>,
     next_node: u64,
     next_run: u64,
     moment: u64,
@@ -36,7 +36,7 @@ pub struct Tables {
 }
 
 impl Model for Tables {
-    ghost use Rattle.std.specs.Prelude.{◌+◌, ◌≤◌, vec_len, vec_capacity};
+    ghost use Rattle.kept_table.specs.Slots.{rows};
     ghost use Rattle.bt_rows.specs.State.{StateWithRoom, State};
 
     ghost Value = { StateWithRoom };
@@ -44,7 +44,7 @@ impl Model for Tables {
     ghost use Rattle.bt_rows.specs.Room.{HasRoom};
 
     ghost view = { λ t. record {
-      state = record { pools = t.pools.items; nodes = t.nodes.items; jobs = t.jobs.items; tasks = t.tasks.items; runs = t.runs.items; preps = t.preps.items; samples = t.samples.items; scales = t.scales.items; next_node = t.next_node; next_run = t.next_run; moment = t.moment };
+      state = record { pools = rows t.pools.slots; nodes = rows t.nodes.slots; jobs = rows t.jobs.slots; tasks = rows t.tasks.slots; runs = rows t.runs.slots; preps = rows t.preps.slots; samples = rows t.samples.slots; scales = rows t.scales.slots; next_node = t.next_node; next_run = t.next_run; moment = t.moment };
       room = t.room;
     } };
 
@@ -99,14 +99,14 @@ impl Tables {
         ensures { result.state ≡ empty_state }
     {
         Tables {
-            pools: Vec::new(alloc),
-            nodes: Vec::new(alloc),
-            jobs: Vec::new(alloc),
-            tasks: Vec::new(alloc),
-            runs: Vec::new(alloc),
-            preps: Vec::new(alloc),
-            samples: Vec::new(alloc),
-            scales: Vec::new(alloc),
+            pools: Table::new(alloc),
+            nodes: Table::new(alloc),
+            jobs: Table::new(alloc),
+            tasks: Table::new(alloc),
+            runs: Table::new(alloc),
+            preps: Table::new(alloc),
+            samples: Table::new(alloc),
+            scales: Table::new(alloc),
             next_node: 1,
             next_run: 1,
             moment: 0,
@@ -115,59 +115,59 @@ impl Tables {
     }
 
     /// The pools, in order of adding.
-    pub fn pools(&self) -> &[PoolRow]
-        ensures { result.now ≡ self.now.state.pools }
+    pub fn pools(&self) -> Rows<'_, PoolRow>
+        ensures { result ≡ self.now.state.pools }
     {
-        self.pools.as_slice()
+        self.pools.rows()
     }
 
     /// The nodes, in order of adding.
-    pub fn nodes(&self) -> &[NodeRow]
-        ensures { result.now ≡ self.now.state.nodes }
+    pub fn nodes(&self) -> Rows<'_, NodeRow>
+        ensures { result ≡ self.now.state.nodes }
     {
-        self.nodes.as_slice()
+        self.nodes.rows()
     }
 
     /// The jobs, in order of adding.
-    pub fn jobs(&self) -> &[JobRow]
-        ensures { result.now ≡ self.now.state.jobs }
+    pub fn jobs(&self) -> Rows<'_, JobRow>
+        ensures { result ≡ self.now.state.jobs }
     {
-        self.jobs.as_slice()
+        self.jobs.rows()
     }
 
     /// The tasks of all jobs, in order of adding.
-    pub fn tasks(&self) -> &[TaskRow]
-        ensures { result.now ≡ self.now.state.tasks }
+    pub fn tasks(&self) -> Rows<'_, TaskRow>
+        ensures { result ≡ self.now.state.tasks }
     {
-        self.tasks.as_slice()
+        self.tasks.rows()
     }
 
     /// The runs, in order of making.
-    pub fn runs(&self) -> &[RunRow]
-        ensures { result.now ≡ self.now.state.runs }
+    pub fn runs(&self) -> Rows<'_, RunRow>
+        ensures { result ≡ self.now.state.runs }
     {
-        self.runs.as_slice()
+        self.runs.rows()
     }
 
     /// The preparations of jobs on nodes, in order of adding.
-    pub fn preps(&self) -> &[PrepRow]
-        ensures { result.now ≡ self.now.state.preps }
+    pub fn preps(&self) -> Rows<'_, PrepRow>
+        ensures { result ≡ self.now.state.preps }
     {
-        self.preps.as_slice()
+        self.preps.rows()
     }
 
     /// The samples, in order of adding.
-    pub fn samples(&self) -> &[SampleRow]
-        ensures { result.now ≡ self.now.state.samples }
+    pub fn samples(&self) -> Rows<'_, SampleRow>
+        ensures { result ≡ self.now.state.samples }
     {
-        self.samples.as_slice()
+        self.samples.rows()
     }
 
     /// The scalings of pools, in order of adding.
-    pub fn scales(&self) -> &[ScaleRow]
-        ensures { result.now ≡ self.now.state.scales }
+    pub fn scales(&self) -> Rows<'_, ScaleRow>
+        ensures { result ≡ self.now.state.scales }
     {
-        self.scales.as_slice()
+        self.scales.rows()
     }
 
     /// The greatest moment that was handed in so far, in milliseconds since 1970.
@@ -195,16 +195,15 @@ impl Tables {
     pub fn copy(&self) -> Result<Tables, NoMemory>
         ensures { IfOk result (λ copy. copy.state ≡ self.now.state) }
     {
-        let alloc = *self.pools.allocator();
         Ok(Tables {
-            pools: duplicates(alloc, &self.pools)?,
-            nodes: duplicates(alloc, &self.nodes)?,
-            jobs: duplicates(alloc, &self.jobs)?,
-            tasks: duplicates(alloc, &self.tasks)?,
-            runs: duplicates(alloc, &self.runs)?,
-            preps: duplicates(alloc, &self.preps)?,
-            samples: duplicates(alloc, &self.samples)?,
-            scales: duplicates(alloc, &self.scales)?,
+            pools: self.pools.copy()?,
+            nodes: self.nodes.copy()?,
+            jobs: self.jobs.copy()?,
+            tasks: self.tasks.copy()?,
+            runs: self.runs.copy()?,
+            preps: self.preps.copy()?,
+            samples: self.samples.copy()?,
+            scales: self.scales.copy()?,
             next_node: self.next_node,
             next_run: self.next_run,
             moment: self.moment,
@@ -218,6 +217,7 @@ impl Tables {
         ensures room { OnOk result (length changes.now ≤ self.new.room) }
     {
         let changes = changes.len();
+        self.room = 0;
         self.pools.reserve(changes)?;
         self.nodes.reserve(changes)?;
         self.jobs.reserve(changes)?;
@@ -238,22 +238,22 @@ impl Tables {
     {
         self.room -= 1;
         match change {
-            Change::PutPool(row) => lists::put(&mut self.pools, row),
-            Change::DropPool(key) => lists::drop_by_key(&mut self.pools, &key),
-            Change::PutNode(row) => lists::put(&mut self.nodes, row),
-            Change::DropNode(key) => lists::drop_by_key(&mut self.nodes, &key),
-            Change::PutJob(row) => lists::put(&mut self.jobs, row),
-            Change::DropJob(key) => lists::drop_by_key(&mut self.jobs, &key),
-            Change::PutTask(row) => lists::put(&mut self.tasks, row),
-            Change::DropTask(key) => lists::drop_by_key(&mut self.tasks, &key),
-            Change::PutRun(row) => lists::put(&mut self.runs, row),
-            Change::DropRun(key) => lists::drop_by_key(&mut self.runs, &key),
-            Change::PutPrep(row) => lists::put(&mut self.preps, row),
-            Change::DropPrep(key) => lists::drop_by_key(&mut self.preps, &key),
-            Change::PutSample(row) => lists::put(&mut self.samples, row),
-            Change::DropSample(key) => lists::drop_by_key(&mut self.samples, &key),
-            Change::PutScale(row) => lists::put(&mut self.scales, row),
-            Change::DropScale(key) => lists::drop_by_key(&mut self.scales, &key),
+            Change::PutPool(row) => self.pools.put(row),
+            Change::DropPool(key) => self.pools.drop_by_key(&key),
+            Change::PutNode(row) => self.nodes.put(row),
+            Change::DropNode(key) => self.nodes.drop_by_key(&key),
+            Change::PutJob(row) => self.jobs.put(row),
+            Change::DropJob(key) => self.jobs.drop_by_key(&key),
+            Change::PutTask(row) => self.tasks.put(row),
+            Change::DropTask(key) => self.tasks.drop_by_key(&key),
+            Change::PutRun(row) => self.runs.put(row),
+            Change::DropRun(key) => self.runs.drop_by_key(&key),
+            Change::PutPrep(row) => self.preps.put(row),
+            Change::DropPrep(key) => self.preps.drop_by_key(&key),
+            Change::PutSample(row) => self.samples.put(row),
+            Change::DropSample(key) => self.samples.drop_by_key(&key),
+            Change::PutScale(row) => self.scales.put(row),
+            Change::DropScale(key) => self.scales.drop_by_key(&key),
             Change::Counters(node, run) => {
                 self.next_node = node;
                 self.next_run = run;

@@ -1,9 +1,10 @@
 //! Tasks.
-ghost use Rattle.bt_rows.specs.Keys.{task_has_key, same_task, same_task_equiv};
+ghost use Rattle.bt_rows.specs.Keys.{task_has_key, same_task};
+ghost use Rattle.bt_rows.specs.Texts.{task_text, task_key_text, task_by_text, same_task_by_text};
 
-use crate::lists::Row;
 use crate::run::Ending;
 use bt_base::{CommandLine, Duplicate, Id, List, NoMemory};
+use kept_table::{KeyText, Keyed};
 
 /// What a task's ending does to its job (Azure: jobAction).
 #[derive(Clone, Copy, Debug, PartialEq, Eq)]
@@ -195,20 +196,24 @@ impl Duplicate for TaskKey {
     }
 }
 
-impl Row for TaskRow {
+impl Keyed for TaskRow {
     type Key = TaskKey;
 
     ghost has_key = { task_has_key };
 
     ghost same_key = { same_task };
 
-    ghost same_key_equiv = { same_task_equiv };
+    ghost key_text = { task_key_text };
 
-    fn has_key(&self, key: &TaskKey) -> bool {
-        self.job.same(&key.job) && self.id.same(&key.id)
+    ghost row_text = { task_text };
+
+    ghost texts_decide = { record { has = task_by_text; same = same_task_by_text } };
+
+    fn key_text(key: &TaskKey) -> KeyText {
+        KeyText::of_ids(&key.job, &key.id)
     }
 
-    fn same_key(&self, other: &TaskRow) -> bool {
-        self.job.same(&other.job) && self.id.same(&other.id)
+    fn row_text(&self) -> KeyText {
+        KeyText::of_ids(&self.job, &self.id)
     }
 }

@@ -27,13 +27,13 @@ parts_of (x ∷ a) (y ∷ b) c d l e =
     let first = both.0 in
     (cc, both.1)
 
-length-lowered : (a : List ℕ) → length (lowered a) ≡ length a
-length-lowered [] = refl
-length-lowered (x ∷ a) = ap suc (length-lowered a)
+pub lowered_length : (a : List ℕ) → length (lowered a) ≡ length a
+lowered_length [] = refl
+lowered_length (x ∷ a) = ap suc (lowered_length a)
 
 two_ids : (a b c d : List ℕ) → (lowered a ≡ lowered c) × (lowered b ≡ lowered d) → ids_text a b ≡ ids_text c d
 two_ids a b c d e =
-    let long : length a ≡ length c = sym (length-lowered a) ∙ ap length e.0 ∙ length-lowered c in
+    let long : length a ≡ length c = sym (lowered_length a) ∙ ap length e.0 ∙ lowered_length c in
     let first = e.0 in
     let second = e.1 in
     cc
@@ -42,7 +42,7 @@ of_two_ids : (a b c d : List ℕ) → ids_text a b ≡ ids_text c d → (lowered
 of_two_ids a b c d e =
     let long : length a ≡ length c = cc in
     let rest : lowered a ++ lowered b ≡ lowered c ++ lowered d = cc in
-    parts_of (lowered a) (lowered c) (lowered b) (lowered d) (length-lowered a ∙ long ∙ sym (length-lowered c)) rest
+    parts_of (lowered a) (lowered c) (lowered b) (lowered d) (lowered_length a ∙ long ∙ sym (lowered_length c)) rest
 
 pub same-ids : (a b c d : List ℕ) → (same a c && same b d) ≡ bytes_eq (ids_text a b) (ids_text c d)
 same-ids a b c d =
@@ -69,12 +69,12 @@ number_decides m n = Decides-like (nat_eq m n) (ap number_text) (of_low_bytes 7 
 pub same-number : (m n : ℕ) → nat_eq m n ≡ bytes_eq (number_text m) (number_text n)
 same-number m n = same_from_decides (nat_eq m n) (bytes_eq (number_text m) (number_text n)) (number_decides m n) (bytes_decides (number_text m) (number_text n))
 
-pub length-number_text : (n : ℕ) → length (number_text n) ≡ 8
+pub number_text_length : (n : ℕ) → length (number_text n) ≡ 8
 unfolding number_text
-length-number_text n = length-low_bytes 7 n
+number_text_length n = length-low_bytes 7 n
 
 of_number_id : (m n : ℕ) (a b : List ℕ) → number_id_text m a ≡ number_id_text n b → (number_text m ≡ number_text n) × (lowered a ≡ lowered b)
-of_number_id m n a b e = parts_of (number_text m) (number_text n) (lowered a) (lowered b) (length-number_text m ∙ sym (length-number_text n)) e
+of_number_id m n a b e = parts_of (number_text m) (number_text n) (lowered a) (lowered b) (number_text_length m ∙ sym (number_text_length n)) e
 
 pub same-number_id : (m n : ℕ) (a b : List ℕ) → (nat_eq m n && same a b) ≡ bytes_eq (number_id_text m a) (number_id_text n b)
 same-number_id m n a b =

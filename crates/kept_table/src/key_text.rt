@@ -1,7 +1,7 @@
 //! The text of a key.
 ghost use Rattle.std.specs.Prelude.{◌≡◌, ◌+◌, ◌<◌, ◌≤◌, length, [], ◌∷◌, ◌++◌, take};
 ghost use Rattle.bt_base.specs.Ids.{lowered};
-ghost use Rattle.kept_table.specs.Keys.{number_text};
+ghost use Rattle.kept_table.specs.Keys.{id_text, ids_text, number_id_text, number_text};
 
 use bt_base::Id;
 use std::marker::Model;
@@ -77,6 +77,47 @@ impl KeyText {
             rest /= 256;
         }
         self.push(rest as u8);
+    }
+
+    /// The text of an id.
+    pub fn of_id(id: &Id) -> KeyText
+        ensures { result ≡ id_text id.now }
+    {
+        let mut text = KeyText::new();
+        text.push_id(id);
+        text
+    }
+
+    /// The text of a number.
+    pub fn of_number(number: u64) -> KeyText
+        ensures { result ≡ number_text number }
+    {
+        let mut text = KeyText::new();
+        text.push_number(number);
+        text
+    }
+
+    /// The text of a number and an id.
+    #[tactic(auto, using(crate::proofs::KeyTexts::number_text_length))]
+    pub fn of_number_and_id(number: u64, id: &Id) -> KeyText
+        ensures { result ≡ number_id_text number id.now }
+    {
+        let mut text = KeyText::of_number(number);
+        text.push_id(id);
+        text
+    }
+
+    /// The text of two ids.
+    #[tactic(auto, using(crate::proofs::IdLengths::id_short, crate::proofs::KeyTexts::lowered_length))]
+    pub fn of_ids(first: &Id, second: &Id) -> KeyText
+        ensures { result ≡ ids_text first.now second.now }
+    {
+        first.known();
+        let mut text = KeyText::new();
+        text.push(first.as_str().len() as u8);
+        text.push_id(first);
+        text.push_id(second);
+        text
     }
 
     /// The bytes.

@@ -131,6 +131,16 @@ impl<R: Keyed> Table<R> {
         }
     }
 
+    /// The row whose key has this text. None if no row's has it. It does not allocate.
+    pub fn find_by_text(&self, text: &KeyText) -> Option<&R>
+        ensures { option_copied result ≡ find (has_text R.row_text text.now) (rows self.now.slots) }
+    {
+        match self.place_of_text(text.as_slice()) {
+            None => None,
+            Some(place) => self.row_at(place),
+        }
+    }
+
     /// Adds a row with a new key at the end. It does not allocate.
     pub fn push(&mut self, row: R)
         requires room { 0 < self.old.room }
