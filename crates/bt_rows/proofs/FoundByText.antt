@@ -1,7 +1,8 @@
 -- A row that is found by the text of a key is the one that is found by the key.
-use Rattle.std.proofs.Common.{◌≡◌, ℕ, Bool, List, [], ◌∷◌, refl, sym}
+use Rattle.std.proofs.Common.{◌≡◌, ℕ, Bool, List, [], ◌∷◌, Option, refl, sym}
 use Rattle.std.specs.List.{find}
-use Rattle.kept_table.specs.Slots.{has_text}
+use Rattle.kept_table.specs.Slots.{has_text, place_of}
+use Rattle.kept_table.proofs.Closing.{place_of_alike}
 use Rattle.kept_table.specs.Keys.{ids_text, number_id_text}
 use Rattle.bt_rows.specs.Keys.{task_has_ids, prep_has_ids}
 use Rattle.bt_rows.specs.Texts.{task_text, task_by_text, prep_text, prep_by_text}
@@ -20,3 +21,7 @@ task_by_ids job id tasks =
 pub prep_by_ids : (job : List ℕ) (node : ℕ) (preps : List PrepRow) → find (has_text prep_text (number_id_text node job)) preps ≡ find (prep_has_ids job node) preps
 prep_by_ids job node preps =
     find_alike (has_text prep_text (number_id_text node job)) (prep_has_ids job node) (λ prep. sym (prep_by_text (record { job = job; node = node }) prep)) preps
+
+pub place_by_ids : (job id : List ℕ) (slots : List (Option TaskRow)) → place_of (has_text task_text (ids_text job id)) slots ≡ place_of (task_has_ids job id) slots
+place_by_ids job id slots =
+    place_of_alike (has_text task_text (ids_text job id)) (task_has_ids job id) (λ task. sym (task_by_text (record { job = job; id = id }) task)) slots

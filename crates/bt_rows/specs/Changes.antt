@@ -1,7 +1,10 @@
 -- Changes of a state.
-use Rattle.std.specs.Prelude.{List, [], ◌∷◌}
+use Rattle.std.specs.Prelude.{List, [], ◌∷◌, Option}
+use Rattle.kept_table.specs.Slots.{put_slot, clear_slot}
 use Rattle.bt_rows.specs.declared.tables.Change.{Change}
 use Rattle.bt_rows.specs.declared.tables.Change.TheVariants.{PutPool, DropPool, PutNode, DropNode, PutJob, DropJob, PutTask, DropTask, PutRun, DropRun, PutPrep, DropPrep, PutSample, DropSample, PutScale, DropScale, Counters, Now}
+use Rattle.bt_rows.specs.declared.task.TaskRow.{TaskRow}
+use Rattle.bt_rows.specs.declared.run.RunRow.{RunRow}
 use Rattle.bt_rows.specs.State.{State}
 use Rattle.bt_rows.specs.Lists.{put_row, drop_row}
 use Rattle.bt_rows.specs.Keys.{same_pool, pool_has_id, same_node, node_has_number, same_job, job_has_id, same_task, task_has_key, same_run, run_has_number, same_prep, prep_has_key, same_sample, sample_has_key, same_scale, scale_has_pool}
@@ -31,3 +34,15 @@ apply_change (Now moment) s = record s { moment = moment }
 abbrev pub apply_changes : List Change → State → State
 apply_changes [] s = s
 apply_changes (change ∷ changes) s = apply_changes changes (apply_change change s)
+
+-- the tasks by their places after a change
+abbrev pub tasks_placed : Change → List (Option TaskRow) → List (Option TaskRow)
+tasks_placed (PutTask row) slots = put_slot (λ old. same_task old row) row slots
+tasks_placed (DropTask key) slots = clear_slot (task_has_key key) slots
+tasks_placed _ slots = slots
+
+-- the runs by their places after a change
+abbrev pub runs_placed : Change → List (Option RunRow) → List (Option RunRow)
+runs_placed (PutRun row) slots = put_slot (λ old. same_run old row) row slots
+runs_placed (DropRun number) slots = clear_slot (run_has_number number) slots
+runs_placed _ slots = slots

@@ -1,5 +1,5 @@
 -- What tables hold.
-use Rattle.std.specs.Prelude.{ℕ, List, []}
+use Rattle.std.specs.Prelude.{ℕ, List, [], Option}
 use Rattle.bt_rows.specs.declared.pool.PoolRow.{PoolRow}
 use Rattle.bt_rows.specs.declared.node.NodeRow.{NodeRow}
 use Rattle.bt_rows.specs.declared.job.JobRow.{JobRow}
@@ -23,9 +23,12 @@ pub record State : Type 0 where
   pub next_run : ℕ
   pub moment : ℕ
 
--- a state, and the number of changes that may be applied to it without an allocation
+-- what contracts see of tables: the state, the tasks and the runs by their places, and the number of changes that may be applied
+-- without an allocation
 pub record StateWithRoom : Type 0 where
   pub state : State
+  pub task_slots : List (Option TaskRow)
+  pub run_slots : List (Option RunRow)
   pub room : ℕ
 
 -- no rows

@@ -1,7 +1,7 @@
 //! The tables, and changes of them. Rows are found by their keys in `lookup`.
 ghost use Rattle.std.specs.Prelude.{◌≡◌, ◌≤◌, ◌+◌, length, OnOk, OnErr, IfOk};
 ghost use Rattle.bt_rows.specs.State.{State, empty_state};
-ghost use Rattle.bt_rows.specs.Changes.{apply_change, apply_changes};
+ghost use Rattle.bt_rows.specs.Changes.{apply_change, apply_changes, tasks_placed, runs_placed};
 
 use crate::job::JobRow;
 use crate::node::NodeRow;
@@ -18,7 +18,8 @@ use std::marker::Model;
 
 /// The rows of a service, each kind in order of adding.
 ///
-/// Contracts see them as a `State`, and beside it the room: the number of changes that may be applied without an allocation.
+/// Contracts see them as a `State`, and beside it the tasks and the runs by their places, and the room: the number of changes
+/// that may be applied without an allocation.
 #[derive(Drop)]
 pub struct Tables {
     pub(crate) pools: Table<PoolRow>,
@@ -32,7 +33,7 @@ pub struct Tables {
     next_node: u64,
     next_run: u64,
     moment: u64,
-    room: usize,
+    pub(crate) room: usize,
 }
 
 impl Model for Tables {
@@ -45,6 +46,8 @@ impl Model for Tables {
 
     ghost view = { λ t. record {
       state = record { pools = rows t.pools.slots; nodes = rows t.nodes.slots; jobs = rows t.jobs.slots; tasks = rows t.tasks.slots; runs = rows t.runs.slots; preps = rows t.preps.slots; samples = rows t.samples.slots; scales = rows t.scales.slots; next_node = t.next_node; next_run = t.next_run; moment = t.moment };
+      task_slots = t.tasks.slots;
+      run_slots = t.runs.slots;
       room = t.room;
     } };
 
@@ -211,9 +214,12 @@ impl Tables {
         })
     }
 
-    /// Reserves room for these changes. It fails only when out of memory, and then the tables are as before.
+    /// Reserves room for these changes. The places of tasks and runs stay. It fails only when out of memory, and then the tables
+    /// are as before.
     pub fn reserve(&mut self, changes: &[Change]) -> Result<(), NoMemory>
         ensures state { self.new.state ≡ self.old.state }
+        ensures tasks { self.new.task_slots ≡ self.old.task_slots }
+        ensures runs { self.new.run_slots ≡ self.old.run_slots }
         ensures room { OnOk result (length changes.now ≤ self.new.room) }
     {
         let changes = changes.len();
@@ -221,8 +227,8 @@ impl Tables {
         self.pools.reserve(changes)?;
         self.nodes.reserve(changes)?;
         self.jobs.reserve(changes)?;
-        self.tasks.reserve(changes)?;
-        self.runs.reserve(changes)?;
+        self.tasks.add_room(changes)?;
+        self.runs.add_room(changes)?;
         self.preps.reserve(changes)?;
         self.samples.reserve(changes)?;
         self.scales.reserve(changes)?;
@@ -231,9 +237,11 @@ impl Tables {
     }
 
     /// Makes one change. It does not allocate.
-    fn apply_one(&mut self, change: Change)
+    pub fn apply_one(&mut self, change: Change)
         requires { 1 ≤ self.old.room }
         ensures state { self.new.state ≡ apply_change change self.old.state }
+        ensures tasks { self.new.task_slots ≡ tasks_placed change self.old.task_slots }
+        ensures runs { self.new.run_slots ≡ runs_placed change self.old.run_slots }
         ensures room { self.new.room + 1 ≡ self.old.room }
     {
         self.room -= 1;

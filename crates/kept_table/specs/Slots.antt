@@ -1,5 +1,5 @@
 -- Rows in slots, some of them free. The place of a slot is its number, from 0.
-use Rattle.std.specs.Prelude.{◌≡◌, ℕ, zero, suc, ◌+◌, ◌*◌, ◌≤◌, Bool, false, List, [], ◌∷◌, length, map}
+use Rattle.std.specs.Prelude.{◌≡◌, ℕ, zero, suc, ◌+◌, ◌*◌, ◌≤◌, Bool, false, List, [], ◌∷◌, ◌++◌, length, map, set}
 use Rattle.std.specs.Prelude.{nat_lt, Option, Some, None, if◌then◌else◌, vec_len, vec_capacity, Vec}
 use Rattle.std.specs.Option.{option_map}
 use Rattle.std.specs.List.{All, filter_map}
@@ -31,6 +31,24 @@ module _ {R : Type 0} where
   abbrev pub place_of : (R → Bool) → List (Option R) → Option ℕ
   place_of test [] = None
   place_of test (slot ∷ slots) = if holds test slot then Some 0 else option_map suc (place_of test slots)
+
+  -- a row in the place, or at the end if there is none
+  abbrev pub put_at : Option ℕ → R → List (Option R) → List (Option R)
+  put_at None row slots = slots ++ Some row ∷ []
+  put_at (Some at) row slots = set slots at (Some row)
+
+  -- the row in the place of the first that has its key, or else at the end
+  abbrev pub put_slot : (R → Bool) → R → List (Option R) → List (Option R)
+  put_slot has_key row slots = put_at (place_of has_key slots) row slots
+
+  -- the place free, if there is one
+  abbrev pub clear_at : Option ℕ → List (Option R) → List (Option R)
+  clear_at None slots = slots
+  clear_at (Some at) slots = set slots at None
+
+  -- the place of the first row that has the key is free
+  abbrev pub clear_slot : (R → Bool) → List (Option R) → List (Option R)
+  clear_slot has_key slots = clear_at (place_of has_key slots) slots
 
   -- more than half of the places are free
   abbrev pub is_sparse : List (Option R) → Bool

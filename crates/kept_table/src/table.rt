@@ -3,7 +3,7 @@ ghost use Rattle.std.specs.Prelude.{◌≡◌, ◌+◌, ◌*◌, ◌<◌, ◌≤
 ghost use Rattle.std.specs.Option.{option_copied};
 ghost use Rattle.std.specs.List.{find};
 ghost use Rattle.kept_table.specs.Lists.{put_row, drop_row, AreAsListed};
-ghost use Rattle.kept_table.specs.Slots.{TableView, AreApart, place_of, has_text, slot_at, rows, is_sparse, closed_up, IsKept, HasRoom};
+ghost use Rattle.kept_table.specs.Slots.{TableView, AreApart, place_of, has_text, slot_at, rows, is_sparse, closed_up, put_slot, clear_slot, IsKept, HasRoom};
 
 use crate::key_text::KeyText;
 use crate::keyed::Keyed;
@@ -100,25 +100,25 @@ impl<R: Keyed> Table<R> {
         }
     }
 
-    /// The place of the row with this text of a key.
-    fn place_of_text(&self, text: &[u8]) -> Option<usize>
+    /// The place of the row whose key has this text. None if no row's has it. It does not allocate.
+    pub fn place_of_text(&self, text: &KeyText) -> Option<usize>
         ensures { result ≡ place_of (has_text R.row_text text.now) self.now.slots }
     {
-        self.places.get(text).copied()
+        self.places.get(text.as_slice()).copied()
     }
 
     /// The place of the row with this key. None if no row has it. It does not allocate.
     pub fn place_of(&self, key: &R::Key) -> Option<usize>
         ensures { result ≡ place_of (R.has_key key.now) self.now.slots }
     {
-        self.place_of_text(R::key_text(key).as_slice())
+        self.place_of_text(&R::key_text(key))
     }
 
     /// The place of the row with the same key as this row. None if no row has it. It does not allocate.
     pub fn place_of_row(&self, row: &R) -> Option<usize>
         ensures { result ≡ place_of (λ old. R.same_key old row.now) self.now.slots }
     {
-        self.place_of_text(row.row_text().as_slice())
+        self.place_of_text(&row.row_text())
     }
 
     /// The row with this key. None if no row has it. It does not allocate.
@@ -135,7 +135,7 @@ impl<R: Keyed> Table<R> {
     pub fn find_by_text(&self, text: &KeyText) -> Option<&R>
         ensures { option_copied result ≡ find (has_text R.row_text text.now) (rows self.now.slots) }
     {
-        match self.place_of_text(text.as_slice()) {
+        match self.place_of_text(text) {
             None => None,
             Some(place) => self.row_at(place),
         }
@@ -179,6 +179,7 @@ impl<R: Keyed> Table<R> {
     pub fn put(&mut self, row: R)
         requires { 0 < self.old.room }
         ensures rows { rows self.new.slots ≡ put_row (λ old. R.same_key old row) row (rows self.old.slots) }
+        ensures slots { self.new.slots ≡ put_slot (λ old. R.same_key old row) row self.old.slots }
         ensures room { self.old.room ≤ self.new.room + 1 }
     {
         match self.place_of_row(&row) {
@@ -190,6 +191,7 @@ impl<R: Keyed> Table<R> {
     /// Removes the row with this key, if there is one. It does not allocate.
     pub fn drop_by_key(&mut self, key: &R::Key)
         ensures rows { rows self.new.slots ≡ drop_row (R.has_key key.now) (rows self.old.slots) }
+        ensures slots { self.new.slots ≡ clear_slot (R.has_key key.now) self.old.slots }
         ensures room { self.new.room ≡ self.old.room }
     {
         match self.place_of(key) {
@@ -214,8 +216,8 @@ impl<R: Keyed> Table<R> {
         }
     }
 
-    /// Makes room for this many more rows. The places stay.
-    fn add_room(&mut self, additional: usize) -> Result<(), NoMemory>
+    /// Makes room for this many more rows. The places stay. The only error is out of memory.
+    pub fn add_room(&mut self, additional: usize) -> Result<(), NoMemory>
         ensures slots { self.new.slots ≡ self.old.slots }
         ensures room { OnOk result (additional ≤ self.new.room) }
     {
@@ -227,8 +229,9 @@ impl<R: Keyed> Table<R> {
         Ok(())
     }
 
-    /// Moves the rows, in their order, to a table without free places and with this much room.
-    fn close_up(&mut self, additional: usize) -> Result<(), NoMemory>
+    /// Closes up the free places, and makes room for this many more rows: the places of rows change, and the list of the rows does
+    /// not. The only error is out of memory, and then all places are as before.
+    pub fn close_up(&mut self, additional: usize) -> Result<(), NoMemory>
         ensures rows { rows self.new.slots ≡ rows self.old.slots }
         ensures slots { OnOk result (self.new.slots ≡ map (λ row. Some row) (rows self.old.slots)) }
         ensures room { OnOk result (additional ≤ self.new.room) }

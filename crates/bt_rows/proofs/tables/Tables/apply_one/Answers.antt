@@ -24,3 +24,9 @@ returns-in-PutSample-clause-state c = rw (c.put-in-PutSample.ensures.rows, c.in-
 
 pub returns-in-PutScale-clause-state : goal.returns-in-PutScale-clause-state
 returns-in-PutScale-clause-state c = rw (c.put-in-PutScale.ensures.rows, c.in-PutScale.is, ← c.self.view_is) refl
+
+pub returns-in-PutTask-clause-tasks : goal.returns-in-PutTask-clause-tasks
+returns-in-PutTask-clause-tasks c = rw (c.put-in-PutTask.ensures.slots, c.in-PutTask.is, ← c.self.view_is) refl
+
+pub returns-in-PutRun-clause-runs : goal.returns-in-PutRun-clause-runs
+returns-in-PutRun-clause-runs c = rw (c.put-in-PutRun.ensures.slots, c.in-PutRun.is, ← c.self.view_is) refl
