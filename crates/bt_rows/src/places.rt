@@ -18,6 +18,13 @@ impl Tables {
         self.pools.row_count()
     }
 
+    /// The number of nodes.
+    pub fn node_count(&self) -> usize
+        ensures { result ≡ length self.now.state.nodes }
+    {
+        self.nodes.row_count()
+    }
+
     /// The number of jobs.
     pub fn job_count(&self) -> usize
         ensures { result ≡ length self.now.state.jobs }

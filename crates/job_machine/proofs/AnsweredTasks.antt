@@ -1,6 +1,7 @@
 -- Elements of a collection, answered one by one, and the puts of the tasks that they add.
-use Rattle.std.proofs.Common.{◌≡◌, ◌<◌, ◌+◌, ℕ, Bool, true, false, ◌||◌, List, [], ◌∷◌, ◌++◌, map, length, get_or, drop, Option, Some, None, is_some, cond, refl, sym, ◌∙◌, ap, subst, append_assoc}
+use Rattle.std.proofs.Common.{◌≡◌, ◌<◌, ◌+◌, ℕ, Bool, true, false, ◌||◌, List, [], ◌∷◌, ◌++◌, map, length, get_or, drop, Option, Some, None, is_some, cond, refl, sym, ◌∙◌, ap, subst, append_assoc, Bor}
 use Rattle.std.specs.List.{list_any, find}
+use Rattle.std.specs.Option.{option_copied}
 use Rattle.std.proofs.lemmas.List.{append-nil, drop_more}
 use Rattle.std.proofs.lemmas.List.Folds.{list_any-append}
 use Rattle.bt_rows.specs.Changes.{apply_change, apply_changes}
@@ -26,12 +27,20 @@ module _ {R : Type 0} (test : R → Bool) where
   found_cons x o rest false h = h
 
   -- a row is found if one passes the test
-  is_some-find : (xs : List R) → is_some (find test xs) ≡ list_any test xs
-  is_some-find [] = refl
-  is_some-find (x ∷ xs) = found_cons x (find test xs) (list_any test xs) (test x) (is_some-find xs)
+  pub found_any : (xs : List R) → is_some (find test xs) ≡ list_any test xs
+  found_any [] = refl
+  found_any (x ∷ xs) = found_cons x (find test xs) (list_any test xs) (test x) (found_any xs)
+
+  some_copied : (o : Option (Bor R)) → is_some o ≡ is_some (option_copied o)
+  some_copied None = refl
+  some_copied (Some row) = refl
+
+  -- and so if a reference to one is found
+  pub found_ref : (o : Option (Bor R)) (xs : List R) → option_copied o ≡ find test xs → is_some o ≡ list_any test xs
+  found_ref o xs e = some_copied o ∙ ap is_some e ∙ found_any xs
 
   either : (xs ys : List R) → is_some (find test (xs ++ ys)) ≡ (list_any test xs || list_any test ys)
-  either xs ys = is_some-find (xs ++ ys) ∙ list_any-append test xs ys
+  either xs ys = found_any (xs ++ ys) ∙ list_any-append test xs ys
 
   -- a row of the first list passes
   pub found_first : (xs ys : List R) → list_any test xs ≡ true → is_some (find test (xs ++ ys)) ≡ true

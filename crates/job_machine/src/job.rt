@@ -62,7 +62,7 @@ fn add_job_in(
     if pool.deleting {
         return Err(Fail::Why(Refusal::PoolBeingDeleted));
     }
-    if tables.jobs().len() as u64 >= JOB_LIMIT {
+    if tables.job_count() as u64 >= JOB_LIMIT {
         return Err(Fail::Why(Refusal::TableFull(Table::Jobs, JOB_LIMIT)));
     }
     Ok(put_new_job(alloc, tables, now, new_job(now, id, &pool.id, spec)?)?)

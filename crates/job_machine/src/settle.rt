@@ -115,7 +115,6 @@ fn first_to_settle<'a>(tables: &'a Tables) -> Option<&'a TaskRow>
 {
     tables
         .tasks()
-        .iter()
         .find(|task| is_to_settle(tables, task))
 }
 

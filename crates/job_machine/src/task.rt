@@ -23,6 +23,13 @@ use bt_rows::task::{TaskRow, TaskStage};
 use machine_plans::accept_one;
 use std::alloc::Global;
 
+/// Whether the job has a task with this id in the tables, whatever its case.
+fn has_row(tables: &Tables, job: &Id, id: &Id) -> bool
+    ensures { result ≡ list_any (is_task job.now id.now) tables.now.state.tasks }
+{
+    tables.find_task(job, id).is_some()
+}
+
 /// Whether one of the tasks is the job's with this id, whatever its case.
 fn has_task(tasks: &[TaskRow], job: &Id, id: &Id) -> bool
     ensures { result ≡ list_any (is_task job.now id.now) tasks.now }
@@ -37,14 +44,14 @@ fn has_task(tasks: &[TaskRow], job: &Id, id: &Id) -> bool
 fn is_known(tables: &Tables, added: &[TaskRow], job: &Id, id: &Id) -> bool
     ensures { result ≡ is_some (task_of (with_tasks added.now tables.now.state) job.now id.now) }
 {
-    has_task(tables.tasks(), job, id) || has_task(added, job, id)
+    has_row(tables, job, id) || has_task(added, job, id)
 }
 
 /// Whether the tables and the added tasks together have as many tasks as the limit.
 fn is_full(tables: &Tables, added: &[TaskRow]) -> bool
     ensures { result ≡ nat_le task_limit (length (with_tasks added.now tables.now.state).tasks) }
 {
-    let room = TASK_LIMIT.saturating_sub(tables.tasks().len() as u64);
+    let room = TASK_LIMIT.saturating_sub(tables.task_count() as u64);
     added.len() as u64 >= room
 }
 

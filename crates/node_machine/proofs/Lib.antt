@@ -1,2 +1,3 @@
 pub mod OnNodes
 pub mod StartPuts
+pub mod TasksOfRuns

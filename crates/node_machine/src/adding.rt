@@ -24,7 +24,7 @@ use table_scans::{has_number_left, is_resizing, staying_count};
 fn is_taken(tables: &Tables, seat: u8) -> bool
     ensures { result ≡ list_any (λ node. nat_eq node.seat seat) tables.now.state.nodes }
 {
-    tables.nodes().iter().any(|node| node.seat == seat)
+    tables.nodes().any(|node| node.seat == seat)
 }
 
 /// The lowest seat on which no node sits.
@@ -48,7 +48,7 @@ fn lacks_node(tables: &Tables, pool: &PoolRow) -> bool
 fn first_lacking<'a>(tables: &'a Tables) -> Option<&'a PoolRow>
     ensures { option_copied result ≡ find (lacks_node tables.now.state) tables.now.state.pools }
 {
-    tables.pools().iter().find(|pool| lacks_node(tables, pool))
+    tables.pools().find(|pool| lacks_node(tables, pool))
 }
 
 /// A node of the pool on the seat, with the next number.

@@ -16,20 +16,18 @@ use bt_rows::tables::{Change, Tables};
 use bt_rows::task::TaskRow;
 use machine_plans::{accept_one, accept_two};
 use std::alloc::Global;
-use table_scans::names;
-
-/// Whether the run is the task's.
-fn is_task_of_run(run: &RunRow, task: &TaskRow) -> bool
-    ensures { result ≡ is_task_of_run run.now task.now }
-{
-    names(&run.job, &task.job) && names(&run.task, &task.id)
-}
 
 /// The task that the run names.
 fn find_task_of<'a>(tables: &'a Tables, run: &RunRow) -> Option<&'a TaskRow>
     ensures { option_copied result ≡ find (is_task_of_run run.now) tables.now.state.tasks }
 {
-    tables.tasks().iter().find(|task| is_task_of_run(run, task))
+    match &run.job {
+        None => None,
+        Some(job) => match &run.task {
+            None => None,
+            Some(id) => tables.find_task(job, id),
+        },
+    }
 }
 
 /// The run, taken at `now`.

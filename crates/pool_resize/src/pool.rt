@@ -72,7 +72,7 @@ pub fn add_pool(
     if tables.find_pool(&spec.id).is_some() {
         return Err(Fail::Why(Refusal::PoolExists));
     }
-    if tables.pools().len() as u64 >= POOL_LIMIT {
+    if tables.pool_count() as u64 >= POOL_LIMIT {
         return Err(Fail::Why(Refusal::TableFull(Table::Pools, POOL_LIMIT)));
     }
     Ok(put_new_pool(alloc, tables, now, new_pool(now, spec)?)?)

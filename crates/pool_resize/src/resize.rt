@@ -49,7 +49,7 @@ fn ends_resize(tables: &Tables, pool: &PoolRow) -> bool
 fn first_ending<'a>(tables: &'a Tables) -> Option<&'a PoolRow>
     ensures { option_copied result ≡ find (ends_resize tables.now.state) tables.now.state.pools }
 {
-    tables.pools().iter().find(|pool| ends_resize(tables, pool))
+    tables.pools().find(|pool| ends_resize(tables, pool))
 }
 
 /// The pool, steady.

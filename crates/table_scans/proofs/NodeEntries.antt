@@ -59,18 +59,3 @@ one_added s all ledger new node left h e = record {
       left (each_tail (λ other. not (has_node ledger other.number)) node left h.apart) (any_none (same_node node) left h.distinct.0);
   distinct = h.distinct.1;
 }
-
-module _ {X : Type 0} where
-  -- the item at an index stands before those after it
-  pub item_left : (xs seen : List X) (i : ℕ) (x : X) → seen ≡ xs → i < length seen → x ≡ get_or seen i x → drop i xs ≡ x ∷ drop (i + 1) xs
-  item_left xs seen i x e h k =
-      ap (drop i) (sym e) ∙ rw add-one (drop-cons seen i x h ∙ ap (λ y. y ∷ drop (suc i) seen) (sym k)) ∙ ap (λ ys. x ∷ drop (i + 1) ys) e
-
-  -- and after those before it
-  pub item_taken : (xs seen : List X) (i : ℕ) (x : X) → seen ≡ xs → i < length seen → x ≡ get_or seen i x → take (i + 1) xs ≡ take i xs ++ x ∷ []
-  item_taken xs seen i x e h k =
-      ap (take (i + 1)) (sym e) ∙ take_more seen i x h ∙ ap (λ y. take i seen ++ y ∷ []) (sym k) ∙ ap (λ ys. take i ys ++ x ∷ []) e
-
-  -- so it parts the list
-  pub parted : (xs seen : List X) (i : ℕ) (x : X) → seen ≡ xs → i < length seen → x ≡ get_or seen i x → xs ≡ take i xs ++ x ∷ drop (i + 1) xs
-  parted xs seen i x e h k = sym (take-append-drop i xs) ∙ ap (λ ys. take i xs ++ ys) (item_left xs seen i x e h k)

@@ -1,5 +1,5 @@
 -- The entries of nodes after the slots of runs are held.
-use Rattle.std.proofs.Common.{◌≡◌, ℕ, ◌+◌, ◌≤◌, Bool, true, false, not, ◌&&◌, ◌||◌, List, [], ◌∷◌, ◌++◌, Some, cond, map, filter, refl, sym, ◌∙◌, ap, subst, sum_by, arith}
+use Rattle.std.proofs.Common.{◌≡◌, ℕ, ◌+◌, ◌≤◌, Bool, true, false, not, ◌&&◌, ◌||◌, List, [], ◌∷◌, ◌++◌, Some, cond, map, filter, refl, sym, ◌∙◌, ap, subst, sum_by, append_assoc, arith}
 use Rattle.std.specs.Prelude.{nat_lt, nat_eq, nat_le}
 use Rattle.std.specs.List.{list_any, list_all, find}
 use Rattle.std.specs.Option.{option_map_or}
@@ -198,3 +198,23 @@ has_room s runs later run e slots pools counted =
   where
     own : list_any (owns run) s.tasks ≡ true
     own = sym (owned s run) ∙ and_second (nat_lt 0 run.slots) (is_of_any (only_placed s.tasks) run) (and_first (is_holding (only_placed s.tasks) run) (is_on_usable s.nodes run.node) counted)
+
+-- the slots of the runs before those that are left are held
+pub record AreHeld (s : State) (ledger : List Entry) (left : List RunRow) : Type 0 where
+  pub so_far : List RunRow
+  pub whole : s.runs ≡ so_far ++ left
+  pub held : ledger ≡ ledger_by s so_far s.nodes
+
+-- the first that is left has room
+pub first_has_room : (s : State) (ledger : List Entry) (run : RunRow) (left : List RunRow) → AreHeld s ledger (run ∷ left) → SlotsSuffice s → Each (λ node. has_pool_row s node.pool) s.nodes
+    → is_counted s run ≡ true → has_free_slots ledger run.node run.slots ≡ true
+first_has_room s ledger run left h slots pools counted =
+    ap (λ entries. has_free_slots entries run.node run.slots) h.held ∙ has_room s h.so_far left run h.whole slots pools counted
+
+-- and is held after it
+pub first_held : (s : State) (ledger new : List Entry) (run : RunRow) (left : List RunRow) → AreHeld s ledger (run ∷ left) → new ≡ with_run s run ledger → AreHeld s new left
+first_held s ledger new run left h e = record {
+  so_far = h.so_far ++ run ∷ [];
+  whole = h.whole ∙ sym (append_assoc h.so_far (run ∷ []) left);
+  held = e ∙ ap (with_run s run) h.held ∙ run_more s h.so_far run;
+}

@@ -49,7 +49,7 @@ fn is_busy_for(task: &TaskRow, run: &RunRow) -> bool
 pub fn is_busy(tables: &Tables, task: &TaskRow) -> bool
     ensures { result ≡ is_busy tables.now.state task.now }
 {
-    tables.runs().iter().any(|run| is_busy_for(task, run))
+    tables.runs().any(|run| is_busy_for(task, run))
 }
 
 /// How the run ended, if it did.
@@ -75,7 +75,6 @@ fn main_run<'a>(tables: &'a Tables, task: &TaskRow) -> Option<&'a RunRow>
 {
     tables
         .runs()
-        .iter()
         .find(|run| is_present(task, run) && is_main(run.kind))
 }
 

@@ -28,11 +28,11 @@ fn add_if_placed<'a>(placed: &mut Vec<&'a TaskRow>, task: &'a TaskRow) -> Result
 }
 
 /// The placed tasks.
-fn placed_tasks(alloc: Global, tasks: &[TaskRow]) -> Result<Vec<&TaskRow>, NoMemory>
-    ensures { IfOk result (λ placed. map (λ one. one.now) placed.items ≡ only_placed tasks.now) }
+fn placed_tasks(alloc: Global, tables: &Tables) -> Result<Vec<&TaskRow>, NoMemory>
+    ensures { IfOk result (λ placed. map (λ one. one.now) placed.items ≡ only_placed tables.now.state.tasks) }
 {
     let mut placed = Vec::new(alloc);
-    for task in tasks {
+    for task in tables.tasks() {
         add_if_placed(&mut placed, task)?;
     }
     Ok(placed)
@@ -91,11 +91,11 @@ fn unheld_nodes(alloc: Global, tables: &Tables) -> Result<Ledger, NoMemory>
 }
 
 /// Whether the number is that of a usable node.
-fn is_on_usable(nodes: &[NodeRow], number: u64) -> bool
-    ensures { result ≡ is_on_usable nodes.now number }
+fn is_on_usable(tables: &Tables, number: u64) -> bool
+    ensures { result ≡ is_on_usable tables.now.state.nodes number }
 {
-    nodes
-        .iter()
+    tables
+        .nodes()
         .any(|node| is_usable(node.stage) && node.number == number)
 }
 
@@ -105,7 +105,7 @@ fn hold_run(ledger: &mut Ledger, tables: &Tables, placed: &[&TaskRow], run: &Run
     requires room { is_counted tables.now.state run.now ≡ true → has_free_slots ledger.old run.now.node run.now.slots ≡ true }
     ensures { ledger.new ≡ with_run tables.now.state run.now ledger.old }
 {
-    if is_holding(placed, run) && is_on_usable(tables.nodes(), run.node) {
+    if is_holding(placed, run) && is_on_usable(tables, run.node) {
         ledger.hold(run.node, run.slots);
     }
 }
@@ -131,7 +131,7 @@ pub fn ledger_of(alloc: Global, tables: &Tables) -> Result<Ledger, NoMemory>
     requires pools { Each (λ node. has_pool_row tables.now.state node.pool) tables.now.state.nodes }
     ensures { IfOk result (λ ledger. ledger ≡ ledger_of tables.now.state) }
 {
-    let placed = placed_tasks(alloc, tables.tasks())?;
+    let placed = placed_tasks(alloc, tables)?;
     let mut ledger = unheld_nodes(alloc, tables)?;
     hold_runs(&mut ledger, tables, &placed);
     Ok(ledger)

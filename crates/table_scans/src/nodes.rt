@@ -51,7 +51,6 @@ pub fn has_leaving(tables: &Tables, pool: &Id) -> bool
 {
     tables
         .nodes()
-        .iter()
         .any(|node| is_in_pool(pool, node) && is_leaving(node.stage))
 }
 
@@ -59,9 +58,9 @@ pub fn has_leaving(tables: &Tables, pool: &Id) -> bool
 pub fn staying_count(tables: &Tables, pool: &Id) -> usize
     ensures { result ≡ staying_count tables.now.state pool.now }
 {
+    let _few = tables.node_count();
     tables
         .nodes()
-        .iter()
         .filter(|node| stays(pool, node))
         .count()
 }

@@ -5,23 +5,22 @@ ghost use Rattle.batch_model.specs.Slots.{held_slots};
 ghost use Rattle.table_scans.specs.Holding.{has_slots, is_holder};
 
 use crate::runs::is_present;
-use bt_rows::run::RunRow;
 use bt_rows::tables::Tables;
 use bt_rows::task::{TaskRow, TaskStage};
 
 /// Whether a run on the node has slots and is of the task's present attempt.
-fn has_slots(runs: &[RunRow], node: u64, task: &TaskRow) -> bool
-    ensures { result ≡ list_any (has_slots node task.now) runs.now }
+fn has_slots(tables: &Tables, node: u64, task: &TaskRow) -> bool
+    ensures { result ≡ list_any (has_slots node task.now) tables.now.state.runs }
 {
-    runs.iter().any(|run| run.node == node && run.slots > 0 && is_present(task, run))
+    tables.runs().any(|run| run.node == node && run.slots > 0 && is_present(task, run))
 }
 
 /// Whether a placed task has a run with slots on the node. Each placed task costs at most one look at each run, and each
 /// other task none.
-fn has_holder(tasks: &[TaskRow], runs: &[RunRow], node: u64) -> bool
-    ensures { result ≡ list_any (is_holder runs.now node) tasks.now }
+fn has_holder(tables: &Tables, node: u64) -> bool
+    ensures { result ≡ list_any (is_holder tables.now.state.runs node) tables.now.state.tasks }
 {
-    tasks.iter().any(|task| matches!(task.stage, TaskStage::Placed) && has_slots(runs, node, task))
+    tables.tasks().any(|task| matches!(task.stage, TaskStage::Placed) && has_slots(tables, node, task))
 }
 
 /// Whether slots of the node with this number are held.
@@ -29,5 +28,5 @@ fn has_holder(tasks: &[TaskRow], runs: &[RunRow], node: u64) -> bool
 pub fn holds_slots(tables: &Tables, node: u64) -> bool
     ensures { result ≡ nat_lt 0 (held_slots tables.now.state node) }
 {
-    has_holder(tables.tasks(), tables.runs(), node)
+    has_holder(tables, node)
 }

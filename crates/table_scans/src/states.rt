@@ -14,7 +14,7 @@ use bt_rows::task::{TaskRow, TaskStage};
 fn is_start_taken(tables: &Tables, node: u64) -> bool
     ensures { result ≡ is_start_taken tables.now.state node }
 {
-    tables.runs().iter().any(|run| {
+    tables.runs().any(|run| {
         matches!(run.state, RunState::Taken)
             && (matches!(run.kind, RunKind::Start) && run.node == node)
     })
@@ -44,7 +44,7 @@ pub fn node_state(tables: &Tables, node: &NodeRow) -> NodeState
 fn is_preparing(tables: &Tables, task: &TaskRow) -> bool
     ensures { result ≡ is_preparing tables.now.state task.now }
 {
-    tables.runs().iter().any(|run| matches!(run.state, RunState::Waiting) && is_present(task, run))
+    tables.runs().any(|run| matches!(run.state, RunState::Waiting) && is_present(task, run))
 }
 
 /// The state of the task, as replies and tables show it.

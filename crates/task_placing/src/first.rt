@@ -58,7 +58,7 @@ fn first_fitting<'a>(
 ) -> Option<&'a TaskRow>
     ensures { option_copied result ≡ find (fits_by ledger.now job.now pool.now) tables.now.state.tasks }
 {
-    tables.tasks().iter().find(|task| is_placeable(job, task) && has_room(ledger, pool, task.slots))
+    tables.tasks().find(|task| is_placeable(job, task) && has_room(ledger, pool, task.slots))
 }
 
 /// The node on which `need` slots are to be held.
@@ -193,7 +193,7 @@ fn place_of_jobs(
 fn has_free_slot(tables: &Tables, ledger: &Ledger) -> bool
     ensures { result ≡ list_any (λ pool. is_some (chosen ledger.now pool.id pool.fill 1)) tables.now.state.pools }
 {
-    tables.pools().iter().any(|pool| has_room(ledger, pool, 1))
+    tables.pools().any(|pool| has_room(ledger, pool, 1))
 }
 
 /// Places a task, if a node has a free slot.
@@ -209,7 +209,7 @@ fn place_by_ledger(
     if !has_free_slot(tables, ledger) {
         return Ok(None);
     }
-    let least = least_slots(alloc, tables.tasks())?;
+    let least = least_slots(alloc, tables)?;
     place_of_jobs(alloc, tables, ledger, &least)
 }
 

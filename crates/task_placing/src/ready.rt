@@ -7,6 +7,7 @@ ghost use Rattle.batch_model.specs.Placing.{is_ready};
 ghost use Rattle.task_placing.specs.LeastSlots.{is_ready_in, lower, number_if, HasLeastSlots};
 
 use bt_base::{Id, NoMemory};
+use bt_rows::tables::Tables;
 use bt_rows::task::{TaskRow, TaskStage};
 use std::alloc::Global;
 use std::collections::BTreeMap;
@@ -92,12 +93,12 @@ fn put_if_ready<'a>(
 }
 
 /// The least slots that a ready task of each job asks for, by the jobs' ids in small letters. A job without one is not there.
-pub fn least_slots(alloc: Global, tasks: &[TaskRow]) -> Result<BTreeMap<String, u8>, NoMemory>
-    ensures { IfOk result (HasLeastSlots tasks.now) }
+pub fn least_slots(alloc: Global, tables: &Tables) -> Result<BTreeMap<String, u8>, NoMemory>
+    ensures { IfOk result (HasLeastSlots tables.now.state.tasks) }
 {
     let mut least = BTreeMap::new(alloc);
     let mut last = None;
-    for task in tasks {
+    for task in tables.tasks() {
         last = put_if_ready(alloc, &mut least, last, task)?;
     }
     Ok(least)

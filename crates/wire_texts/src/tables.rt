@@ -44,10 +44,10 @@ fn push_task(out: &mut String, tables: &Tables, task: &TaskRow) -> Result<(), Al
     writeln!(out, " {failures}")
 }
 
-fn push_pools(out: &mut String, pools: &[PoolRow]) -> Result<(), AllocError>
-    ensures { OnOk result (string_bytes out.new ≡ string_bytes out.old ++ flat_map pool_line pools.now) }
+fn push_pools(out: &mut String, tables: &Tables) -> Result<(), AllocError>
+    ensures { OnOk result (string_bytes out.new ≡ string_bytes out.old ++ flat_map pool_line tables.now.state.pools) }
 {
-    for pool in pools {
+    for pool in tables.pools() {
         push_pool(out, pool)?;
     }
     Ok(())
@@ -62,10 +62,10 @@ fn push_nodes(out: &mut String, tables: &Tables) -> Result<(), AllocError>
     Ok(())
 }
 
-fn push_jobs(out: &mut String, jobs: &[JobRow]) -> Result<(), AllocError>
-    ensures { OnOk result (string_bytes out.new ≡ string_bytes out.old ++ flat_map job_line jobs.now) }
+fn push_jobs(out: &mut String, tables: &Tables) -> Result<(), AllocError>
+    ensures { OnOk result (string_bytes out.new ≡ string_bytes out.old ++ flat_map job_line tables.now.state.jobs) }
 {
-    for job in jobs {
+    for job in tables.jobs() {
         push_job(out, job)?;
     }
     Ok(())
@@ -80,28 +80,28 @@ fn push_tasks(out: &mut String, tables: &Tables) -> Result<(), AllocError>
     Ok(())
 }
 
-fn push_runs(out: &mut String, runs: &[RunRow]) -> Result<(), AllocError>
-    ensures { OnOk result (string_bytes out.new ≡ string_bytes out.old ++ flat_map run_line runs.now) }
+fn push_runs(out: &mut String, tables: &Tables) -> Result<(), AllocError>
+    ensures { OnOk result (string_bytes out.new ≡ string_bytes out.old ++ flat_map run_line tables.now.state.runs) }
 {
-    for run in runs {
+    for run in tables.runs() {
         push_run(out, run)?;
     }
     Ok(())
 }
 
-fn push_preps(out: &mut String, preps: &[PrepRow]) -> Result<(), AllocError>
-    ensures { OnOk result (string_bytes out.new ≡ string_bytes out.old ++ flat_map prep_line preps.now) }
+fn push_preps(out: &mut String, tables: &Tables) -> Result<(), AllocError>
+    ensures { OnOk result (string_bytes out.new ≡ string_bytes out.old ++ flat_map prep_line tables.now.state.preps) }
 {
-    for prep in preps {
+    for prep in tables.preps() {
         push_prep(out, prep)?;
     }
     Ok(())
 }
 
-fn push_scales(out: &mut String, scales: &[ScaleRow]) -> Result<(), AllocError>
-    ensures { OnOk result (string_bytes out.new ≡ string_bytes out.old ++ flat_map scale_line scales.now) }
+fn push_scales(out: &mut String, tables: &Tables) -> Result<(), AllocError>
+    ensures { OnOk result (string_bytes out.new ≡ string_bytes out.old ++ flat_map scale_line tables.now.state.scales) }
 {
-    for scale in scales {
+    for scale in tables.scales() {
         push_scale(out, scale)?;
     }
     Ok(())
@@ -115,12 +115,12 @@ pub fn write_tables(alloc: Global, tables: &Tables) -> Result<Text, NoMemory>
 {
     let moment = tables.moment();
     let mut out = format!(in alloc; "tables {moment}\n")?;
-    push_pools(&mut out, tables.pools())?;
+    push_pools(&mut out, tables)?;
     push_nodes(&mut out, tables)?;
-    push_jobs(&mut out, tables.jobs())?;
+    push_jobs(&mut out, tables)?;
     push_tasks(&mut out, tables)?;
-    push_runs(&mut out, tables.runs())?;
-    push_preps(&mut out, tables.preps())?;
-    push_scales(&mut out, tables.scales())?;
+    push_runs(&mut out, tables)?;
+    push_preps(&mut out, tables)?;
+    push_scales(&mut out, tables)?;
     Ok(Text::of_string(out))
 }

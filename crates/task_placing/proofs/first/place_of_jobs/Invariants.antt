@@ -1,8 +1,8 @@
-use Rattle.std.proofs.Common.{◌≡◌, drop}
+use Rattle.std.proofs.Common.{◌≡◌}
 use Rattle.batch_model.specs.Finding.{find_map}
 use Rattle.batch_model.specs.Placing.{place_of_job}
 use Rattle.task_placing.proofs.first.place_of_jobs.Given as goal
 
 -- what is left gives what all jobs give
 abbrev pub invariant-loop-job : goal.invariant-loop-job
-invariant-loop-job l = find_map (place_of_job l.tables.state) (drop l.job-index l.job-items) ≡ find_map (place_of_job l.tables.state) l.tables.state.jobs
+invariant-loop-job l = find_map (place_of_job l.tables.state) l.job-iterator ≡ find_map (place_of_job l.tables.state) l.tables.state.jobs
