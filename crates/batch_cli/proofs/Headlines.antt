@@ -154,10 +154,10 @@ module _ {K : Type 0} {told : K → Option State} {faults : K → ℕ} {options 
   ran_from script before taken KeeperFault r d = inr (done_from script before taken r d)
   ran_from script before taken JournalFull r d = done_from script before taken r d
   ran_from script before taken UnreadableLines r d = done_from script before taken r d
-  ran_from script before taken FormulaError r d = d
+  ran_from script before taken (FormulaError position) r d = d
   ran_from script before taken Done r d = done_from script before taken r d
 
--- where the source tells what it has
+-- if the source tells what it has
 pub ran_opened : {K : Type 0} (told : K → Option State) (faults : K → ℕ) (options : Options) (keeper kept : K) (start now : Desk K)
     (left before taken : Option (List ℕ)) (status : Status) →
     Begins start options.seats options.limit → IfSome (told keeper) (λ s. start.opened ≡ opening s) → faults keeper ≤ faults start.keeper →

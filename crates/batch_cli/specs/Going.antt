@@ -80,5 +80,5 @@ DeskRan faults start now script before taken SinkFault = CutOff faults start now
 DeskRan faults start now script before taken KeeperFault = EndsWith faults start now script before taken KeeperFault
 DeskRan faults start now script before taken JournalFull = EndsWith faults start now script before taken JournalFull
 DeskRan faults start now script before taken UnreadableLines = EndsWith faults start now script before taken UnreadableLines
-DeskRan faults start now script before taken FormulaError = ⊥
+DeskRan faults start now script before taken (FormulaError position) = ⊥
 DeskRan faults start now script before taken Done = EndsWith faults start now script before taken Done

@@ -109,7 +109,7 @@ RanWith options script seen SinkFault = IsCutOff options script seen
 RanWith options script seen Memory = IsUnopened seen NoMemory ⊎ (IsOpened options seen ⊎ ((length script ≤ script_limit) × IsBegun options script seen))
 RanWith options script seen JournalFull = IsDone options script seen JournalFull
 RanWith options script seen UnreadableLines = IsDone options script seen UnreadableLines
-RanWith options script seen FormulaError = ⊥
+RanWith options script seen (FormulaError position) = ⊥
 RanWith options script seen Done = IsDone options script seen Done
 
 -- how the command `formula` ended, by the status
@@ -122,7 +122,7 @@ end_of SinkFault = Some ends.SinkFault
 end_of KeeperFault = None
 end_of UnreadableLines = None
 end_of ScriptTooLong = Some ends.TooLong
-end_of FormulaError = Some ends.Fault
+end_of (FormulaError position) = Some (ends.Fault position)
 end_of JournalFull = None
 
 -- what a status says of the command `formula`, whose formula are the bytes of the source
@@ -152,5 +152,5 @@ WritesNothing Memory = ⊥
 WritesNothing SinkFault = ⊥
 WritesNothing KeeperFault = ⊥
 WritesNothing UnreadableLines = ⊥
-WritesNothing FormulaError = ⊥
+WritesNothing (FormulaError position) = ⊥
 WritesNothing JournalFull = ⊥
