@@ -6,10 +6,10 @@ use Rattle.bt_base.specs.Content.{Gains, GainsFront}
 use Rattle.bt_base.proofs.Gaining.{gains_nothing}
 use Rattle.bt_rows.specs.declared.event.EventKind.{EventKind}
 use Rattle.bt_rows.specs.declared.refusal.Refusal.{Refusal}
-use Rattle.wire_lines.specs.declared.line.LineRequest.{LineRequest}
-use Rattle.wire_lines.specs.declared.line.LineRequest.TheVariants.{Skip, Call}
-use Rattle.wire_texts.specs.Lines.{numbered}
-use Rattle.wire_texts.specs.Refusals.{refusal_text}
+use Rattle.batch_wire.specs.LineRequest.{LineRequest}
+use Rattle.batch_wire.specs.LineRequest.TheVariants.{Skip, Call}
+use Rattle.batch_wire.specs.TextLines.{numbered}
+use Rattle.batch_wire.specs.Refusals.{refusal_text}
 use Rattle.batch_desk.specs.declared.entry.Entry.{Entry}
 use Rattle.batch_desk.specs.declared.answer.Answer.{Answer}
 use Rattle.batch_desk.specs.declared.answer.Answer.TheVariants.{Done, KeeperFault, JournalFull, Memory}
@@ -91,7 +91,7 @@ cut_at_once {K} {faults} {old} {new} {n} {request} {text} a step = record {
   written = record { front = []; rest = text; cut = refl; gained = gains_nothing a };
 }
 
--- the run ends at a call for want of memory
+-- whatever a call was answered, a run that ends there and writes nothing of its text has halted at the call
 pub call_halts : {K : Type 0} {old new : Desk K} (faults : K → ℕ) (n moment : ℕ) (event : EventKind) (answer : Answer) → HasSameOpening old new →
     faults old.keeper ≤ faults new.keeper → Answers faults old new moment event answer → HaltsCall faults old new n moment event
 call_halts faults n moment event (Done reply dues Rest) same later a b = inr (cut_at_once b (made_advances faults n moment event same a.0 refl (omega arith)))
@@ -127,7 +127,7 @@ did_skip faults d n a = record {
   settled = refl;
 }
 
--- by a line that is no request
+-- by a line that is not a valid request
 refusal_advances : {K : Type 0} (faults : K → ℕ) (d : Desk K) (n : ℕ) (refusal : Refusal) →
     Advances faults d d n (Err refusal) (numbered n (refusal_text refusal))
 refusal_advances faults d n refusal = record {
