@@ -92,10 +92,10 @@ FormulaRan now nodes bytes before taken SinkFault = WritesFront now nodes bytes 
 FormulaRan now nodes bytes before taken Memory = Gains before taken [] ⊎ WritesFront now nodes bytes before taken
 
 -- the ends with which nothing is written
-abbrev pub WritesNothing : End → Type 0
-WritesNothing Done = ⊥
-WritesNothing (Fault position) = ⊥
-WritesNothing TooLong = Unit {0}
-WritesNothing SourceFault = Unit {0}
-WritesNothing SinkFault = ⊥
-WritesNothing Memory = ⊥
+abbrev pub IsUnwritten : End → Type 0
+IsUnwritten Done = ⊥
+IsUnwritten (Fault position) = ⊥
+IsUnwritten TooLong = Unit {0}
+IsUnwritten SourceFault = Unit {0}
+IsUnwritten SinkFault = ⊥
+IsUnwritten Memory = ⊥
