@@ -13,8 +13,8 @@ use bt_rows::member::Member;
 use bt_rows::refusal::Refusal;
 use std::alloc::Global;
 use wire_bodies::{read_collection, read_job, read_pool, read_task};
-use wire_numbers::read_number;
 use wire_members::invalid_property;
+use wire_numbers::read_number;
 
 /// What a line is.
 #[derive(Drop)]
