@@ -6,17 +6,17 @@ use Rattle.bt_base.specs.Content.{Gains, GainsFront}
 use Rattle.bt_base.proofs.Gaining.{gains_nothing}
 use Rattle.bt_rows.specs.declared.event.EventKind.{EventKind}
 use Rattle.bt_rows.specs.declared.refusal.Refusal.{Refusal}
-use Rattle.wire_lines.specs.declared.line.LineRequest.{LineRequest}
-use Rattle.wire_lines.specs.declared.line.LineRequest.TheVariants.{Skip, Call}
-use Rattle.wire_texts.specs.Lines.{numbered}
-use Rattle.wire_texts.specs.Refusals.{refusal_text}
+use Rattle.batch_wire.specs.LineRequest.{LineRequest}
+use Rattle.batch_wire.specs.LineRequest.TheVariants.{Skip, Call}
+use Rattle.batch_wire.specs.TextLines.{numbered}
+use Rattle.batch_wire.specs.Refusals.{refusal_text}
 use Rattle.batch_desk.specs.declared.entry.Entry.{Entry}
 use Rattle.batch_desk.specs.declared.answer.Answer.{Answer}
 use Rattle.batch_desk.specs.declared.answer.Answer.TheVariants.{Done, KeeperFault, JournalFull, Memory}
 use Rattle.batch_desk.specs.declared.entry.Stop.TheVariants.{Rest, KeeperFault as FaultStop, Memory as MemoryStop}
 use Rattle.batch_desk.specs.Kept.{Desk}
 use Rattle.batch_desk.specs.History.{asked_of, after_call, faults_of}
-use Rattle.batch_desk.specs.Answers.{Answers, Enters, HasSameOpening}
+use Rattle.batch_desk.specs.Answers.{AnswersCall, Enters, HasSameOpening}
 use Rattle.batch_cli.specs.Shown.{call_shown, answer_text, ran_out}
 use Rattle.batch_cli.specs.Advance.{Advances, ShowsCall, HaltsCall, Did, CutShort, Halts, room_of, RoseBy}
 
@@ -64,7 +64,7 @@ full_advances {K} {old} {new} faults n moment event full same =
 
 -- a call whose answer lets the run go on is shown
 call_shows : {K : Type 0} {old new : Desk K} (faults : K → ℕ) (n moment : ℕ) (event : EventKind) (answer : Answer) → HasSameOpening old new →
-    faults old.keeper ≤ faults new.keeper → Answers faults old new moment event answer → ran_out answer ≡ false →
+    faults old.keeper ≤ faults new.keeper → AnswersCall faults old new moment event answer → ran_out answer ≡ false →
     ShowsCall faults old new n moment event (answer_text n answer)
 unfolding made_advances full_advances
 call_shows faults n moment event (Done reply dues Rest) same later a go =
@@ -77,7 +77,7 @@ call_shows faults n moment event JournalFull same later a go = record { step = f
 call_shows faults n moment event Memory same later a go = absurd (cc)
 
 pub call_shown_by : {K : Type 0} {old new : Desk K} (faults : K → ℕ) (n moment : ℕ) (event : EventKind) (answer : Answer) (text : List ℕ) →
-    HasSameOpening old new → faults old.keeper ≤ faults new.keeper → Answers faults old new moment event answer →
+    HasSameOpening old new → faults old.keeper ≤ faults new.keeper → AnswersCall faults old new moment event answer →
     (ran_out answer ≡ false) × (text ≡ answer_text n answer) → ShowsCall faults old new n moment event text
 call_shown_by {K} {old} {new} faults n moment event answer text same later a shown =
     subst (λ w. ShowsCall faults old new n moment event w) (sym shown.1) (call_shows faults n moment event answer same later a shown.0)
@@ -91,9 +91,9 @@ cut_at_once {K} {faults} {old} {new} {n} {request} {text} a step = record {
   written = record { front = []; rest = text; cut = refl; gained = gains_nothing a };
 }
 
--- the run ends at a call for want of memory
+-- whatever a call was answered, a run that ends there and writes nothing of its text has halted at the call
 pub call_halts : {K : Type 0} {old new : Desk K} (faults : K → ℕ) (n moment : ℕ) (event : EventKind) (answer : Answer) → HasSameOpening old new →
-    faults old.keeper ≤ faults new.keeper → Answers faults old new moment event answer → HaltsCall faults old new n moment event
+    faults old.keeper ≤ faults new.keeper → AnswersCall faults old new moment event answer → HaltsCall faults old new n moment event
 call_halts faults n moment event (Done reply dues Rest) same later a b = inr (cut_at_once b (made_advances faults n moment event same a.0 refl (omega arith)))
 call_halts faults n moment event (Done reply dues FaultStop) same later a b = inr (cut_at_once b (made_advances faults n moment event same a.0 refl (a.1 refl)))
 call_halts faults n moment event (Done reply dues MemoryStop) same later a b =
@@ -127,7 +127,7 @@ did_skip faults d n a = record {
   settled = refl;
 }
 
--- by a line that is no request
+-- by a line that is not a valid request
 refusal_advances : {K : Type 0} (faults : K → ℕ) (d : Desk K) (n : ℕ) (refusal : Refusal) →
     Advances faults d d n (Err refusal) (numbered n (refusal_text refusal))
 refusal_advances faults d n refusal = record {

@@ -6,10 +6,10 @@ use Rattle.bt_base.specs.Content.{Gains, GainsFront}
 use Rattle.bt_base.proofs.Gaining.{gains_nothing, gains_more}
 use Rattle.bt_rows.specs.declared.event.EventKind.{EventKind}
 use Rattle.bt_rows.specs.declared.refusal.Refusal.{Refusal}
-use Rattle.wire_lines.specs.declared.line.LineRequest.{LineRequest}
-use Rattle.wire_lines.specs.declared.line.LineRequest.TheVariants.{Skip, Call}
-use Rattle.wire_lines.specs.Lines.{line_of}
-use Rattle.wire_texts.specs.Tables.{tables_text}
+use Rattle.batch_wire.specs.LineRequest.{LineRequest}
+use Rattle.batch_wire.specs.LineRequest.TheVariants.{Skip, Call}
+use Rattle.batch_wire.specs.Lines.{line_of}
+use Rattle.batch_wire.specs.Tables.{tables_text}
 use Rattle.batch_desk.specs.declared.entry.Entry.{Entry}
 use Rattle.batch_desk.specs.Kept.{Desk}
 use Rattle.batch_desk.specs.History.{asked_of, fault_count}
@@ -57,7 +57,7 @@ before_push : (seats limit : ℕ) (script : List (List ℕ)) (es : List Entry) (
 before_push seats limit script [] e s = refl
 before_push seats limit script (x ∷ es) e s = ap (λ h. outputs seats 1 script limit h s) (but_last_push (x ∷ es) e)
 
--- where the entries before the line didn't stop because memory ran out
+-- if no due steps before the line stopped because memory ran out, none before the last call did
 settled_added : (old new added : List Entry) → new ≡ old ++ added → length added ≤ 1 → memory_stops old ≡ 0 → memory_stops (but_last new) ≡ 0
 settled_added old new [] e few h = omega (arith, stops_take (length new - 1) new, ap memory_stops (e ∙ append-nil old), h)
 settled_added old new (x ∷ []) e few h = ap memory_stops (ap but_last e ∙ but_last_push old x) ∙ h
@@ -117,7 +117,7 @@ calls_on {K} {faults} {old} {new} {all} {n} {text} calls limit line rest before 
     ∙ sym (append_assoc (map asked_of old.entries) (map asked_of step.added) (take (room_of new) (calls_of rest)))
     ∙ ap (λ w. w ++ take (room_of new) (calls_of rest)) (sym (map-append asked_of old.entries step.added) ∙ ap (map asked_of) (sym step.entries))
 
--- what is made of the calls is their front
+-- the calls that were made are the first of the calls that are asked
 front_made : {A : Type 0} (limit : ℕ) (calls made rest : List A) → take limit calls ≡ made ++ rest → length made ≤ limit → made ≡ take (length made) calls
 front_made limit calls made rest e le =
     sym (take_at made rest (length made) refl) ∙ ap (take (length made)) (sym e) ∙ take-take (length made) limit calls le
@@ -144,7 +144,7 @@ shown_on {K} {faults} {start} {old} {new} {script} {all} {n} {a} {b} {text} line
     (sym g.same.seats)
     ∙ step.shows (λ r fs t. outputs start.seats (n + 1) rest r fs t) more)
 
--- a call's line shows nothing where no entry is left
+-- a line that asks a call shows nothing if the history has no entry for it
 no_entry : (seats n room : ℕ) (rest : ℕ → List Entry → State → List ℕ) (request : Result LineRequest Refusal) (s : State) (e : Entry) (added : List Entry) →
     map asked_of (e ∷ added) ≡ take room (call_in request) → line_shown seats rest n request room [] s ≡ []
 no_entry seats n room rest (Ok Skip) s e added h = let none = take_none {A = ℕ × EventKind} room in absurd (cc)

@@ -13,9 +13,9 @@ use Rattle.batch_desk.specs.Answers.{IsInOrder, Begins, HasSameOpening}
 use Rattle.batch_cli.specs.Shown.{outputs, outputs_before, calls_of}
 use Rattle.batch_cli.specs.Advance.{RoseBy}
 use Rattle.batch_cli.specs.Written.{GainsBetween}
-use Rattle.batch_cli.specs.Ending.{ending_of}
+use Rattle.batch_cli.specs.EndStatus.{ending_of}
 use Rattle.batch_cli.specs.Going.{Part, CutOff, NothingDone, EndsWith, DeskRan}
-use Rattle.batch_cli.specs.Headline.{Seen, BeginsFrom, IsDone, IsBegun, IsCutOff, IsOpened, RanWith}
+use Rattle.batch_cli.specs.Headline.{Observed, BeginsFrom, IsDone, IsBegun, IsCutOff, IsOnlyOpened, RanWith}
 use Rattle.cli_words.specs.declared.command.ReplayOptions.{ReplayOptions as Options}
 use Rattle.batch_cli.specs.declared.status.Status.{Status}
 use Rattle.batch_cli.specs.declared.status.Status.TheVariants.{Done, Memory, Usage, SourceFault, SinkFault, KeeperFault, UnreadableLines, ScriptTooLong}
@@ -29,7 +29,7 @@ record Runs {K : Type 0} (told : K → Option State) (faults : K → ℕ) (optio
   in_order : IsInOrder told faults now
 
 -- what is seen of such a run
-abbrev seen_of : {K : Type 0} → (K → Option State) → (K → ℕ) → Option State → ℕ → Desk K → Option (List ℕ) → Option (List ℕ) → Seen
+abbrev seen_of : {K : Type 0} → (K → Option State) → (K → ℕ) → Option State → ℕ → Desk K → Option (List ℕ) → Option (List ℕ) → Observed
 seen_of told faults loaded count now before taken =
     record { taken_before = before; taken_now = taken; loaded = loaded; kept = told now.keeper; faults_before = count; faults_now = faults now.keeper }
 
@@ -125,7 +125,7 @@ module _ {K : Type 0} {told : K → Option State} {faults : K → ℕ} {options 
       }
 
   opened_from : (before taken : Option (List ℕ)) → Runs told faults options loaded count start now → NothingDone start now before taken →
-      IsOpened options (seen_of told faults loaded count now before taken)
+      IsOnlyOpened options (seen_of told faults loaded count now before taken)
   opened_from before taken r d = record {
     opened = start.opened;
     begins = record {
@@ -154,10 +154,10 @@ module _ {K : Type 0} {told : K → Option State} {faults : K → ℕ} {options 
   ran_from script before taken KeeperFault r d = inr (done_from script before taken r d)
   ran_from script before taken JournalFull r d = done_from script before taken r d
   ran_from script before taken UnreadableLines r d = done_from script before taken r d
-  ran_from script before taken FormulaError r d = d
+  ran_from script before taken (FormulaError position) r d = d
   ran_from script before taken Done r d = done_from script before taken r d
 
--- where the source tells what it has
+-- if the source tells what it has
 pub ran_opened : {K : Type 0} (told : K → Option State) (faults : K → ℕ) (options : Options) (keeper kept : K) (start now : Desk K)
     (left before taken : Option (List ℕ)) (status : Status) →
     Begins start options.seats options.limit → IfSome (told keeper) (λ s. start.opened ≡ opening s) → faults keeper ≤ faults start.keeper →

@@ -13,5 +13,5 @@ exit_code SinkFault = 4
 exit_code KeeperFault = 5
 exit_code UnreadableLines = 6
 exit_code ScriptTooLong = 7
-exit_code FormulaError = 8
+exit_code (FormulaError position) = 8
 exit_code JournalFull = 9

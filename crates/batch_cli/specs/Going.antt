@@ -9,7 +9,7 @@ use Rattle.batch_desk.specs.Answers.{HasSameOpening}
 use Rattle.batch_cli.specs.Shown.{outputs, calls_of, has_refused, memory_stops, but_last, outputs_before}
 use Rattle.batch_cli.specs.Written.{BeginsWith, GainsBetween}
 use Rattle.batch_cli.specs.Advance.{RoseBy, room_of}
-use Rattle.batch_cli.specs.Ending.{script_limit, ending_of}
+use Rattle.batch_cli.specs.EndStatus.{script_limit, ending_of}
 use Rattle.batch_cli.specs.declared.status.Status.{Status}
 use Rattle.batch_cli.specs.declared.status.Status.TheVariants.{Done, Memory, Usage, SourceFault, SinkFault, KeeperFault, UnreadableLines, ScriptTooLong}
 use Rattle.batch_cli.specs.declared.status.Status.TheVariants.{FormulaError, JournalFull}
@@ -80,5 +80,5 @@ DeskRan faults start now script before taken SinkFault = CutOff faults start now
 DeskRan faults start now script before taken KeeperFault = EndsWith faults start now script before taken KeeperFault
 DeskRan faults start now script before taken JournalFull = EndsWith faults start now script before taken JournalFull
 DeskRan faults start now script before taken UnreadableLines = EndsWith faults start now script before taken UnreadableLines
-DeskRan faults start now script before taken FormulaError = ⊥
+DeskRan faults start now script before taken (FormulaError position) = ⊥
 DeskRan faults start now script before taken Done = EndsWith faults start now script before taken Done

@@ -15,7 +15,7 @@ use Rattle.batch_desk.specs.History.{IsLegal, after_all, asked_of, fault_count}
 use Rattle.batch_cli.specs.Shown.{outputs, calls_of, memory_stops, but_last, outputs_before}
 use Rattle.batch_cli.specs.Written.{GainsBetween}
 use Rattle.batch_cli.specs.Advance.{RoseBy}
-use Rattle.batch_cli.specs.Ending.{script_limit, ending_of}
+use Rattle.batch_cli.specs.EndStatus.{script_limit, ending_of}
 use Rattle.cli_words.specs.declared.command.ReplayOptions.{ReplayOptions as Options}
 use Rattle.cli_words.specs.declared.command.FormulaOptions.{FormulaOptions}
 use Rattle.cli_words.specs.declared.command.Command.{Command}
@@ -28,7 +28,7 @@ use Rattle.batch_cli.specs.declared.status.Status.TheVariants.{Done, Memory, Usa
 use Rattle.batch_cli.specs.declared.status.Status.TheVariants.{FormulaError, JournalFull}
 
 -- what sink and keeper tell before the run and after it, and how often the keeper had failed
-pub record Seen : Type 0 where
+pub record Observed : Type 0 where
   pub taken_before : Option (List ℕ)
   pub taken_now : Option (List ℕ)
   pub loaded : Option State
@@ -43,7 +43,7 @@ pub record BeginsFrom (seats : ℕ) (loaded : Option State) (opened : State) : T
 
 -- The script was done to its end: its calls, up to the journal's limit, are one legal history from the opened tables,
 -- what was written shows them, and the keeper tells the tables after them.
-pub record IsDone (options : Options) (script : List ℕ) (seen : Seen) (status : Status) : Type 0 where
+pub record IsDone (options : Options) (script : List ℕ) (seen : Observed) (status : Status) : Type 0 where
   pub few : length script ≤ script_limit
   pub opened : State
   pub begins : BeginsFrom options.seats seen.loaded opened
@@ -63,7 +63,7 @@ pub record IsDone (options : Options) (script : List ℕ) (seen : Seen) (status 
 -- The script was begun: the first of its calls are one legal history from the opened tables, and the keeper tells the tables
 -- after them. What was written is a prefix of what shows them, and has all before the line of the last call that has an
 -- entry: no such call was made before the lines before it were written.
-pub record IsBegun (options : Options) (script : List ℕ) (seen : Seen) : Type 0 where
+pub record IsBegun (options : Options) (script : List ℕ) (seen : Observed) : Type 0 where
   pub opened : State
   pub begins : BeginsFrom options.seats seen.loaded opened
   pub history : List Entry
@@ -82,34 +82,34 @@ pub record IsBegun (options : Options) (script : List ℕ) (seen : Seen) : Type 
   pub counted : RoseBy (fault_count history) seen.faults_before seen.faults_now
 
 -- the script was begun until the sink failed, and no due steps stopped because memory ran out
-pub record IsCutOff (options : Options) (script : List ℕ) (seen : Seen) : Type 0 where
+pub record IsCutOff (options : Options) (script : List ℕ) (seen : Observed) : Type 0 where
   pub few : length script ≤ script_limit
   pub begun : IsBegun options script seen
   pub settled : memory_stops begun.history ≡ 0
 
 -- the tables were opened, nothing was called or written, and the keeper tells the opened tables
-pub record IsOpened (options : Options) (seen : Seen) : Type 0 where
+pub record IsOnlyOpened (options : Options) (seen : Observed) : Type 0 where
   pub opened : State
   pub begins : BeginsFrom options.seats seen.loaded opened
   pub written : Gains seen.taken_before seen.taken_now []
   pub kept : Tells seen.kept opened
 
 -- the desk was not opened because of this error, and nothing was written
-pub record IsUnopened (seen : Seen) (error : KeepError) : Type 0 where
+pub record IsUnopened (seen : Observed) (error : KeepError) : Type 0 where
   pub fails : FailsToOpen seen.loaded seen.kept seen.faults_before seen.faults_now error
   pub written : Gains seen.taken_before seen.taken_now []
 
 -- what a status says of a command with these options, of the bytes of the source, and of sink and keeper
-abbrev pub RanWith : Options → List ℕ → Seen → Status → Type 0
+abbrev pub RanWith : Options → List ℕ → Observed → Status → Type 0
 RanWith options script seen Usage = ⊥
 RanWith options script seen KeeperFault = IsUnopened seen Failed ⊎ IsDone options script seen KeeperFault
-RanWith options script seen SourceFault = IsOpened options seen
-RanWith options script seen ScriptTooLong = (script_limit < length script) × IsOpened options seen
+RanWith options script seen SourceFault = IsOnlyOpened options seen
+RanWith options script seen ScriptTooLong = (script_limit < length script) × IsOnlyOpened options seen
 RanWith options script seen SinkFault = IsCutOff options script seen
-RanWith options script seen Memory = IsUnopened seen NoMemory ⊎ (IsOpened options seen ⊎ ((length script ≤ script_limit) × IsBegun options script seen))
+RanWith options script seen Memory = IsUnopened seen NoMemory ⊎ (IsOnlyOpened options seen ⊎ ((length script ≤ script_limit) × IsBegun options script seen))
 RanWith options script seen JournalFull = IsDone options script seen JournalFull
 RanWith options script seen UnreadableLines = IsDone options script seen UnreadableLines
-RanWith options script seen FormulaError = ⊥
+RanWith options script seen (FormulaError position) = ⊥
 RanWith options script seen Done = IsDone options script seen Done
 
 -- how the command `formula` ended, by the status
@@ -122,7 +122,7 @@ end_of SinkFault = Some ends.SinkFault
 end_of KeeperFault = None
 end_of UnreadableLines = None
 end_of ScriptTooLong = Some ends.TooLong
-end_of FormulaError = Some ends.Fault
+end_of (FormulaError position) = Some (ends.Fault position)
 end_of JournalFull = None
 
 -- what a status says of the command `formula`, whose formula are the bytes of the source
@@ -131,7 +131,7 @@ RanFormula options formula before taken None = ⊥
 RanFormula options formula before taken (Some end) = FormulaRan options.now options.dedicated formula before taken end
 
 -- what a status says of words, of what the source tells, and of sink and keeper
-abbrev pub Ran : Option Command → Option (List ℕ) → Seen → Status → Type 0
+abbrev pub Ran : Option Command → Option (List ℕ) → Observed → Status → Type 0
 Ran None left seen status = (status ≡ Usage) × Gains seen.taken_before seen.taken_now []
 Ran (Some (Replay options)) left seen status = IfSome left (λ script. RanWith options script seen status)
 Ran (Some (Formula options)) left seen status = IfSome left (λ formula. RanFormula options formula seen.taken_before seen.taken_now (end_of status))
@@ -152,5 +152,5 @@ WritesNothing Memory = ⊥
 WritesNothing SinkFault = ⊥
 WritesNothing KeeperFault = ⊥
 WritesNothing UnreadableLines = ⊥
-WritesNothing FormulaError = ⊥
+WritesNothing (FormulaError position) = ⊥
 WritesNothing JournalFull = ⊥

@@ -1,6 +1,6 @@
 pub mod Advance
 pub mod Codes
-pub mod Ending
+pub mod EndStatus
 pub mod Going
 pub mod Headline
 pub mod Shown

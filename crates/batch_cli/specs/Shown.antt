@@ -11,15 +11,15 @@ use Rattle.batch_desk.specs.declared.entry.Stop.TheVariants.{Rest, KeeperFault a
 use Rattle.batch_desk.specs.declared.answer.Answer.{Answer}
 use Rattle.batch_desk.specs.declared.answer.Answer.TheVariants.{Done, KeeperFault, JournalFull, Memory}
 use Rattle.batch_desk.specs.History.{after_call}
-use Rattle.batch_desk.specs.Answers.{answer_of}
-use Rattle.wire_lines.specs.declared.line.LineRequest.{LineRequest}
-use Rattle.wire_lines.specs.declared.line.LineRequest.TheVariants.{Skip, Call}
-use Rattle.wire_lines.specs.Lines.{line_of}
-use Rattle.wire_texts.specs.Lines.{numbered}
-use Rattle.wire_texts.specs.Dues.{due_text}
-use Rattle.wire_texts.specs.Refusals.{refusal_text}
-use Rattle.wire_texts.specs.Replies.{reply_text}
-use Rattle.wire_texts.specs.Tables.{tables_text}
+use Rattle.batch_desk.specs.Answers.{entry_answer}
+use Rattle.batch_wire.specs.LineRequest.{LineRequest}
+use Rattle.batch_wire.specs.LineRequest.TheVariants.{Skip, Call}
+use Rattle.batch_wire.specs.Lines.{line_of}
+use Rattle.batch_wire.specs.TextLines.{numbered}
+use Rattle.batch_wire.specs.Dues.{due_text}
+use Rattle.batch_wire.specs.Refusals.{refusal_text}
+use Rattle.batch_wire.specs.Replies.{reply_text}
+use Rattle.batch_wire.specs.Tables.{tables_text}
 
 -- a keeper fault that stopped the due steps
 unfoldable pub stop_text : List ℕ
@@ -55,7 +55,7 @@ answer_text n Memory = []
 abbrev pub call_shown : ℕ → (ℕ → List Entry → State → List ℕ) → ℕ → ℕ → List Entry → State → List ℕ
 call_shown seats rest n zero es s = answer_text n JournalFull ++ rest zero es s
 call_shown seats rest n (suc room) [] s = []
-call_shown seats rest n (suc room) (e ∷ es) s = answer_text n (answer_of seats s e) ++ rest room es (after_call seats s e)
+call_shown seats rest n (suc room) (e ∷ es) s = answer_text n (entry_answer seats s e) ++ rest room es (after_call seats s e)
 
 -- what a line shows, and then the rest
 abbrev pub line_shown : ℕ → (ℕ → List Entry → State → List ℕ) → ℕ → Result LineRequest Refusal → ℕ → List Entry → State → List ℕ

@@ -1,10 +1,10 @@
 //! Answers, and the lines that show them.
 ghost use Rattle.std.specs.Prelude.{◌≡◌, ◌≤◌, ◌++◌, false, IfOk, OnOk, OnErr, string_bytes};
 ghost use Rattle.batch_desk.specs.Answers.{IsInOrder, HasSameOpening};
-ghost use Rattle.wire_texts.specs.Lines.{numbered};
-ghost use Rattle.wire_texts.specs.Dues.{due_text};
-ghost use Rattle.wire_texts.specs.Refusals.{refusal_text};
-ghost use Rattle.wire_texts.specs.Replies.{reply_text};
+ghost use Rattle.batch_wire.specs.TextLines.{numbered};
+ghost use Rattle.batch_wire.specs.Dues.{due_text};
+ghost use Rattle.batch_wire.specs.Refusals.{refusal_text};
+ghost use Rattle.batch_wire.specs.Replies.{reply_text};
 ghost use Rattle.batch_cli.specs.Shown.{stop_text, fault_text, full_text, due_lines, stop_line, answer_text, ran_out};
 ghost use Rattle.batch_cli.specs.Advance.{ShowsCall, HaltsCall};
 

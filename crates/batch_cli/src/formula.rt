@@ -15,7 +15,7 @@ fn status_at(end: End) -> Status
 {
     match end {
         End::Done => Status::Done,
-        End::Fault => Status::FormulaError,
+        End::Fault(position) => Status::FormulaError(position),
         End::TooLong => Status::ScriptTooLong,
         End::SourceFault => Status::SourceFault,
         End::SinkFault => Status::SinkFault,

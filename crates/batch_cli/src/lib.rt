@@ -5,6 +5,8 @@
 
 mod call;
 mod formula;
+#[cfg(test)]
+mod formula_tests;
 mod line;
 mod message;
 mod replay;

@@ -3,10 +3,10 @@ ghost use Rattle.std.specs.Prelude.{◌≡◌, ◌≤◌, Ok, Err, IfOk, OnOk, O
 ghost use Rattle.bt_base.specs.Causes.{Rose};
 ghost use Rattle.bt_base.specs.Content.{Gains, GainsFront};
 ghost use Rattle.batch_desk.specs.Answers.{IsInOrder, HasSameOpening};
-ghost use Rattle.wire_lines.specs.declared.line.LineRequest.TheVariants.{Call};
-ghost use Rattle.wire_lines.specs.Lines.{line_of};
-ghost use Rattle.wire_texts.specs.Lines.{numbered};
-ghost use Rattle.wire_texts.specs.Refusals.{refusal_text};
+ghost use Rattle.batch_wire.specs.LineRequest.TheVariants.{Call};
+ghost use Rattle.batch_wire.specs.Lines.{line_of};
+ghost use Rattle.batch_wire.specs.TextLines.{numbered};
+ghost use Rattle.batch_wire.specs.Refusals.{refusal_text};
 ghost use Rattle.batch_cli.specs.Shown.{call_in, memory_stops};
 ghost use Rattle.batch_cli.specs.Advance.{Did, Halts, Counts};
 

@@ -32,7 +32,7 @@ fn advice(status: Status) -> &'static str {
             "some lines are not valid requests; the others were done: see the answers with status 400",
         Status::ScriptTooLong =>
             "the input is too long; nothing was done: a script has at most 67,108,864 bytes, a formula 8,192",
-        Status::FormulaError =>
+        Status::FormulaError(_) =>
             "the formula has the fault that standard output names: change it there and run again",
         Status::JournalFull =>
             "the journal is full; calls answered `full` were not done: give a greater --journal or a shorter script",
@@ -40,11 +40,16 @@ fn advice(status: Status) -> &'static str {
 }
 
 impl fmt::Display for Status {
-    /// What happened and what to do.
+    /// What happened and what to do; of a formula's fault also where it stands.
     fn fmt<W: fmt::Write>(&self, out: &mut fmt::Formatter<W>) -> fmt::Result {
         let text = advice(*self);
         match self {
             Status::Usage => write!(out, "{text}"),
+            Status::FormulaError(position) => write!(
+                out,
+                "batch: line {}, column {}: {text}",
+                position.line, position.column
+            ),
             _ => write!(out, "batch: {text}"),
         }
     }

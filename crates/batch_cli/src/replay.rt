@@ -4,8 +4,8 @@ ghost use Rattle.std.specs.Str.Lines.{lines};
 ghost use Rattle.bt_base.specs.Causes.{Rose};
 ghost use Rattle.bt_base.specs.Content.{Gains, GainsFront};
 ghost use Rattle.batch_desk.specs.Answers.{IsInOrder, Begins};
-ghost use Rattle.wire_texts.specs.Tables.{tables_text};
-ghost use Rattle.batch_cli.specs.Ending.{script_limit};
+ghost use Rattle.batch_wire.specs.Tables.{tables_text};
+ghost use Rattle.batch_cli.specs.EndStatus.{script_limit};
 ghost use Rattle.batch_cli.specs.Going.{Going, Whole, Part, CountsAll};
 ghost use Rattle.batch_cli.specs.Shown.{memory_stops};
 

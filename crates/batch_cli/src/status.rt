@@ -1,5 +1,7 @@
 //! How the program ends.
 
+use cli_formula::Position;
+
 /// How the program ends; its exit status is the number beside it (this project's profile).
 #[derive(Clone, Copy, Debug, PartialEq, Eq)]
 pub enum Status {
@@ -20,8 +22,8 @@ pub enum Status {
     UnreadableLines,
     /// 7: the source gave more than 67,108,864 bytes, or for `formula` more than 8,192; nothing was called.
     ScriptTooLong,
-    /// 8: `formula` wrote a fault.
-    FormulaError,
+    /// 8: `formula` wrote a fault, which stands at this position of the source.
+    FormulaError(Position),
     /// 9: the script was done to its end, and a call found the journal full.
     JournalFull,
 }
@@ -43,7 +45,7 @@ impl Status {
             Status::KeeperFault => 5,
             Status::UnreadableLines => 6,
             Status::ScriptTooLong => 7,
-            Status::FormulaError => 8,
+            Status::FormulaError(_) => 8,
             Status::JournalFull => 9,
         }
     }

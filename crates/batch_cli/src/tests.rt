@@ -25,21 +25,21 @@ fn words_of(alloc: Global, words: &[&str]) -> Result<Vec<Word>, AllocError> {
     Ok(all)
 }
 
-/// A run: the words, the script, and the numbers of the calls of source, sink and keeper that fail.
+/// A run: the words, the bytes of the source, and the numbers of the calls of source, sink and keeper that fail.
 #[derive(Clone, Copy)]
-struct Run<'a> {
-    words: &'a [&'a str],
-    script: &'a str,
-    source_fails: &'a [u64],
-    sink_fails: &'a [u64],
-    keeper_fails: &'a [u64],
+pub struct Run<'a> {
+    pub words: &'a [&'a str],
+    pub input: &'a [u8],
+    pub source_fails: &'a [u64],
+    pub sink_fails: &'a [u64],
+    pub keeper_fails: &'a [u64],
 }
 
 /// A run over objects that never fail.
-fn sure<'a>(words: &'a [&'a str], script: &'a str) -> Run<'a> {
+pub fn sure<'a>(words: &'a [&'a str], input: &'a [u8]) -> Run<'a> {
     Run {
         words,
-        script,
+        input,
         source_fails: &[],
         sink_fails: &[],
         keeper_fails: &[],
@@ -53,7 +53,7 @@ fn run_over(
     keeper: MemoryKeeper,
 ) -> Result<(Status, Vec<u8>, MemoryKeeper), AllocError> {
     let words = words_of(alloc, run.words)?;
-    let bytes = Vec::from_slice(alloc, run.script.as_bytes())?;
+    let bytes = Vec::from_slice(alloc, run.input)?;
     let mut source = MemorySource::new(bytes, Vec::from_slice(alloc, run.source_fails)?);
     let mut sink = MemorySink::new(alloc, Vec::from_slice(alloc, run.sink_fails)?);
     let (status, keeper) = run_words(alloc, words.as_slice(), &mut source, &mut sink, keeper);
@@ -66,7 +66,7 @@ fn run_anew(alloc: Global, run: Run) -> Result<(Status, Vec<u8>, MemoryKeeper), 
 }
 
 /// Whether a run over a keeper of empty tables has this status and output.
-fn gives(alloc: Global, run: Run, status: Status, output: &str) -> Result<bool, AllocError> {
+pub fn gives(alloc: Global, run: Run, status: Status, output: &str) -> Result<bool, AllocError> {
     let (ended, written, _keeper) = run_anew(alloc, run)?;
     Ok(ended == status && written.as_slice() == output.as_bytes())
 }
@@ -109,7 +109,7 @@ fn scripts_are_done(rt: HostRuntime) -> Result<(), Fail> {
         ("7 tick\n5 tick", Status::Done, "1 200\n2 200\ntables 7\n"),
     ];
     for (script, status, output) in rows {
-        let run = sure(&["replay"], script);
+        let run = sure(&["replay"], script.as_bytes());
         assert!(rt; gives(rt.alloc(), run, status, output)?, "{script}");
     }
     Ok(())
@@ -138,7 +138,7 @@ fn faults_have_statuses_and_outputs(rt: HostRuntime) -> Result<(), Fail> {
     for (source_fails, sink_fails, keeper_fails, status, output) in rows {
         let run = Run {
             words: &["replay"],
-            script: ENDED,
+            input: ENDED.as_bytes(),
             source_fails,
             sink_fails,
             keeper_fails,
@@ -210,7 +210,7 @@ fn no_call_is_made_after_a_sink_fault(rt: HostRuntime) -> Result<(), Fail> {
     for (sink_fails, wanted) in rows {
         let run = Run {
             sink_fails,
-            ..sure(&["replay"], ENDED)
+            ..sure(&["replay"], ENDED.as_bytes())
         };
         let (status, _output, mut keeper) = run_anew(rt.alloc(), run)?;
         assert_eq!(rt; status, Status::SinkFault);
@@ -252,7 +252,7 @@ fn the_keeper_has_the_tables_that_are_shown_after_each_line(rt: HostRuntime) -> 
         for call in 2..=11 {
             let run = Run {
                 keeper_fails: &[call],
-                ..sure(&["replay"], script.as_str())
+                ..sure(&["replay"], script.as_bytes())
             };
             let (status, output, mut keeper) = run_anew(alloc, run)?;
             assert_eq!(rt; status, status_at(call, calls), "{script}{call}");
@@ -270,9 +270,11 @@ fn the_keeper_has_the_tables_that_are_shown_after_an_opening(rt: HostRuntime) ->
     let alloc = rt.alloc();
     for script in ["20 tick\n", "20 tick\n21 end 1 0\n"] {
         for call in 3..=9 {
-            let (_status, _output, mut left) = run_anew(alloc, sure(&["replay"], TAKEN))?;
+            let taken = sure(&["replay"], TAKEN.as_bytes());
+            let (_status, _output, mut left) = run_anew(alloc, taken)?;
             let faulty = with_fault(alloc, &mut left, call)?.ok_or("no tables")?;
-            let (_status, output, mut keeper) = run_over(alloc, sure(&["replay"], script), faulty)?;
+            let next = sure(&["replay"], script.as_bytes());
+            let (_status, output, mut keeper) = run_over(alloc, next, faulty)?;
             assert!(rt;
                 shows_kept(alloc, output.as_slice(), &mut keeper),
                 "{script}{call}"
@@ -285,8 +287,9 @@ fn the_keeper_has_the_tables_that_are_shown_after_an_opening(rt: HostRuntime) ->
 #[test]
 fn what_an_earlier_run_left_is_withdrawn(rt: HostRuntime) -> Result<(), Fail> {
     let alloc = rt.alloc();
-    let (_status, _output, kept) = run_anew(alloc, sure(&["replay"], TAKEN))?;
-    let next = sure(&["replay"], "20 tick\n21 end 1 0\n");
+    let taken = sure(&["replay"], TAKEN.as_bytes());
+    let (_status, _output, kept) = run_anew(alloc, taken)?;
+    let next = sure(&["replay"], b"20 tick\n21 end 1 0\n");
     let (status, output, _keeper) = run_over(alloc, next, kept)?;
     let wanted = "1 200\n1 U5 j t active 0\n1 U15 p 2 1\n1 U11 p steady\n1 U16 j t 2 2\n\
         2 409 RunWithdrawn\ntables 21\npool p active steady 1 0 1 spread\nnode 2 p 1 running\n\
@@ -306,18 +309,45 @@ const TWO_NODES: &str = "0 add-pool {\"id\":\"p\",\"targetDedicatedNodes\":2}\n0
 const ONE_SEAT: &str = "1 201\n1 U15 p 1 1\n2 full\ntables 0\n\
     pool p active resizing 2 0 1 spread\nnode 1 p 1 idle\n";
 
+const TWO_SEATS: &str = "1 201\n1 U15 p 1 1\n1 U15 p 2 2\n1 U11 p steady\n2 full\ntables 0\n\
+    pool p active steady 2 0 1 spread\nnode 1 p 1 idle\nnode 2 p 2 idle\n";
+
+/// A line of each word, and lines that are refused for their word, their ending, an id before a body, and a missing member.
+const ALL_WORDS: &str = "#7 take 1\n7 add-pool {\"id\":\"P\",\"targetDedicatedNodes\":1000}\n\
+    7 add-job {\"poolInfo\":{\"poolId\":\"P\"},\"id\":\"j\"}\n\
+    7 add-task j {\"id\":\"t\",\"commandLine\":\"a \\\"b c\\\"\"}\n\
+    7 add-tasks j {\"value\":[]}\n007 take 1\n7 end 1 2147483648\n7 end 1 -7\n007 tick\n\
+    7 delete-pool P\n7 add-task j! {\n7 add-job {\"id\":\"k\"}\n";
+
+const ALL_WORDS_OUTPUT: &str =
+    "2 201\n2 U15 P 1 1\n3 201\n4 201\n4 U16 j t 1 1\n5 200\n6 200\n7 400 UnreadableBody\n\
+    8 200\n8 U5 j t failure\n9 200\n10 400 UnreadableBody\n11 400 InvalidPropertyValue id\n\
+    12 400 InvalidPropertyValue poolId\ntables 7\npool P active resizing 1000 0 1 spread\n\
+    node 1 P 1 idle\njob j P active 0 -\ntask j t completed failure -7 0\nrun 1 task 1 j t ended -7\n";
+
+#[test]
+fn words_that_are_not_a_command(rt: HostRuntime) -> Result<(), Fail> {
+    let rows: [&[&str]; 9] = [
+        &[],
+        &["Replay"],
+        &["replay", "--seats"],
+        &["replay", "--seats", "33"],
+        &["replay", "--seats=2", "--seats", "2"],
+        &["replay", "--journal", "000000000000000000001"],
+        &["replay", "--now", "1"],
+        &["formula", "--seats", "2"],
+        &["formula", "--dedicated=1001"],
+    ];
+    for words in rows {
+        let run = sure(words, POOL.as_bytes());
+        assert!(rt; gives(rt.alloc(), run, Status::Usage, "")?, "{words:?}");
+    }
+    Ok(())
+}
+
 #[test]
 fn words_are_followed(rt: HostRuntime) -> Result<(), Fail> {
-    let rows: [(&[&str], &str, Status, &str); 6] = [
-        (&[], POOL, Status::Usage, ""),
-        (&["replay", "--seats", "33"], POOL, Status::Usage, ""),
-        (
-            &["replay", "--seats", "2", "--seats", "2"],
-            POOL,
-            Status::Usage,
-            "",
-        ),
-        (&["formula", "--seats", "2"], POOL, Status::Usage, ""),
+    let rows: [(&[&str], &str, Status, &str); 4] = [
         (
             &["replay", "--journal", "2"],
             ENDED,
@@ -330,31 +360,24 @@ fn words_are_followed(rt: HostRuntime) -> Result<(), Fail> {
             Status::JournalFull,
             ONE_SEAT,
         ),
+        (
+            &["replay", "--journal=00000000000000000001", "--seats", "032"],
+            TWO_NODES,
+            Status::JournalFull,
+            TWO_SEATS,
+        ),
+        (
+            &["replay", "--seats=1"],
+            ALL_WORDS,
+            Status::UnreadableLines,
+            ALL_WORDS_OUTPUT,
+        ),
     ];
     for (words, script, status, output) in rows {
         assert!(rt;
-            gives(rt.alloc(), sure(words, script), status, output)?,
-            "{output}"
+            gives(rt.alloc(), sure(words, script.as_bytes()), status, output)?,
+            "{words:?}"
         );
-    }
-    Ok(())
-}
-
-#[test]
-fn formulas_call_no_keeper(rt: HostRuntime) -> Result<(), Fail> {
-    let half = "$TargetDedicatedNodes=4;$TargetLowPriorityNodes=0;\
-        $NodeDeallocationOption=requeue;$x=2\n";
-    let rows = [
-        ("x = $TargetDedicatedNodes / 2;", Status::Done, half),
-        ("x = 1/0;", Status::FormulaError, "error DivideByZero 5\n"),
-        ("x = ", Status::FormulaError, "error UnexpectedToken 4\n"),
-    ];
-    for (formula, status, wanted) in rows {
-        let run = Run {
-            keeper_fails: &[1],
-            ..sure(&["formula", "--dedicated", "4"], formula)
-        };
-        assert!(rt; gives(rt.alloc(), run, status, wanted)?, "{formula}");
     }
     Ok(())
 }
@@ -372,7 +395,7 @@ fn pools(alloc: Global, count: u64) -> Result<String, AllocError> {
 fn the_65th_pool_is_refused(rt: HostRuntime) -> Result<(), Fail> {
     let alloc = rt.alloc();
     let script = pools(alloc, 65)?;
-    let run = sure(&["replay"], script.as_str());
+    let run = sure(&["replay"], script.as_bytes());
     let (status, output, _keeper) = run_anew(alloc, run)?;
     assert_eq!(rt; status, Status::Done);
     let wanted = b"\n64 201\n65 409 TableFull pools 64\ntables 0\n".as_slice();
@@ -446,7 +469,7 @@ fn nodes_have_slots_and_run_start_tasks(rt: HostRuntime) -> Result<(), Fail> {
     for (first, rest, output) in rows {
         let mut script = String::from_str(alloc, first)?;
         script.push_str(rest)?;
-        let run = sure(&["replay"], script.as_str());
+        let run = sure(&["replay"], script.as_bytes());
         assert!(rt; gives(alloc, run, Status::Done, output)?, "{script}");
     }
     Ok(())

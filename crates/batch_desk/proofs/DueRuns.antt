@@ -66,7 +66,7 @@ next_at : (seats n : ℕ) (s : State) (step : DueStep) → due_step seats (due_s
 next_at seats zero s step d = record { state = state_first seats 0 s (Some step) d; dues = list_first seats 0 s (Some step) d }
 next_at seats (suc n) s step d = next_from seats n s step (due_step seats s) refl (λ t. next_at seats n t step) d
 
--- so many due steps lead from s to now, and tell this
+-- as many due steps as this list has lead from s to now, and show the list
 pub record DuesSo (seats : ℕ) (dues : List Due) (s now : State) : Type 0 where
   pub state : now ≡ due_state seats (length dues) s
   pub list : dues ≡ due_list seats (length dues) s

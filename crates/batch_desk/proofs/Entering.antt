@@ -21,7 +21,7 @@ use Rattle.batch_desk.specs.Kept.{Desk, SavedMachine, Tells}
 use Rattle.batch_desk.specs.Calls.{Finishes, Makes, IsFailed, IsFull, IsCalled, IsCalledWithin}
 use Rattle.batch_desk.specs.History.{IsAskable, IsCall, IsLegal, after_call, after_all, faults_of, fault_count, fault_entry, done_entry, due_state, due_list}
 use Rattle.batch_desk.specs.History.{StopsSo, refusal_of}
-use Rattle.batch_desk.specs.Answers.{Answers, IsInOrder, HasSameOpening, answer_of}
+use Rattle.batch_desk.specs.Answers.{AnswersCall, IsInOrder, HasSameOpening, entry_answer}
 
 -- a desk without its journal
 abbrev pub without_journal : {K : Type 0} → Desk K → SavedMachine K
@@ -124,7 +124,7 @@ done_is_call seats s made moment event reply dues stop asked e d h = (
 
 done_shown : (seats : ℕ) (s made : State) (moment : ℕ) (event : EventKind) (reply : Reply) (dues : List Due) (stop : Stop) →
     event_step moment event s ≡ record { reply = reply; state = made } → dues ≡ due_list seats (length dues) made →
-    Done reply dues stop ≡ answer_of seats s (done_entry moment event reply (length dues) stop)
+    Done reply dues stop ≡ entry_answer seats s (done_entry moment event reply (length dues) stop)
 done_shown seats s made moment event reply dues stop e d =
     ap (λ (ds : List Due). Done reply ds stop) d ∙ ap (λ (p : Answered). Done p.reply (due_list seats (length dues) p.state) stop) (sym e)
 
@@ -159,7 +159,7 @@ in_order_after told faults old new moment event (Done reply dues stop) asked ord
 
 -- and the call was answered so
 pub answers_after : {K : Type 0} (faults : K → ℕ) (old new : Desk K) (moment : ℕ) (event : EventKind) (answer : Answer) → length old.entries < old.limit →
-    IsCalled faults (without_journal old) (without_journal new) old.entries new.entries moment event answer → Answers faults old new moment event answer
+    IsCalled faults (without_journal old) (without_journal new) old.entries new.entries moment event answer → AnswersCall faults old new moment event answer
 answers_after faults old new moment event JournalFull room called = absurd called
 answers_after faults old new moment event OutOfMemory room called = (room, record { state = called.state; entries = called.entries })
 answers_after faults old new moment event Undone room called =
@@ -237,7 +237,7 @@ in_order_within told faults old new now moment event (Done reply dues stop) aske
 -- and the desk answered so
 pub answers_within : {K : Type 0} (faults : K → ℕ) (old : Desk K) (new : SavedMachine K) (now : List Entry) (moment : ℕ) (event : EventKind)
     (answer : Answer) → IsCalledWithin faults old.limit (without_journal old) new old.entries now moment event answer →
-    Answers faults old (desk_of new now old) moment event answer
+    AnswersCall faults old (desk_of new now old) moment event answer
 answers_within faults old new now moment event JournalFull called = (called.full, full_same old new now called)
 answers_within faults old new now moment event OutOfMemory called = answers_after faults old (desk_of new now old) moment event OutOfMemory called.0 called.1
 answers_within faults old new now moment event Undone called = answers_after faults old (desk_of new now old) moment event Undone called.0 called.1

@@ -16,7 +16,7 @@ pub told_after_none : (changes : List Change) (told : Option State) → changes 
 told_after_none changes None e = refl
 told_after_none changes (Some s) e = ap (λ c. Some (apply_changes c s)) e
 
--- where the changes lead to sound tables, they may be saved
+-- if the changes lead to sound tables, they may be saved
 pub saves_sound : (told : Option State) (changes : List Change) (seats : ℕ) (s : State) → Tells told s → IsSound seats (apply_changes changes s) →
     IfSome told (λ kept. IsWellFormed (apply_changes changes kept))
 saves_sound None changes seats s told sound = tt

@@ -17,8 +17,8 @@ use Rattle.batch_desk.specs.Laws.{KeepsSlots}
 use Rattle.batch_desk.specs.History.{IsLegal, after_all, after_call, fault_count, reply_to, dues_of, fault_entry, done_entry}
 
 -- what a call that stands in the journal was answered, from the tables before it
-abbrev pub answer_of : ℕ → State → Entry → Answer
-answer_of seats s e = by_mark e.mark
+abbrev pub entry_answer : ℕ → State → Entry → Answer
+entry_answer seats s e = by_mark e.mark
   where
     by_mark : Mark → Answer
     by_mark NotKept = KeeperFault
@@ -28,7 +28,7 @@ answer_of seats s e = by_mark e.mark
 pub record Enters {K : Type 0} (old new : Desk K) (e : Entry) (answer : Answer) : Type 0 where
   pub room : length old.entries < old.limit
   pub entries : new.entries ≡ old.entries ++ e ∷ []
-  pub shown : answer ≡ answer_of old.seats old.state e
+  pub shown : answer ≡ entry_answer old.seats old.state e
   pub made : new.state ≡ after_call old.seats old.state e
 
 -- the call has none, and neither tables nor journal changed
@@ -37,11 +37,11 @@ pub record Stays {K : Type 0} (old new : Desk K) : Type 0 where
   pub entries : new.entries ≡ old.entries
 
 -- What a call was answered, and its causes. A full journal goes before all others, and is answered exactly then.
-abbrev pub Answers : {K : Type 0} → (K → ℕ) → Desk K → Desk K → ℕ → EventKind → Answer → Type 0
-Answers faults old new moment event JournalFull = (old.limit ≤ length old.entries) × (new ≡ old)
-Answers faults old new moment event Memory = (length old.entries < old.limit) × Stays old new
-Answers faults old new moment event KeeperFault = Enters old new (fault_entry moment event) KeeperFault × Rose (faults old.keeper) (faults new.keeper)
-Answers faults old new moment event (Done reply dues stop) =
+abbrev pub AnswersCall : {K : Type 0} → (K → ℕ) → Desk K → Desk K → ℕ → EventKind → Answer → Type 0
+AnswersCall faults old new moment event JournalFull = (old.limit ≤ length old.entries) × (new ≡ old)
+AnswersCall faults old new moment event Memory = (length old.entries < old.limit) × Stays old new
+AnswersCall faults old new moment event KeeperFault = Enters old new (fault_entry moment event) KeeperFault × Rose (faults old.keeper) (faults new.keeper)
+AnswersCall faults old new moment event (Done reply dues stop) =
     Enters old new (done_entry moment event reply (length dues) stop) (Done reply dues stop)
     × (stop ≡ FaultStop → Rose (faults old.keeper) (faults new.keeper))
 

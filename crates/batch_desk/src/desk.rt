@@ -7,7 +7,7 @@ ghost use Rattle.batch_keeper.specs.Told.{FailsWithCause};
 ghost use Rattle.batch_desk.specs.Kept.{Tells};
 ghost use Rattle.batch_desk.specs.Laws.{KeepsSlots};
 ghost use Rattle.batch_desk.specs.History.{IsLegal, after_all, fault_count, faults_of};
-ghost use Rattle.batch_desk.specs.Answers.{Answers, IsInOrder, HasSameOpening, FailsToOpen, Begins};
+ghost use Rattle.batch_desk.specs.Answers.{AnswersCall, IsInOrder, HasSameOpening, FailsToOpen, Begins};
 
 use crate::answer::Answer;
 use crate::call::{call_within, know_ranges};
@@ -217,7 +217,7 @@ impl<K: Keeper + Drop> Desk<K> {
     /// Makes a call: the event, and then due steps until no rule applies or until one can't be made. Each is saved before
     /// it is made. A full journal takes no call. At no moment of the history a node holds more slots than its pool has.
     pub fn call(&mut self, alloc: Global, moment: Moment, event: Event) -> Answer
-        ensures answers { Answers K.faults self.old self.new moment event result }
+        ensures answers { AnswersCall K.faults self.old self.new moment event result }
         ensures same { HasSameOpening self.old self.new }
         ensures in_order { IsInOrder K.told K.faults self.new }
         ensures slots { KeepsSlots self.new.seats self.new.opened self.new.entries }

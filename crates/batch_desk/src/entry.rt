@@ -28,9 +28,14 @@ pub enum Mark {
 /// stopped.
 #[derive(Drop)]
 pub struct Entry {
+    /// The moment that was given, in milliseconds since 1970; it may be before the tables' moment.
     pub moment: Moment,
+    /// What was asked.
     pub event: Event,
+    /// What became of the event.
     pub mark: Mark,
+    /// How many due steps were made after the event; 0 if the call was not saved.
     pub dues: u64,
+    /// Why no more due steps were made; a keeper fault if the call was not saved.
     pub stop: Stop,
 }

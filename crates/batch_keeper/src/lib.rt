@@ -6,8 +6,6 @@ mod error;
 mod keeper;
 mod memory;
 mod sure;
-#[cfg(test)]
-mod tests;
 
 pub use error::KeepError;
 pub use keeper::Keeper;

@@ -6,6 +6,3 @@ mod history;
 pub use history::{
     History, MAX_SAMPLES, SAMPLE_INTERVAL_MS, Sample, SampleTooOld, pushes_keep_the_last,
 };
-
-#[cfg(test)]
-mod tests;

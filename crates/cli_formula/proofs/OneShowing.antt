@@ -9,7 +9,7 @@ use Rattle.formula_metrics.specs.Parts.{blank_metrics}
 use Rattle.formula_eval.specs.declared.fault.EvalFault.{EvalFault}
 use Rattle.formula_eval.specs.declared.outcome.Outcome.{Outcome}
 use Rattle.formula_eval.specs.Statements.{evaluated}
-use Rattle.cli_formula.specs.Showing.{IsLongestText, Shows, no_text, no_formula, fails, gives, fault_line, results_line, targets_of}
+use Rattle.cli_formula.specs.Showing.{IsLongestText, Shows, no_text, no_formula, fails, gives, ShownFault, fault_at, results_line, targets_of}
 
 none_longer : (bytes : List ℕ) (n m : ℕ) → IsLongestText bytes n → IsLongestText bytes m → n < m → ⊥
 none_longer bytes n m one other less =
@@ -33,14 +33,14 @@ pub record IsOne (bytes : List ℕ) : Type 0 where
   pub formula : (ss other : List StatementTree) → IsFormula bytes ss → IsFormula bytes other → ss ≡ other
   pub fault : (fault other : FormulaFault) → HasFault bytes fault → HasFault bytes other → fault ≡ other
 
-pub one_shown : {now nodes : ℕ} {bytes : List ℕ} {one other : Result (List ℕ) (List ℕ)} → IsOne bytes → Shows now nodes bytes one →
+pub one_shown : {now nodes : ℕ} {bytes : List ℕ} {one other : Result (List ℕ) ShownFault} → IsOne bytes → Shows now nodes bytes one →
     Shows now nodes bytes other → one ≡ other
-one_shown {now} {nodes} {bytes} only (no_text n t l) (no_text m u k) = ap (λ p. Err (fault_line (codes "BadCharacter") p)) (one_longest bytes n m l k)
+one_shown {now} {nodes} {bytes} only (no_text n t l) (no_text m u k) = ap (λ p. Err (fault_at (codes "BadCharacter") p)) (one_longest bytes n m l k)
 one_shown only (no_text n t l) (no_formula f u h) = absurd (cc)
 one_shown only (no_text n t l) (fails ss f u h e) = absurd (cc)
 one_shown only (no_text n t l) (gives ss o u h e) = absurd (cc)
 one_shown only (no_formula f t h) (no_text m u k) = absurd (cc)
-one_shown only (no_formula f t h) (no_formula g u k) = ap (λ x. Err (fault_line (name_of x) (place_of x))) (only.fault f g h k)
+one_shown only (no_formula f t h) (no_formula g u k) = ap (λ x. Err (fault_at (name_of x) (place_of x))) (only.fault f g h k)
 one_shown only (no_formula f t h) (fails ss g u k e) = absurd (only.not_both ss f k h)
 one_shown only (no_formula f t h) (gives ss o u k e) = absurd (only.not_both ss f k h)
 one_shown only (fails ss f t h e) (no_text m u k) = absurd (cc)
@@ -48,7 +48,7 @@ one_shown only (fails ss f t h e) (no_formula g u k) = absurd (only.not_both ss 
 one_shown {now} {nodes} {bytes} only (fails ss f t h e) (fails other g u k d) =
     let same = one_result now nodes bytes ss other (Err f) (Err g) (only.formula ss other h k) e d in
     let fault : f ≡ g = cc in
-    ap (λ x. Err (fault_line (fault_name x.fault) x.place)) fault
+    ap (λ x. Err (fault_at (fault_name x.fault) x.place)) fault
 one_shown {now} {nodes} {bytes} only (fails ss f t h e) (gives other o u k d) =
     let same = one_result now nodes bytes ss other (Err f) (Ok o) (only.formula ss other h k) e d in
     absurd (cc)

@@ -11,7 +11,7 @@ use Rattle.formula_metrics.specs.Parts.{blank_metrics}
 use Rattle.formula_eval.specs.declared.fault.EvalFault.{EvalFault}
 use Rattle.formula_eval.specs.declared.outcome.Outcome.{Outcome}
 use Rattle.formula_eval.specs.Statements.{evaluated}
-use Rattle.cli_formula.specs.Showing.{IsLongestText, Shows, no_text, no_formula, gives, fails, fault_line, targets_of}
+use Rattle.cli_formula.specs.Showing.{IsLongestText, Shows, no_text, no_formula, gives, fails, ShownFault, fault_at, targets_of}
 use Rattle.cli_formula.specs.Shown.{evaluation_shown}
 
 by_result : (now nodes : ℕ) (bytes : List ℕ) (ss : List StatementTree) (r : Result Outcome EvalFault) → utf8_text bytes ≡ Some bytes → IsFormula bytes ss →
@@ -20,7 +20,7 @@ by_result now nodes bytes ss (Ok outcome) text formula e = gives ss outcome text
 by_result now nodes bytes ss (Err fault) text formula e = fails ss fault text formula e
 
 -- the output of a formula that is kept with a copy of its text is that of its evaluation
-pub shows_formula : (now nodes : ℕ) (bytes copy : List ℕ) (ss : List StatementTree) (shown : Result (List ℕ) (List ℕ)) → utf8_text bytes ≡ Some bytes →
+pub shows_formula : (now nodes : ℕ) (bytes copy : List ℕ) (ss : List StatementTree) (shown : Result (List ℕ) ShownFault) → utf8_text bytes ≡ Some bytes →
     copy ≡ bytes → IsFormula bytes ss → shown ≡ evaluation_shown (evaluated copy ss blank_metrics now (targets_of nodes)) → Shows now nodes bytes shown
 shows_formula now nodes bytes copy ss shown text same formula e =
     let shown_is : shown ≡ evaluation_shown (evaluated bytes ss blank_metrics now (targets_of nodes)) = e
@@ -39,17 +39,17 @@ longest_text bytes count valid =
     }
 
 -- the output of a text that is not a formula is its fault
-pub shows_fault : (now nodes : ℕ) (bytes : List ℕ) (fault : FormulaFault) (name : List ℕ) (place : ℕ) (shown : Result (List ℕ) (List ℕ)) →
-    utf8_text bytes ≡ Some bytes → HasFault bytes fault → name ≡ name_of fault → place ≡ place_of fault → shown ≡ Err (fault_line name place) →
+pub shows_fault : (now nodes : ℕ) (bytes : List ℕ) (fault : FormulaFault) (name : List ℕ) (place : ℕ) (shown : Result (List ℕ) ShownFault) →
+    utf8_text bytes ≡ Some bytes → HasFault bytes fault → name ≡ name_of fault → place ≡ place_of fault → shown ≡ Err (fault_at name place) →
     Shows now nodes bytes shown
 shows_fault now nodes bytes fault name place shown text h name_is place_is e =
-    let shown_is : shown ≡ Err (fault_line (name_of fault) (place_of fault)) = e ∙ ap (λ n. Err (fault_line n place)) name_is
-    ∙ ap (λ p. Err (fault_line (name_of fault) p)) place_is in
+    let shown_is : shown ≡ Err (fault_at (name_of fault) (place_of fault)) = e ∙ ap (λ n. Err (fault_at n place)) name_is
+    ∙ ap (λ p. Err (fault_at (name_of fault) p)) place_is in
     subst (Shows now nodes bytes) (sym shown_is) (no_formula fault text h)
 
 -- the output of bytes that are not UTF-8 is a fault at the end of their longest valid prefix
-pub shows_no_text : (now nodes : ℕ) (bytes : List ℕ) (count place : ℕ) (shown : Result (List ℕ) (List ℕ)) → (IsUtf8 bytes → ⊥) → IsValidUpTo bytes count →
-    place ≡ count → shown ≡ Err (fault_line (codes "BadCharacter") place) → Shows now nodes bytes shown
+pub shows_no_text : (now nodes : ℕ) (bytes : List ℕ) (count place : ℕ) (shown : Result (List ℕ) ShownFault) → (IsUtf8 bytes → ⊥) → IsValidUpTo bytes count →
+    place ≡ count → shown ≡ Err (fault_at (codes "BadCharacter") place) → Shows now nodes bytes shown
 shows_no_text now nodes bytes count place shown never valid place_is e =
-    let shown_is : shown ≡ Err (fault_line (codes "BadCharacter") count) = e ∙ ap (λ p. Err (fault_line (codes "BadCharacter") p)) place_is in
+    let shown_is : shown ≡ Err (fault_at (codes "BadCharacter") count) = e ∙ ap (λ p. Err (fault_at (codes "BadCharacter") p)) place_is in
     subst (Shows now nodes bytes) (sym shown_is) (no_text count (of_no_text bytes never) (longest_text bytes count valid))

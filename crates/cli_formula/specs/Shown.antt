@@ -8,23 +8,32 @@ use Rattle.cli_formula.specs.declared.end.End.{End}
 use Rattle.cli_formula.specs.declared.end.End.TheVariants.{Done, Fault, TooLong, SourceFault, SinkFault, Memory}
 use Rattle.cli_formula.specs.declared.shown.Shown.{Shown}
 use Rattle.cli_formula.specs.declared.shown.Shown.TheVariants as shows
-use Rattle.cli_formula.specs.Showing.{fault_line, results_line, text_of}
+use Rattle.cli_formula.specs.Positions.{position_of}
+use Rattle.cli_formula.specs.declared.position.Position.{Position}
+use Rattle.cli_formula.specs.Showing.{ShownFault, fault_at, results_line, text_of}
 
--- the text, of results or of a fault
-abbrev pub shown_of : Shown → Result (List ℕ) (List ℕ)
+-- the results, or the fault with its place
+abbrev pub shown_of : Shown → Result (List ℕ) ShownFault
 shown_of (shows.Results text) = Ok text
-shown_of (shows.Fault text) = Err text
+shown_of (shows.Fault text place) = Err (record { text = text; place = place })
 
 -- the output of an evaluation
-abbrev pub evaluation_shown : Result Outcome EvalFault → Result (List ℕ) (List ℕ)
+abbrev pub evaluation_shown : Result Outcome EvalFault → Result (List ℕ) ShownFault
 evaluation_shown (Ok outcome) = Ok (results_line outcome)
-evaluation_shown (Err fault) = Err (fault_line (fault_name fault.fault) fault.place)
+evaluation_shown (Err fault) = Err (fault_at (fault_name fault.fault) fault.place)
 
--- how the writing of an output ends
-abbrev pub Writes : Option (List ℕ) → Option (List ℕ) → Result (List ℕ) (List ℕ) → End → Type 0
-Writes before taken shown Done = (text : List ℕ) × (shown ≡ Ok text) × Gains before taken text
-Writes before taken shown Fault = (text : List ℕ) × (shown ≡ Err text) × Gains before taken text
-Writes before taken shown SinkFault = GainsFront before taken (text_of shown)
-Writes before taken shown TooLong = ⊥
-Writes before taken shown SourceFault = ⊥
-Writes before taken shown Memory = ⊥
+-- a fault of these bytes was written, whose place has this position
+pub record WritesFaultAt (bytes : List ℕ) (before taken : Option (List ℕ)) (shown : Result (List ℕ) ShownFault) (position : Position) : Type 0 where
+  pub fault : ShownFault
+  pub is_shown : shown ≡ Err fault
+  pub written : Gains before taken fault.text
+  pub at_place : position ≡ position_of bytes fault.place
+
+-- how the writing of the output of these bytes ends
+abbrev pub Writes : List ℕ → Option (List ℕ) → Option (List ℕ) → Result (List ℕ) ShownFault → End → Type 0
+Writes bytes before taken shown Done = (text : List ℕ) × (shown ≡ Ok text) × Gains before taken text
+Writes bytes before taken shown (Fault position) = WritesFaultAt bytes before taken shown position
+Writes bytes before taken shown SinkFault = GainsFront before taken (text_of shown)
+Writes bytes before taken shown TooLong = ⊥
+Writes bytes before taken shown SourceFault = ⊥
+Writes bytes before taken shown Memory = ⊥

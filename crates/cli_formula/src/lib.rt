@@ -3,13 +3,12 @@
 #![tactic(auto)]
 
 mod end;
+mod position;
 mod run;
 mod show;
 mod shown;
 
 pub use end::End;
+pub use position::Position;
 pub use run::run_formula;
 pub use show::one_showing;
-
-#[cfg(test)]
-mod tests;

@@ -3,7 +3,7 @@ ghost use Rattle.std.specs.Prelude.{◌≡◌, ℕ, List, Result, IfOk};
 ghost use Rattle.formula_trees.specs.View.{statements_of};
 ghost use Rattle.formula_metrics.specs.Parts.{blank_metrics};
 ghost use Rattle.formula_eval.specs.Statements.{evaluated};
-ghost use Rattle.cli_formula.specs.Showing.{Shows, targets_of};
+ghost use Rattle.cli_formula.specs.Showing.{Shows, ShownFault, targets_of};
 ghost use Rattle.cli_formula.specs.Shown.{shown_of, evaluation_shown};
 
 use crate::shown::{Shown, of_fault, of_outcome};
@@ -61,7 +61,7 @@ pub fn show(alloc: Global, options: FormulaOptions, bytes: &[u8]) -> Result<Show
 
 /// The same bytes have one output at a moment and with a number of nodes wanted before.
 pub fn one_showing()
-    ensures { (now nodes : ℕ) (bytes : List ℕ) (one other : Result (List ℕ) (List ℕ)) → Shows now nodes bytes one → Shows now nodes bytes other → one ≡ other }
+    ensures { (now nodes : ℕ) (bytes : List ℕ) (one other : Result (List ℕ) ShownFault) → Shows now nodes bytes one → Shows now nodes bytes other → one ≡ other }
 {
     one_answer();
 }

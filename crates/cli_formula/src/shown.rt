@@ -1,7 +1,7 @@
 //! The output of a formula.
 ghost use Rattle.std.specs.Prelude.{◌≡◌, Ok, Err, IfOk, string_bytes};
 ghost use Rattle.bt_base.specs.Content.{Gains, GainsFront};
-ghost use Rattle.cli_formula.specs.Showing.{fault_line, results_line};
+ghost use Rattle.cli_formula.specs.Showing.{fault_line, fault_at, results_line};
 ghost use Rattle.cli_formula.specs.Shown.{shown_of};
 
 use bt_base::{NoMemory, Text};
@@ -13,8 +13,8 @@ use std::alloc::{AllocError, Global};
 pub enum Shown {
     /// The results text.
     Results(Text),
-    /// `error`, the fault's name and its place.
-    Fault(Text),
+    /// `error`, the fault's name and its place; and that place, an offset in bytes.
+    Fault(Text, usize),
 }
 
 /// `error`, a fault's name and its place.
@@ -42,10 +42,10 @@ fn results_line(alloc: Global, outcome: &Outcome) -> Result<String, NoMemory>
 
 /// The output of the fault of this name at this place.
 pub fn of_fault(alloc: Global, name: &str, place: usize) -> Result<Shown, NoMemory>
-    ensures { IfOk result (λ shown. shown_of shown ≡ Err (fault_line name.now place)) }
+    ensures { IfOk result (λ shown. shown_of shown ≡ Err (fault_at name.now place)) }
 {
     let line = fault_line(alloc, name, place)?;
-    Ok(Shown::Fault(Text::of_string(line)))
+    Ok(Shown::Fault(Text::of_string(line), place))
 }
 
 /// The output of these results.

@@ -1,6 +1,6 @@
 -- The options of a command keep their ranges.
 use Rattle.std.proofs.Common.{◌≡◌, ◌≤◌, ℕ, Bool, true, false, ◌&&◌, nat_le, List, [], ◌∷◌, Option, Some, None, length, option_and_then, if◌then◌else◌, refl, subst, arith}
-use Rattle.wire_lines.specs.Numbers.{number_in}
+use Rattle.wire_numbers.specs.Numbers.{number_in}
 use Rattle.bt_base.specs.Moments.{last_moment}
 use Rattle.cli_words.specs.declared.command_name.CommandName.{CommandName}
 use Rattle.cli_words.specs.declared.command_name.CommandName.TheVariants as names

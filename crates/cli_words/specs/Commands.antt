@@ -5,7 +5,7 @@ use Rattle.std.specs.Option.{option_map_or}
 use Rattle.std.specs.List.{find, position}
 use Rattle.std.specs.Str.{bytes_eq}
 use Rattle.bt_base.specs.Moments.{last_moment}
-use Rattle.wire_lines.specs.Numbers.{number_in}
+use Rattle.wire_numbers.specs.Numbers.{number_in}
 use Rattle.bt_rows.specs.declared.limits.TheConstants.{SEAT_LIMIT, TARGET_LIMIT}
 use Rattle.cli_words.specs.declared.command.TheConstants.{DEFAULT_SEATS, JOURNAL_LIMIT}
 use Rattle.cli_words.specs.declared.command_name.CommandName.{CommandName}

@@ -8,7 +8,7 @@ use crate::command_name::CommandName;
 use crate::option_name::OptionName;
 use bt_base::{LAST_MOMENT_MS, Moment};
 use bt_rows::limits::{SEAT_LIMIT, TARGET_LIMIT};
-use wire_lines::read_number;
+use wire_numbers::read_number;
 
 /// The options that were read so far; None for one that was not.
 #[derive(Clone, Copy, Debug, PartialEq, Eq)]

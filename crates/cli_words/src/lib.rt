@@ -10,6 +10,3 @@ mod words;
 
 pub use command::{Command, DEFAULT_SEATS, FormulaOptions, JOURNAL_LIMIT, ReplayOptions};
 pub use words::read_command;
-
-#[cfg(test)]
-mod tests;

@@ -136,7 +136,7 @@ fn the_first_fault_counts(rt: HostRuntime) -> Result<(), TestFail> {
     Ok(())
 }
 
-// Metrics with samples 1, 2 and 3 of one metric at 0, 30 and 60 seconds.
+// Metrics with samples 1, 2 and 3 of one metric at 0, 30 and 60 seconds, whose value now is 7.
 fn sampled(alloc: Global) -> Result<Metrics, TestFail> {
     let mut metrics = Metrics::new(alloc)?;
     for (label, value) in [(0, 1), (30_000, 2), (60_000, 3)] {
@@ -145,6 +145,8 @@ fn sampled(alloc: Global) -> Result<Metrics, TestFail> {
             .push(Metric::ActiveTasks, label, number)
             .map_err(|_| "a push was refused")?;
     }
+    let present = Num::of_whole(7).map_err(|_| "a number")?;
+    metrics.set_current(Metric::ActiveTasks, Some(present));
     Ok(metrics)
 }
 
@@ -215,8 +217,12 @@ fn methods_read_samples(rt: HostRuntime) -> Result<(), TestFail> {
 }
 
 #[test]
-fn methods_have_faults(rt: HostRuntime) -> Result<(), TestFail> {
+fn metrics_have_values_and_faults(rt: HostRuntime) -> Result<(), TestFail> {
     let table = [
+        (
+            "$TargetDedicatedNodes = $ActiveTasks",
+            "$TargetDedicatedNodes=7;$TargetLowPriorityNodes=0;$NodeDeallocationOption=requeue",
+        ),
         (
             "x = $ActiveTasks.GetSample(-0.000001)",
             "error IndexOutOfRange 17",

@@ -12,6 +12,3 @@ mod token;
 pub use fault::LexFault;
 pub use lexer::lex;
 pub use token::{BinaryOperator, Kind, Span, Token};
-
-#[cfg(test)]
-mod tests;

@@ -7,6 +7,3 @@ mod metrics;
 mod samples;
 
 pub use metrics::{MetricPart, Metrics};
-
-#[cfg(test)]
-mod tests;

@@ -6,6 +6,3 @@ mod formula;
 mod stack;
 
 pub use formula::{one_reading, parse};
-
-#[cfg(test)]
-mod tests;

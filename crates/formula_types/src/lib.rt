@@ -14,6 +14,3 @@ pub use fault::{FormulaFault, TypeFault};
 pub use formula::Formula;
 pub use scope::part;
 pub use typing::types_by_rules;
-
-#[cfg(test)]
-mod tests;

@@ -22,6 +22,3 @@ pub use operators::{binary, is_true, truth, unary};
 pub use rounding::floor_of;
 pub use times::{TimeInterval, Timestamp, interval_value, timestamp_value};
 pub use value::{Value, whole};
-
-#[cfg(test)]
-mod tests;

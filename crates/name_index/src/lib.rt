@@ -5,6 +5,3 @@
 mod index;
 
 pub use index::NameIndex;
-
-#[cfg(test)]
-mod tests;

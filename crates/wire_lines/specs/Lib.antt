@@ -1,4 +1,4 @@
+pub mod Endings
 pub mod Lines
-pub mod Numbers
 pub mod Parts
 pub mod Words

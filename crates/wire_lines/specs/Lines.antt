@@ -22,7 +22,8 @@ use Rattle.wire_lines.specs.declared.line_word.LineWord.{LineWord}
 use Rattle.wire_lines.specs.declared.line_word.LineWord.TheVariants as words
 use Rattle.wire_lines.specs.Words.{word_in}
 use Rattle.wire_lines.specs.Parts.{two_parts, just_two}
-use Rattle.wire_lines.specs.Numbers.{number_in, moment_in, ending_in}
+use Rattle.wire_lines.specs.Endings.{moment_in, ending_in}
+use Rattle.wire_numbers.specs.Numbers.{number_in}
 
 -- the value; if there is none, the line is not a valid request
 abbrev pub or_unreadable : {A : Type 0} → Option A → Result A Refusal

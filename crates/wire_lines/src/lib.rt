@@ -1,15 +1,11 @@
 //! Lines of scripts: the request that a line is and its moment, and the lines of a script. The format is this project's own.
 #![tactic(auto)]
 
+mod ending;
 mod line;
 mod line_word;
-mod number;
 mod parts;
 mod script;
 
 pub use line::{LINE_LIMIT, LineRequest, read_line};
-pub use number::read_number;
 pub use script::split_line;
-
-#[cfg(test)]
-mod tests;

@@ -4,8 +4,8 @@ ghost use Rattle.bt_base.specs.Fails.{Gives, GivesAs};
 ghost use Rattle.bt_rows.specs.Ranges.{is_event_in_range};
 ghost use Rattle.wire_lines.specs.Lines.{or_unreadable, id_argument, job_and_body, event_with, event_with_arguments, event_in, call_in, line_of, is_skipped};
 
+use crate::ending::{read_ending, read_moment};
 use crate::line_word::LineWord;
-use crate::number::{read_ending, read_moment, read_number};
 use crate::parts::{split_just_two, split_two};
 use bt_base::{Fail, Id, Moment, text_of};
 use bt_rows::event::{Event, EventKind};
@@ -14,6 +14,7 @@ use bt_rows::refusal::Refusal;
 use std::alloc::Global;
 use wire_bodies::{read_collection, read_job, read_pool, read_task};
 use wire_members::invalid_property;
+use wire_numbers::read_number;
 
 /// What a line is.
 #[derive(Drop)]

@@ -9,8 +9,6 @@ mod refusals;
 mod replies;
 mod rows;
 mod tables;
-#[cfg(test)]
-mod tests;
 mod words;
 
 pub use dues::write_due;

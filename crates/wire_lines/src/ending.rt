@@ -1,31 +1,10 @@
-//! Numbers, moments and endings in a line.
+//! Moments and endings in a line.
 ghost use Rattle.std.specs.Prelude.{◌≡◌};
-ghost use Rattle.std.specs.List.{list_all};
-ghost use Rattle.std.specs.Char.{is_ascii_digit};
-ghost use Rattle.wire_lines.specs.Numbers.{number_in, moment_in, code_in, ending_in, code_below, code_above};
+ghost use Rattle.wire_lines.specs.Endings.{moment_in, code_in, ending_in, code_below, code_above};
 
-use bt_base::{Moment, text_of};
+use bt_base::Moment;
 use bt_rows::run::Ending;
-
-/// Whether the text has digits alone.
-fn has_digits(text: &[u8]) -> bool
-    ensures { result ≡ list_all is_ascii_digit text.now }
-{
-    text.iter().all(|b| b.is_ascii_digit())
-}
-
-/// A number of 64 bits: one digit or more, and nothing else. It does not allocate.
-pub fn read_number(text: &[u8]) -> Option<u64>
-    ensures { result ≡ number_in text.now }
-{
-    if !has_digits(text) {
-        return None;
-    }
-    match text_of(text) {
-        Some(text) => text.parse::<u64>().ok(),
-        None => None,
-    }
-}
+use wire_numbers::read_number;
 
 /// A moment, as the digits of its milliseconds since 1970. It does not allocate.
 pub fn read_moment(text: &[u8]) -> Option<Moment>
@@ -64,7 +43,7 @@ fn read_code(text: &[u8]) -> Option<i32>
 
 /// How a run ended: `none`, `notstarted`, or an exit code, which is digits with at most one minus sign before them. It does not
 /// allocate.
-#[tactic(auto, unfolding(crate::specs::Numbers::ending_in))]
+#[tactic(auto, unfolding(crate::specs::Endings::ending_in))]
 pub fn read_ending(text: &[u8]) -> Option<Ending>
     ensures { result ≡ ending_in text.now }
 {

@@ -1,18 +1,10 @@
--- Numbers, moments and endings in a line.
-use Rattle.std.specs.Prelude.{ℕ, ◌^◌, ℤ, pos, neg_ℤ, List, drop, length, slice_index, Option, Some, None, option_map, option_and_then, nat_lt, nat_le, ◌&&◌, ◌==◌, codes, if◌then◌else◌}
-use Rattle.std.specs.List.{list_all}
-use Rattle.std.specs.Char.{is_ascii_digit}
+-- Moments and endings in a line.
+use Rattle.std.specs.Prelude.{ℕ, ◌^◌, ℤ, pos, neg_ℤ, List, drop, slice_index, Option, Some, None, option_map, option_and_then, nat_lt, nat_le, ◌==◌, codes, if◌then◌else◌}
 use Rattle.std.specs.Str.{bytes_eq}
-use Rattle.std.specs.Str.Parse.{digits_value}
 use Rattle.bt_base.specs.Moments.{moment_of}
 use Rattle.bt_rows.specs.declared.run.Ending.{Ending}
 use Rattle.bt_rows.specs.declared.run.Ending.TheVariants.{Code, NoCode, NotStarted}
-
--- one digit or more, with a value of 64 bits
-unfoldable pub number_in : List ℕ → Option ℕ
-number_in text =
-    if list_all is_ascii_digit text && nat_lt 0 (length text) && nat_lt (digits_value 10 text) (2 ^ 64) then Some (digits_value 10 text)
-    else None
+use Rattle.wire_numbers.specs.Numbers.{number_in}
 
 -- digits, up to the end of the year 9999
 abbrev pub moment_in : List ℕ → Option ℕ
