@@ -1,5 +1,5 @@
 -- Links of places. Each link has a place and the number of the link before it: one plus that one's index, or 0 if there is none.
-use Rattle.std.specs.Prelude.{◌≡◌, ℕ, zero, suc, ◌+◌, ◌≤◌, List, [], ◌∷◌, length, map, slice_get, Option, Some, None, vec_len, vec_capacity, Vec}
+use Rattle.std.specs.Prelude.{◌≡◌, ℕ, zero, suc, ◌+◌, ◌≤◌, List, [], ◌∷◌, length, map, slice_get, Option, Some, None, vec_len, vec_capacity, Vec, if◌then◌else◌}
 use Rattle.std.specs.Option.{unwrap_or}
 use Rattle.std.specs.List.{All}
 use Rattle.std.specs.Str.{bytes_eq}
@@ -17,6 +17,14 @@ pub record ChainsView : Type 0 where
 -- the places of a text, the one that was added last first
 unfoldable pub places_of : ChainsView → List ℕ → List ℕ
 places_of view text = unwrap_or (lookup (λ key. bytes_eq text key) view.chains) []
+
+-- the places of the texts, with this place before those of this text
+abbrev pub with_place : (List ℕ → List ℕ) → List ℕ → ℕ → List ℕ → List ℕ
+with_place places text place other = if bytes_eq text other then place ∷ places other else places other
+
+-- the numbers of the newest links, with this number for this text
+abbrev pub with_head : {Z S : Type 0} → HashMap (Vec ℕ Z) ℕ S → List ℕ → ℕ → List ℕ → Option ℕ
+with_head heads text number other = if bytes_eq text other then Some number else get_by (has_bytes other) heads
 
 -- the place of a link, before the places from its next link on
 abbrev pub then_next : (ℕ → List ℕ) → Option Link → List ℕ

@@ -1,8 +1,7 @@
 //! The map.
-ghost use Rattle.std.specs.Prelude.{◌≡◌, ◌+◌, ◌<◌, ◌≤◌, ℕ, List, [], ◌∷◌, length, OnOk, IsTrue, ◌↔◌, if◌then◌else◌};
+ghost use Rattle.std.specs.Prelude.{◌≡◌, ◌+◌, ◌<◌, ◌≤◌, ℕ, List, [], length, OnOk, IsTrue, ◌↔◌};
 ghost use Rattle.std.specs.List.{Contains};
-ghost use Rattle.std.specs.Str.{bytes_eq};
-ghost use Rattle.text_chains.specs.Chains.{ChainsView, places_of, chains_of, IsChained, HasRoom};
+ghost use Rattle.text_chains.specs.Chains.{places_of, with_place};
 
 use crate::heads::{MOST_BYTES, add_spares, head, put_head, reserve_heads};
 use crate::places::{Link, Places, places_from};
@@ -65,7 +64,7 @@ impl TextChains {
     pub fn add(&mut self, text: &[u8], place: usize)
         requires room { 0 < self.old.room }
         requires short { length text.now ≤ MOST_BYTES }
-        ensures places { (other : List ℕ) → places_of self.new other ≡ (if bytes_eq text.now other then place ∷ places_of self.old other else places_of self.old other) }
+        ensures places { (other : List ℕ) → places_of self.new other ≡ with_place (places_of self.old) text.now place other }
         ensures room { self.new.room + 1 ≡ self.old.room }
     {
         let next = head(&self.heads, text);

@@ -1,11 +1,10 @@
 //! The map from texts to their newest links, and empty buffers for the texts that are to come.
-ghost use Rattle.std.specs.Prelude.{◌≡◌, ◌+◌, ◌<◌, ◌≤◌, ℕ, List, IsTrue, length, cond, Some, is_some, OnOk, vec_len};
+ghost use Rattle.std.specs.Prelude.{◌≡◌, ◌+◌, ◌<◌, ◌≤◌, ℕ, List, length, is_some, if◌then◌else◌, OnOk, vec_len};
 ghost use Rattle.std.specs.List.{All};
 ghost use Rattle.std.specs.Option.{unwrap_or};
-ghost use Rattle.std.specs.Str.{bytes_eq};
 ghost use Rattle.std.specs.HashMap.{get_by, spare};
 ghost use Rattle.kept_table.specs.Slots.{has_bytes};
-ghost use Rattle.text_chains.specs.Chains.{IsSpare};
+ghost use Rattle.text_chains.specs.Chains.{IsSpare, with_head};
 
 use bt_base::NoMemory;
 use std::alloc::Global;
@@ -67,7 +66,7 @@ pub fn head(heads: &HashMap<Vec<u8>, usize>, text: &[u8]) -> usize
 /// Puts the newest link of a text that has one. False if it has none, and then nothing changes. It does not allocate.
 pub fn replace_head(heads: &mut HashMap<Vec<u8>, usize>, text: &[u8], number: usize) -> bool
     ensures found { result ≡ is_some (get_by (has_bytes text.now) heads.old) }
-    ensures heads { (other : List ℕ) → get_by (has_bytes other) heads.new ≡ cond result (cond (bytes_eq text.now other) (Some number) (get_by (has_bytes other) heads.old)) (get_by (has_bytes other) heads.old) }
+    ensures heads { (other : List ℕ) → get_by (has_bytes other) heads.new ≡ (if result then with_head heads.old text.now number other else get_by (has_bytes other) heads.old) }
     ensures room { spare heads.new ≡ spare heads.old }
 {
     match heads.get_mut(text) {
@@ -82,7 +81,7 @@ pub fn replace_head(heads: &mut HashMap<Vec<u8>, usize>, text: &[u8], number: us
 /// Puts the first link of a text. It does not allocate.
 pub fn insert_head(heads: &mut HashMap<Vec<u8>, usize>, text: Vec<u8>, number: usize)
     requires { 0 < spare heads.old }
-    ensures heads { (other : List ℕ) → get_by (has_bytes other) heads.new ≡ cond (bytes_eq text.items other) (Some number) (get_by (has_bytes other) heads.old) }
+    ensures heads { (other : List ℕ) → get_by (has_bytes other) heads.new ≡ with_head heads.old text.items number other }
     ensures room { spare heads.old ≤ spare heads.new + 1 }
 {
     match heads.insert(text, number) {
@@ -102,7 +101,7 @@ pub fn put_head(
     requires some { 0 < vec_len spares.old }
     requires wide { All IsSpare spares.old.items }
     requires short { length text.now ≤ MOST_BYTES }
-    ensures heads { (other : List ℕ) → get_by (has_bytes other) heads.new ≡ cond (bytes_eq text.now other) (Some number) (get_by (has_bytes other) heads.old) }
+    ensures heads { (other : List ℕ) → get_by (has_bytes other) heads.new ≡ with_head heads.old text.now number other }
     ensures room { spare heads.old ≤ spare heads.new + 1 }
     ensures wide { All IsSpare spares.new.items }
     ensures fewer { vec_len spares.old ≤ vec_len spares.new + 1 }
