@@ -1,5 +1,6 @@
 -- Sums and tests over places that have all rows that count.
-use Rattle.std.proofs.Common.{◌≡◌, ℕ, zero, suc, ◌+◌, ◌<◌, Bool, true, false, ◌||◌, nat_eq, List, [], ◌∷◌, length, slice_index_or, set, sum_by, Option, Some, None, refl, sym, ap, ◌∙◌, ⊎_elim, arith}
+use Rattle.std.proofs.Common.{◌≡◌, ℕ, zero, suc, ◌+◌, ◌<◌, Bool, true, false, ◌||◌, nat_eq, List, [], ◌∷◌}
+use Rattle.std.proofs.Common.{length, slice_index_or, set, sum_by, Option, Some, None, refl, sym, ap, ◌∙◌, ⊎_elim, arith}
 use Rattle.std.specs.List.{AllByRecursion, Contains, IsDistinct, list_any}
 use Rattle.std.proofs.lemmas.Bool.{cases_Bool, cases_eq, eqb-false, ne_eqb}
 use Rattle.std.proofs.lemmas.List.Sums.{sum_by-cons}
@@ -135,7 +136,9 @@ module _ {R : Type 0} where
         → (place : ℕ) → holds test (slot_at slots place) ≡ holds test (slot_at (set slots at None) place)
     fails_alike slots at fails place =
         ⊎_elim
-        (λ (e : place ≡ at). ap (λ (k : ℕ). holds test (slot_at slots k)) e ∙ fails ∙ sym (ap (holds test) (ap (slot_at (set slots at None)) e ∙ free_here slots at)))
+        (λ (e : place ≡ at).
+        ap (λ (k : ℕ). holds test (slot_at slots k)) e ∙ fails
+        ∙ sym (ap (holds test) (ap (slot_at (set slots at None)) e ∙ free_here slots at)))
         (λ (e : place ≡ at → ⊥). ap (holds test) (sym (free_other slots at place e)))
         (cases_eq place at)
 

@@ -1,5 +1,6 @@
 -- The places from a link on, and those after a link is added.
-use Rattle.std.proofs.Common.{◌≡◌, ℕ, zero, suc, List, [], ◌∷◌, ◌++◌, length, slice_get, ◌<◌, ◌≤◌, Option, Some, None, refl, ap, ◌∙◌, ◌⊎◌, inl, inr, ⊎_elim, arith}
+use Rattle.std.proofs.Common.{◌≡◌, ℕ, zero, suc, List, [], ◌∷◌, ◌++◌, length, slice_get}
+use Rattle.std.proofs.Common.{◌<◌, ◌≤◌, Option, Some, None, refl, ap, ◌∙◌, ◌⊎◌, inl, inr, ⊎_elim, arith}
 use Rattle.text_chains.specs.declared.places.Link.{Link}
 use Rattle.text_chains.specs.Chains.{then_next, walk, chain, AreOlder}
 

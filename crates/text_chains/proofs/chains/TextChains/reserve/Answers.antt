@@ -20,6 +20,7 @@ returns-in_err-reserve-clause-places c = λ text.
 pub returns-clause-places : goal.returns-clause-places
 returns-clause-places c = λ text.
     let t = c.self.inside in
-    ap (λ (links : List Link). places_of (record { chains = chains_of links c.reserve_heads.new.heads.entries; room = c.args.additional }) text) c.reserve.ensures.items
+    ap (λ (links : List Link). places_of (record { chains = chains_of links c.reserve_heads.new.heads.entries; room = c.args.additional }) text)
+    c.reserve.ensures.items
     ∙ places_kept t.links.items t.heads c.reserve_heads.new.heads t.room c.args.additional c.reserve_heads.ensures.heads text
     ∙ ap (λ (view : ChainsView). places_of view text) c.self.view_is

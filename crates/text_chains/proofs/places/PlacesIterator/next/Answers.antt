@@ -27,7 +27,8 @@ returns-clause-steps c =
     let index = c.in_ok-index.index in
     let link = c.in_ok-link.link.now in
     let number : c.self.inside.number ≡ suc index = omega (arith, c.in_ok-index.ensures) in
-    let at : slice_get links index ≡ Some link = slice_get_read links _ index link refl (ltb-true index _ (sym c.in_ok-link.ensures.lookup.0)) c.in_ok-link.ensures.lookup.1 in
+    let inside = ltb-true index _ (sym c.in_ok-link.ensures.lookup.0) in
+    let at : slice_get links index ≡ Some link = slice_get_read links _ index link refl inside c.in_ok-link.ensures.lookup.1 in
     sym c.self.view_is ∙ ap (chain links) number ∙ chain_next links c.self.invariant index link at
 
 pub returns-clause-goes : goal.returns-clause-goes
