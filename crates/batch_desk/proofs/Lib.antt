@@ -1,3 +1,4 @@
+pub mod Causes
 pub mod DueRuns
 pub mod Entering
 pub mod LawsHold
