@@ -4,6 +4,9 @@ use Rattle.std.specs.List.{list_all}
 use Rattle.bt_base.specs.Ids.{same}
 use Rattle.bt_rows.specs.declared.limits.TheConstants.{NUMBER_LIMIT}
 
+-- the one of several rows that comes before the others
+pub use Rattle.bt_rows.specs.Choice.{best}
+
 module _ {R : Type 0} where
   -- every row passes the test
   abbrev pub Each : (R → Bool) → List R → Type 0
@@ -31,15 +34,6 @@ module _ {R : Type 0} where
   abbrev pub at_row : {W : Type 0} → (R → W → W) → Option R → W → W
   at_row change None w = w
   at_row change (Some row) w = change row w
-
-  -- the one that comes before the others, and the first of these if there are several
-  abbrev pub best : (R → R → Bool) → List R → Option R
-  best precedes [] = None
-  best precedes (row ∷ rows) = better (best precedes rows)
-    where
-      better : Option R → Option R
-      better None = Some row
-      better (Some other) = if precedes other row then Some other else Some row
 
   -- a value under a condition
   abbrev pub only_if : Bool → Option R → Option R

@@ -1,9 +1,10 @@
 -- Placing of tasks, as far as it is built: tasks without dependencies and instances, in jobs of the usual priority without
 -- preparation and without a limit on placed tasks.
-use Rattle.std.specs.Prelude.{zero, ◌+◌, ℕ, Bool, true, false, not, ◌&&◌, ◌||◌, nat_eq, nat_lt, List, [], ◌∷◌, filter, ℤ, pos, negsuc, Option, is_none}
+use Rattle.std.specs.Prelude.{zero, ◌+◌, ℕ, Bool, true, false, not, ◌&&◌, List, [], ◌∷◌, filter, ℤ, pos, negsuc, Option, is_none}
 use Rattle.std.specs.Option.{option_map, option_and_then}
 use Rattle.bt_rows.specs.declared.due.Due.TheVariants.{TaskPlaced}
-use Rattle.batch_model.specs.Finding.{best, find_map, only_if, has_number_left}
+use Rattle.bt_rows.specs.Choice.{best, prefers}
+use Rattle.batch_model.specs.Finding.{find_map, only_if, has_number_left}
 use Rattle.batch_model.specs.Rows.{pool_of, put_task, add_run_row}
 use Rattle.batch_model.specs.Runs.{work_run}
 use Rattle.batch_model.specs.Tasks.{is_active, is_in_job}
@@ -11,7 +12,7 @@ use Rattle.batch_model.specs.Jobs.{is_job_active}
 use Rattle.batch_model.specs.Nodes.{is_in_pool, is_usable}
 use Rattle.batch_model.specs.Slots.{held_slots, has_free}
 use Rattle.batch_model.specs.Steps.{DueStep}
-use Rattle.batch_model.specs.Variants.{State, PoolRow, Fill, Spread, Pack, NodeRow, JobRow, TaskRow, Placed, TaskRun, Queued}
+use Rattle.batch_model.specs.Variants.{State, PoolRow, Fill, NodeRow, JobRow, TaskRow, Placed, TaskRun, Queued}
 
 -- no items
 abbrev pub is_empty : {A : Type 0} → List A → Bool
@@ -44,15 +45,9 @@ is_placeable job task = is_in_job job.id task && is_ready task
 abbrev pub fits : State → PoolRow → ℕ → NodeRow → Bool
 fits s pool need node = is_usable node.stage && is_in_pool pool.id node && has_free s pool need node
 
--- the same number of slots is held on both nodes, and the first has the lower number
-abbrev pub is_lower : State → NodeRow → NodeRow → Bool
-is_lower s node other = nat_eq (held_slots s node.number) (held_slots s other.number) && nat_lt node.number other.number
-
--- the fill type prefers the node to the other: `spread` the one with fewer held slots, `pack` the one with more, and of two
--- with the same number the one with the lower number
+-- the fill type prefers the node to the other, by the slots that are held on them and by their numbers
 abbrev pub precedes : State → Fill → NodeRow → NodeRow → Bool
-precedes s Spread node other = nat_lt (held_slots s node.number) (held_slots s other.number) || is_lower s node other
-precedes s Pack node other = nat_lt (held_slots s other.number) (held_slots s node.number) || is_lower s node other
+precedes s fill node other = prefers fill (held_slots s node.number) node.number (held_slots s other.number) other.number
 
 -- the node of the pool on which the needed slots are to be held
 abbrev pub choice : State → PoolRow → ℕ → Option NodeRow

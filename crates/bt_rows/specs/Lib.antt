@@ -4,6 +4,7 @@ pub mod Keys
 pub mod Texts
 pub mod State
 pub mod Changes
+pub mod Choice
 pub mod Room
 pub mod Names
 pub mod Ranges

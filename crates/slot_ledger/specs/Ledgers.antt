@@ -4,7 +4,9 @@ use Rattle.std.specs.Option.{option_map}
 use Rattle.std.specs.List.{list_any}
 use Rattle.bt_base.specs.Ids.{same}
 use Rattle.bt_rows.specs.declared.pool.Fill.{Fill}
-use Rattle.bt_rows.specs.declared.pool.Fill.TheVariants.{Spread, Pack}
+-- the one that comes before the others
+pub use Rattle.bt_rows.specs.Choice.{best}
+use Rattle.bt_rows.specs.Choice.{prefers}
 -- an entry is a node of a pool, with its number of slots and the number of those that are held
 pub use Rattle.slot_ledger.specs.declared.ledger.Entry.{Entry}
 
@@ -55,23 +57,9 @@ giving entries node n = change_entry node (λ entry. record entry { held = entry
 abbrev pub fits : List ℕ → ℕ → Entry → Bool
 fits pool need entry = same entry.pool pool && nat_le (entry.held + need) entry.slots
 
--- as many slots are held on both nodes, and the first has the lower number
-abbrev pub is_lower : Entry → Entry → Bool
-is_lower entry other = nat_eq entry.held other.held && nat_lt entry.node other.node
-
--- `spread` prefers the node with fewer held slots, `pack` the one with more, and of two with as many the lower number goes first
+-- the fill type prefers the node to the other, by the slots that are held on them and by their numbers
 abbrev pub precedes : Fill → Entry → Entry → Bool
-precedes Spread entry other = nat_lt entry.held other.held || is_lower entry other
-precedes Pack entry other = nat_lt other.held entry.held || is_lower entry other
-
--- the one that comes before the others
-abbrev pub best : (Entry → Entry → Bool) → List Entry → Option Entry
-best before [] = None
-best before (entry ∷ entries) = better (best before entries)
-  where
-    better : Option Entry → Option Entry
-    better None = Some entry
-    better (Some other) = if before other entry then Some other else Some entry
+precedes fill entry other = prefers fill entry.held entry.node other.held other.node
 
 -- the node of the pool on which `need` slots are to be held
 abbrev pub chosen : List Entry → List ℕ → Fill → ℕ → Option ℕ

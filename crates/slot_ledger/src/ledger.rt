@@ -2,7 +2,8 @@
 ghost use Rattle.std.specs.Prelude.{◌≡◌, ◌+◌, ◌-◌, ◌≤◌, [], ◌∷◌, ◌++◌, ℕ, List, true, false, OnOk, OnErr, filter};
 ghost use Rattle.std.specs.List.{All, position};
 ghost use Rattle.std.specs.Option.{option_copied};
-ghost use Rattle.slot_ledger.specs.Ledgers.{Entry as EntryRow, is_of, has_node, has_free_slots, has_held_slots, is_unheld, with_node, without_node, holding, giving, fits, is_lower, precedes, best, chosen};
+ghost use Rattle.slot_ledger.specs.Ledgers.{Entry as EntryRow, is_of, has_node, has_free_slots, has_held_slots, is_unheld, with_node, without_node, holding, giving, fits, precedes, best, chosen};
+ghost use Rattle.bt_rows.specs.Choice.{is_lower};
 ghost use Rattle.slot_ledger.specs.Calls.{Call, AreLegal, HoldsItsSum, after_calls};
 
 use bt_base::{Duplicate, Id, NoMemory};
@@ -147,7 +148,7 @@ fn fits(pool: &Id, need: u8, entry: &Entry) -> bool
 
 /// Whether as many slots are held on both nodes, and the first has the lower number.
 fn is_lower(entry: &Entry, other: &Entry) -> bool
-    ensures { result ≡ is_lower entry.now other.now }
+    ensures { result ≡ is_lower entry.now.held entry.now.node other.now.held other.now.node }
 {
     entry.held == other.held && entry.node < other.node
 }
