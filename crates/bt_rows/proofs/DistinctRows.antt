@@ -1,10 +1,10 @@
 -- Keys stay distinct, and sums over rows change by the rows that change.
-use Rattle.std.proofs.Common.{◌≡◌, ℕ, ◌+◌, ◌<◌, ◌≤◌, Bool, true, false, ◌||◌, List, [], ◌∷◌, ◌++◌, Option, Some, None, cond, sum_by, refl, sym, ◌∙◌, ap, subst, arith}
+use Rattle.std.proofs.Common.{◌≡◌, ℕ, ◌+◌, ◌<◌, ◌≤◌, Bool, true, false, ◌||◌, List, [], ◌∷◌, Some, cond, sum_by, refl, sym, ◌∙◌, ap, subst, arith}
 use Rattle.std.specs.List.{list_any, find}
 use Rattle.std.specs.Cmp.{IsEquivalence}
 use Rattle.std.proofs.lemmas.Grind.{common_steps}
 use Rattle.std.proofs.lemmas.List.Sums.{sum_by-cons, sum_by-le-sum_by}
-use Rattle.bt_rows.specs.Lists.{put_row, drop_row, AreDistinct}
+use Rattle.bt_rows.specs.Lists.{put_row, AreDistinct}
 
 module _ {R : Type 0} (same : R → R → Bool) (e : IsEquivalence same) where
   -- if no row passes a test, none does after a put of a row that does not pass either

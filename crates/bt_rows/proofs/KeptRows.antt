@@ -1,9 +1,8 @@
 -- What holds of each row, or of some row, still holds after a put.
-use Rattle.std.proofs.Common.{◌≡◌, ℕ, ◌+◌, ◌<◌, ◌≤◌, Bool, true, false, ◌&&◌, ◌||◌, List, [], ◌∷◌, ◌++◌, Option, Some, None, cond, refl, sym, ◌∙◌, ap, subst, sum_by, arith}
+use Rattle.std.proofs.Common.{◌≡◌, Bool, true, false, ◌||◌, List, [], ◌∷◌, Some, cond, refl, sym, subst}
 use Rattle.std.specs.List.{list_any, find, All}
-use Rattle.std.proofs.lemmas.Grind.{common_steps}
-use Rattle.std.proofs.lemmas.List.Elements.{All-nil, All-cons, All-head, All-tail}
-use Rattle.bt_rows.specs.Lists.{put_row, drop_row}
+use Rattle.std.proofs.lemmas.List.Elements.{All-cons, All-head, All-tail}
+use Rattle.bt_rows.specs.Lists.{put_row}
 
 module _ {R : Type 0} (key : R → Bool) where
   -- what holds of each row

@@ -1,7 +1,6 @@
 -- `put_row`, `drop_row` and `find` by the place at which the test passes first.
-use Rattle.std.proofs.Common.{◌≡◌, ℕ, suc, ◌+◌, ◌<◌, Bool, true, false, List, [], ◌∷◌, ◌++◌, length, Option, Some, None, MatchOption, cond, not, refl, sym, ◌∙◌, ap, subst, get_or, set, arith}
+use Rattle.std.proofs.Common.{◌≡◌, ℕ, suc, ◌+◌, ◌<◌, Bool, true, false, List, [], ◌∷◌, ◌++◌, length, Option, Some, None, MatchOption, cond, refl, sym, ◌∙◌, ap, subst, get_or, set, arith}
 use Rattle.std.specs.List.{position, position_from, find, remove}
-use Rattle.std.proofs.lemmas.Grind.{common_steps}
 use Rattle.std.proofs.lemmas.Iterator.Adapters.{position_from-zero}
 use Rattle.bt_rows.specs.Lists.{put_row, drop_row}
 

@@ -1,5 +1,5 @@
 -- The ranges of values that come from outside.
-use Rattle.std.specs.Prelude.{ℕ, ◌^◌, Bool, true, false, not, ◌&&◌, ◌||◌, nat_eq, nat_lt, nat_le, int_le, ℤ, pos, negsuc, List, [], ◌∷◌, length, sum_by, Option, is_some, is_none}
+use Rattle.std.specs.Prelude.{ℕ, ◌^◌, Bool, true, false, not, ◌&&◌, ◌||◌, nat_eq, nat_lt, nat_le, int_le, ℤ, pos, negsuc, List, [], ◌∷◌, length, Option, is_some, is_none}
 use Rattle.std.specs.Option.{option_map_or}
 use Rattle.std.specs.List.{list_all}
 use Rattle.bt_rows.specs.declared.limits.TheConstants.{DEPENDENCY_RANGE_LIMIT, TARGET_LIMIT, SLOT_LIMIT, INSTANCE_LIMIT, RETRY_LIMIT, LEAST_PRIORITY, GREATEST_PRIORITY, DURATION_LIMIT, LEAST_RESIZE_TIMEOUT, GREATEST_RESIZE_TIMEOUT}

@@ -58,7 +58,8 @@ impl Tables {
     pub fn find_prep(&self, job: &Id, node: u64) -> Option<&PrepRow>
         ensures { option_copied result ≡ find (prep_has_ids job.now node) self.now.state.preps }
     {
-        self.preps.find_by_text(&KeyText::of_number_and_id(node, job))
+        self.preps
+            .find_by_text(&KeyText::of_number_and_id(node, job))
     }
 
     /// The scaling of the pool with this id, but for case.

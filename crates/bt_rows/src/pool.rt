@@ -4,8 +4,8 @@ ghost use Rattle.bt_rows.specs.Keys.{pool_has_id, same_pool};
 ghost use Rattle.bt_rows.specs.Texts.{pool_text, pool_by_text, same_pool_by_text};
 
 pub use bt_base::Dealloc;
-use kept_table::{KeyText, Keyed};
 use bt_base::{CommandLine, Duplicate, Id, NoMemory};
+use kept_table::{KeyText, Keyed};
 
 /// Whether a pool is being resized (Azure: allocationState).
 #[derive(Clone, Copy, Debug, PartialEq, Eq)]

@@ -5,8 +5,8 @@ ghost use Rattle.bt_rows.specs.Metrics.{place_of_metric};
 ghost use Rattle.bt_rows.specs.Texts.{label_text, sample_text, sample_key_text, sample_by_text, same_sample_by_text};
 
 pub use bt_base::Metric;
-use kept_table::{KeyText, Keyed};
 use bt_base::{Duplicate, Id, NoMemory, Num};
+use kept_table::{KeyText, Keyed};
 
 /// A sample of a pool's metric (Azure: what `GetSample` of autoscale formulas reads). Its key is pool, metric and label.
 #[derive(Clone, Drop)]

@@ -113,9 +113,7 @@ fn is_to_settle(tables: &Tables, task: &TaskRow) -> bool
 fn first_to_settle<'a>(tables: &'a Tables) -> Option<&'a TaskRow>
     ensures { option_copied result ≡ find (is_to_settle tables.now.state) tables.now.state.tasks }
 {
-    tables
-        .tasks()
-        .find(|task| is_to_settle(tables, task))
+    tables.tasks().find(|task| is_to_settle(tables, task))
 }
 
 /// How a task is closed whose main run ended in this way at `now`, in milliseconds since 1970.

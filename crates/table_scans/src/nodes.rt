@@ -59,10 +59,7 @@ pub fn staying_count(tables: &Tables, pool: &Id) -> usize
     ensures { result ≡ staying_count tables.now.state pool.now }
 {
     let _few = tables.node_count();
-    tables
-        .nodes()
-        .filter(|node| stays(pool, node))
-        .count()
+    tables.nodes().filter(|node| stays(pool, node)).count()
 }
 
 /// Whether the pool's number of nodes is still to reach its target.

@@ -20,7 +20,8 @@ fn has_slots(tables: &Tables, node: u64, task: &TaskRow) -> bool
 fn has_holder(tables: &Tables, node: u64) -> bool
     ensures { result ≡ list_any (is_holder tables.now.state.runs node) tables.now.state.tasks }
 {
-    tables.tasks().any(|task| matches!(task.stage, TaskStage::Placed) && has_slots(tables, node, task))
+    tables.tasks().any(|task| matches!(task.stage, TaskStage::Placed)
+        && has_slots(tables, node, task))
 }
 
 /// Whether slots of the node with this number are held.

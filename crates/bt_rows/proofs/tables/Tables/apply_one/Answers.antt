@@ -1,4 +1,4 @@
-use Rattle.std.proofs.Common.{◌≡◌, refl}
+use Rattle.std.proofs.Common.{refl}
 use Rattle.bt_rows.proofs.tables.Tables.apply_one.Goals as goal
 
 pub returns-in-PutPool-clause-state : goal.returns-in-PutPool-clause-state

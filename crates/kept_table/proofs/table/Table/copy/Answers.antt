@@ -1,4 +1,4 @@
-use Rattle.std.proofs.Common.{◌≡◌, ap, sym, ◌∙◌}
+use Rattle.std.proofs.Common.{ap, ◌∙◌}
 use Rattle.kept_table.specs.Slots.{TableView, rows}
 use Rattle.kept_table.proofs.Closing.{rows_map}
 use Rattle.kept_table.proofs.table.Table.copy.Goals as goal

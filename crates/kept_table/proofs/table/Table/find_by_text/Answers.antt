@@ -1,4 +1,4 @@
-use Rattle.std.proofs.Common.{◌≡◌, sym, ◌∙◌}
+use Rattle.std.proofs.Common.{sym, ◌∙◌}
 use Rattle.kept_table.specs.Slots.{has_text}
 use Rattle.kept_table.proofs.Listed.{rows_found, rows_missed}
 use Rattle.kept_table.proofs.table.Table.find_by_text.Goals as goal
