@@ -1,5 +1,6 @@
 -- What a line of a script is.
 use Rattle.std.specs.Prelude.{ℕ, Bool, true, List, [], ◌∷◌, length, Option, Some, None, Result, Ok, Err, nat_lt, ◌==◌, codes, if◌then◌else◌}
+use Rattle.std.specs.List.{find}
 use Rattle.std.specs.Result.{result_ok}
 use Rattle.std.specs.Str.{bytes_eq}
 use Rattle.bt_base.specs.Fails.{◌>>=◌}
@@ -18,12 +19,28 @@ use Rattle.wire_bodies.specs.Collections.{collection_of}
 use Rattle.wire_lines.specs.declared.line.TheConstants.{LINE_LIMIT}
 use Rattle.wire_lines.specs.declared.line.LineRequest.{LineRequest}
 use Rattle.wire_lines.specs.declared.line.LineRequest.TheVariants.{Skip, Call}
-use Rattle.wire_lines.specs.declared.line_word.LineWord.{LineWord}
-use Rattle.wire_lines.specs.declared.line_word.LineWord.TheVariants as words
-use Rattle.wire_lines.specs.Words.{word_in}
+use Rattle.wire_lines.specs.declared.line.LineWord.{LineWord}
+use Rattle.wire_lines.specs.declared.line.LineWord.TheVariants as words
 use Rattle.wire_lines.specs.Parts.{two_parts, just_two}
 use Rattle.wire_lines.specs.Endings.{moment_in, ending_in}
 use Rattle.wire_numbers.specs.Numbers.{number_in}
+
+-- the text of a word
+unfoldable pub word_text : LineWord → List ℕ
+word_text words.AddPool = codes "add-pool"
+word_text words.AddJob = codes "add-job"
+word_text words.AddTask = codes "add-task"
+word_text words.AddTasks = codes "add-tasks"
+word_text words.Take = codes "take"
+word_text words.End = codes "end"
+
+-- the words, each once
+abbrev pub all_words : List LineWord
+all_words = words.AddPool ∷ words.AddJob ∷ words.AddTask ∷ words.AddTasks ∷ words.Take ∷ words.End ∷ []
+
+-- the word with this text
+unfoldable pub word_in : List ℕ → Option LineWord
+word_in text = find (λ word. bytes_eq text (word_text word)) all_words
 
 -- the value; if there is none, the line is not a valid request
 abbrev pub or_unreadable : {A : Type 0} → Option A → Result A Refusal

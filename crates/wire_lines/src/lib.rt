@@ -3,7 +3,6 @@
 
 mod ending;
 mod line;
-mod line_word;
 mod parts;
 mod script;
 

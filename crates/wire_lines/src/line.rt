@@ -2,10 +2,9 @@
 ghost use Rattle.std.specs.Prelude.{◌≡◌, true, IfOk};
 ghost use Rattle.bt_base.specs.Fails.{Gives, GivesAs};
 ghost use Rattle.bt_rows.specs.Ranges.{is_event_in_range};
-ghost use Rattle.wire_lines.specs.Lines.{or_unreadable, id_argument, job_and_body, event_with, event_with_arguments, event_in, call_in, line_of, is_skipped};
+ghost use Rattle.wire_lines.specs.Lines.{or_unreadable, id_argument, job_and_body, event_with, event_with_arguments, event_in, call_in, line_of, is_skipped, word_text, word_in};
 
 use crate::ending::{read_ending, read_moment};
-use crate::line_word::LineWord;
 use crate::parts::{split_just_two, split_two};
 use bt_base::{Fail, Id, Moment, text_of};
 use bt_rows::event::{Event, EventKind};
@@ -15,6 +14,58 @@ use std::alloc::Global;
 use wire_bodies::{read_collection, read_job, read_pool, read_task};
 use wire_members::invalid_property;
 use wire_numbers::read_number;
+
+/// The word of a line, which names the kind of its event.
+#[derive(Clone, Copy, Debug, PartialEq, Eq)]
+pub enum LineWord {
+    /// A pool is added.
+    AddPool,
+    /// A job is added.
+    AddJob,
+    /// A task is added.
+    AddTask,
+    /// Tasks are added.
+    AddTasks,
+    /// A run's child program is being started.
+    Take,
+    /// A run's child program has ended.
+    End,
+}
+
+impl LineWord {
+    /// The word's text. It does not allocate.
+    #[tactic(auto, unfolding(crate::specs::Lines::word_text))]
+    pub fn text(self) -> &'static str
+        ensures { result.now ≡ word_text self }
+    {
+        match self {
+            LineWord::AddPool => "add-pool",
+            LineWord::AddJob => "add-job",
+            LineWord::AddTask => "add-task",
+            LineWord::AddTasks => "add-tasks",
+            LineWord::Take => "take",
+            LineWord::End => "end",
+        }
+    }
+
+    /// The word with this text, if there is one. It does not allocate.
+    #[tactic(auto, unfolding(crate::specs::Lines::word_in))]
+    pub fn read(text: &[u8]) -> Option<LineWord>
+        ensures { result ≡ word_in text.now }
+    {
+        let all = [
+            LineWord::AddPool,
+            LineWord::AddJob,
+            LineWord::AddTask,
+            LineWord::AddTasks,
+            LineWord::Take,
+            LineWord::End,
+        ];
+        all.iter()
+            .copied()
+            .find(|word| text == word.text().as_bytes())
+    }
+}
 
 /// What a line is.
 #[derive(Drop)]
