@@ -3,7 +3,6 @@ use Rattle.std.specs.Prelude.{◌≡◌, ℕ, Bool, true, false, nat_eq, nat_le,
 use Rattle.std.specs.List.{list_all}
 use Rattle.bt_base.specs.Ids.{same}
 use Rattle.bt_rows.specs.declared.limits.TheConstants.{NUMBER_LIMIT}
-
 -- the one of several rows that comes before the others
 pub use Rattle.bt_rows.specs.Choice.{best}
 
