@@ -1,8 +1,9 @@
 //! The places of tasks and runs, which stay the same until free places are closed up; and the numbers of rows.
 ghost use Rattle.std.specs.Prelude.{◌≡◌, length, map, Some, OnOk, OnErr};
 ghost use Rattle.std.specs.Option.{option_copied};
-ghost use Rattle.kept_table.specs.Slots.{place_of, slot_at, rows, is_sparse};
+ghost use Rattle.kept_table.specs.Slots.{AreApart, place_of, slot_at, rows, is_sparse};
 ghost use Rattle.bt_rows.specs.Keys.{task_has_ids, run_has_number};
+ghost use Rattle.bt_rows.specs.Texts.{run_text, task_text};
 
 use crate::run::RunRow;
 use crate::tables::Tables;
@@ -89,6 +90,15 @@ impl Tables {
         ensures runs { rows self.now.run_slots ≡ self.now.state.runs }
     {
         let _ = &self.tasks;
+    }
+
+    /// Tells callers that no two tasks and no two runs have the same key. It does nothing at run time.
+    pub fn keys_known(&self)
+        ensures tasks { AreApart task_text self.now.task_slots }
+        ensures runs { AreApart run_text self.now.run_slots }
+    {
+        let _tasks = self.tasks.slots();
+        let _runs = self.runs.slots();
     }
 
     /// Whether more than half of the places of tasks are free.
