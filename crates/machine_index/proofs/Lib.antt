@@ -1,0 +1,4 @@
+pub mod AttemptTexts
+pub mod ChangedSlots
+pub mod LowestPlaces
+pub mod RunPlaces
