@@ -1,1 +1,3 @@
 pub mod Attempts
+pub mod Over
+pub mod Ready

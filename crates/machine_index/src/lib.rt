@@ -3,7 +3,11 @@
 #![tactic(auto)]
 
 mod attempt_text;
+mod placed_tasks;
+mod ready_tasks;
 mod row_tests;
 mod runs_of_attempts;
 
+pub use placed_tasks::{PlacedTasks, place_of_run};
+pub use ready_tasks::ReadyTasks;
 pub use runs_of_attempts::RunsOfAttempts;
