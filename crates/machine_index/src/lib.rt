@@ -3,6 +3,7 @@
 #![tactic(auto)]
 
 mod attempt_text;
+mod node_sums;
 mod placed_tasks;
 mod ready_tasks;
 mod row_tests;
