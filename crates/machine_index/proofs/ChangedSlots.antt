@@ -1,5 +1,5 @@
 -- Rows at places after a change of one place.
-use Rattle.std.proofs.Common.{◌≡◌, ℕ, zero, suc, List, [], ◌∷◌, ◌++◌, length, set, Option, Some, None, refl, sym, ap, ◌∙◌}
+use Rattle.std.proofs.Common.{◌≡◌, ℕ, zero, suc, List, [], ◌∷◌, ◌++◌, length, set, Option, Some, None, refl, ap}
 use Rattle.std.specs.Option.{unwrap_or}
 use Rattle.kept_table.specs.Slots.{slot_at, put_at, clear_at}
 
@@ -32,7 +32,7 @@ module _ {R : Type 0} where
   put_origin None slots row at found h = pushed slots row at found h
   put_origin (Some place) slots row at found h = replaced slots place row at found h
 
-  freed : (slots : List (Option R)) (place at : ℕ) (found : R) → slot_at (set slots place None) at ≡ Some found → slot_at slots at ≡ Some found
+  pub freed : (slots : List (Option R)) (place at : ℕ) (found : R) → slot_at (set slots place None) at ≡ Some found → slot_at slots at ≡ Some found
   freed [] place at found h = absurd (cc)
   freed (slot ∷ slots) zero zero found h = absurd (cc)
   freed (slot ∷ slots) zero (suc at) found h = h

@@ -1,5 +1,7 @@
 pub mod AttemptTexts
 pub mod ChangedSlots
+pub mod HeldSums
+pub mod HeldTasks
 pub mod LowestPlaces
 pub mod RunPlaces
 pub mod OverRanks

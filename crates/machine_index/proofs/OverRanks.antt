@@ -1,7 +1,6 @@
 -- The ranks of tasks that are over after a change.
-use Rattle.std.proofs.Common.{◌≡◌, ℕ, zero, suc, ◌<◌, ◌≤◌, Bool, true, false, cond, not, ◌&&◌, nat_le, nat_eq, IfSome, ◌⊎◌, inl, inr, List, [], ◌∷◌, ◌++◌, length, set, get_or, Option, Some, None, refl, sym, ap, subst, ◌∙◌, ⊎_elim, arith}
+use Rattle.std.proofs.Common.{◌≡◌, ℕ, zero, suc, ◌<◌, Bool, true, false, cond, not, ◌&&◌, nat_le, nat_eq, IfSome, ◌⊎◌, inl, inr, List, [], ◌∷◌, ◌++◌, length, set, get_or, Option, Some, None, refl, sym, ap, subst, ◌∙◌, ⊎_elim, arith}
 use Rattle.std.specs.Option.{option_map}
-use Rattle.std.specs.List.{list_any}
 use Rattle.std.proofs.lemmas.Bool.{cases_Bool, cases_eq, cond-true, cond-false}
 use Rattle.std.proofs.lemmas.Slice.Eq.{bytes_eq-Decides}
 use Rattle.std.specs.Str.{bytes_eq}
@@ -185,7 +184,7 @@ with_other runs slots None ranks place h = refl
 with_other runs slots (Some at) ranks place h =
     get_or-set_other ranks at place (over_rank runs (slot_at slots at)) no_rank (λ e. h (ap (λ (k : ℕ). Some k) (sym e)))
 
-is_some_or : (at : Option ℕ) (place : ℕ) → (at ≡ Some place) ⊎ (at ≡ Some place → ⊥)
+pub is_some_or : (at : Option ℕ) (place : ℕ) → (at ≡ Some place) ⊎ (at ≡ Some place → ⊥)
 is_some_or None place = inr (λ e. cc)
 is_some_or (Some at) place = ⊎_elim (λ (e : at ≡ place). inl (ap (λ (k : ℕ). Some k) e)) (λ (e : at ≡ place → ⊥). inr (λ q. e cc)) (cases_eq at place)
 

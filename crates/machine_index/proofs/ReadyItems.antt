@@ -1,13 +1,12 @@
 -- The items are those of the tasks after a change.
-use Rattle.std.proofs.Common.{◌≡◌, ℕ, zero, suc, ◌<◌, Bool, true, false, cond, ◌&&◌, nat_le, leb, List, [], ◌∷◌, ◌++◌, length, set, Option, Some, None, refl, sym, ap, ◌∙◌, ⊎_elim, arith}
+use Rattle.std.proofs.Common.{◌≡◌, ℕ, zero, suc, ◌<◌, Bool, true, false, cond, ◌&&◌, nat_le, List, [], ◌∷◌, ◌++◌, length, set, Option, Some, None, refl, sym, ap, ◌∙◌, ⊎_elim}
 use Rattle.std.specs.Option.{option_map}
-use Rattle.std.specs.Str.{bytes_eq}
 use Rattle.std.proofs.lemmas.Bool.{cases_Bool, cond-false, lt-leb, and_right}
 use Rattle.std.proofs.lemmas.Slice.Eq.{bytes_eq-Decides}
 use Rattle.bt_base.specs.Ids.{same}
 use Rattle.first_tree.specs.Ranks.{no_rank}
 use Rattle.kept_table.specs.Keys.{id_text}
-use Rattle.kept_table.specs.Slots.{holds, place_of, put_at, clear_at}
+use Rattle.kept_table.specs.Slots.{place_of, put_at}
 use Rattle.kept_table.proofs.KeyTexts.{same-id}
 use Rattle.kept_table.proofs.PlacesOf.{here, behind}
 use Rattle.ranked_groups.specs.Items.{Item, is_of, first_of, set_rank}

@@ -1,8 +1,8 @@
 -- Each run is at one of the places of its attempt after a change.
-use Rattle.std.proofs.Common.{◌≡◌, ℕ, Bool, true, not, ◌&&◌, IsTrue, ◌↔◌, nat_eq, List, [], Option, Some, None, length, refl, sym, ap, subst, ◌∙◌, ⊎_elim, ◌∷◌, false, cond}
+use Rattle.std.proofs.Common.{◌≡◌, ℕ, Bool, true, ◌&&◌, IsTrue, ◌↔◌, nat_eq, List, [], Option, Some, None, length, refl, sym, ap, subst, ◌∙◌, ⊎_elim, ◌∷◌, false}
 use Rattle.std.specs.Option.{unwrap_or}
 use Rattle.std.specs.List.{Contains, IsDistinct}
-use Rattle.kept_table.specs.Slots.{slot_at, put_at, clear_at}
+use Rattle.kept_table.specs.Slots.{put_at, clear_at}
 use Rattle.text_chains.specs.Chains.{ChainsView, places_of}
 use Rattle.text_chains.specs.Places.{HasPassing}
 use Rattle.batch_model.specs.Runs.{is_present, is_busy_for, is_main, is_unended}

@@ -1,9 +1,8 @@
 -- The places of the runs of an attempt.
 use Rattle.std.specs.Prelude.{◌≡◌, ℕ, Bool, nat_eq, min, List, [], ◌∷◌, ◌++◌, Option, Some, None, if◌then◌else◌}
-use Rattle.std.specs.Option.{option_map, option_and_then, unwrap_or}
 use Rattle.std.specs.List.{Contains, IsDistinct}
 use Rattle.kept_table.specs.Keys.{number_text, ids_text}
-use Rattle.kept_table.specs.Slots.{slot_at, holds}
+use Rattle.kept_table.specs.Slots.{slot_at}
 use Rattle.text_chains.specs.Chains.{ChainsView, places_of}
 use Rattle.batch_model.specs.Variants.{TaskRow, RunRow}
 

@@ -9,11 +9,12 @@ ghost use Rattle.batch_model.specs.Variants.{TaskRow, RunRow};
 ghost use Rattle.machine_index.specs.Attempts.{HasRuns};
 ghost use Rattle.machine_index.specs.Over.{AreOver, over_rank, place_of_run, with_rank};
 
+use crate::row_tests::is_placed;
 use crate::runs_of_attempts::RunsOfAttempts;
 use bt_base::NoMemory;
 use bt_rows::run::RunRow;
 use bt_rows::tables::Tables;
-use bt_rows::task::{TaskRow, TaskStage};
+use bt_rows::task::TaskRow;
 use first_tree::{FirstTree, NO_RANK};
 use std::alloc::Global;
 use std::marker::Model;
@@ -39,7 +40,7 @@ fn rank_of(tables: &Tables, runs: &RunsOfAttempts, task: &TaskRow) -> u64
     requires { HasRuns runs.now tables.now.run_slots }
     ensures { result ≡ over_rank tables.now.state.runs (Some task.now) }
 {
-    if task.stage == TaskStage::Placed && !runs.is_busy(tables, task) {
+    if is_placed(task) && !runs.is_busy(tables, task) {
         0
     } else {
         NO_RANK

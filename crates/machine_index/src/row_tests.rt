@@ -2,10 +2,11 @@
 ghost use Rattle.std.specs.Prelude.{◌≡◌, ◌&&◌};
 ghost use Rattle.batch_model.specs.Finding.{names};
 ghost use Rattle.batch_model.specs.Runs.{is_present, is_busy_for, is_main, is_unended};
+ghost use Rattle.batch_model.specs.Tasks.{is_placed};
 
 use bt_base::Id;
 use bt_rows::run::{RunKind, RunRow, RunState};
-use bt_rows::task::TaskRow;
+use bt_rows::task::{TaskRow, TaskStage};
 
 /// Whether the name is there and is this id, whatever its case.
 fn names(name: &Option<Id>, id: &Id) -> bool
@@ -15,6 +16,13 @@ fn names(name: &Option<Id>, id: &Id) -> bool
         None => false,
         Some(name) => name.same(id),
     }
+}
+
+/// Whether the task is placed.
+pub fn is_placed(task: &TaskRow) -> bool
+    ensures { result ≡ is_placed task.now.stage }
+{
+    task.stage == TaskStage::Placed
 }
 
 /// Whether the run is of the task's present attempt.

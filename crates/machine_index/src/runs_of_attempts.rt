@@ -16,7 +16,7 @@ use bt_rows::tables::Tables;
 use bt_rows::task::TaskRow;
 use std::alloc::Global;
 use std::marker::Model;
-use text_chains::TextChains;
+use text_chains::{Places, TextChains};
 
 /// The places of the runs of each attempt of a task.
 ///
@@ -103,6 +103,14 @@ impl RunsOfAttempts {
             None => {}
             Some(text) => self.add_place(&text, place),
         }
+    }
+
+    /// The places of the runs of the task's present attempt, and perhaps others.
+    pub fn places(&self, task: &TaskRow) -> Places<'_>
+        ensures { result ≡ places_of self.now (present_text task.now) }
+    {
+        let text = AttemptText::present(task);
+        self.chains.places(text.as_slice())
     }
 
     /// Whether a run of the task's present attempt has not ended.

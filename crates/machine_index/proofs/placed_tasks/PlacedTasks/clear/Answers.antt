@@ -1,4 +1,4 @@
-use Rattle.std.proofs.Common.{◌≡◌, List, ℕ, None, set, sym, ap, subst, ◌∙◌, arith}
+use Rattle.std.proofs.Common.{◌≡◌, None, set, sym, ap, subst, ◌∙◌, arith}
 use Rattle.first_tree.specs.Ranks.{Ranks, no_rank}
 use Rattle.machine_index.specs.Over.{AreOver}
 use Rattle.machine_index.proofs.OverRanks.{over_set}

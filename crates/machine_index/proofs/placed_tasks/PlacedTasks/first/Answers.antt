@@ -3,7 +3,6 @@ use Rattle.std.specs.List.{find}
 use Rattle.first_tree.specs.Ranks.{Ranks, first_within}
 use Rattle.kept_table.specs.Slots.{place_of}
 use Rattle.kept_table.proofs.Listed.{rows_found, rows_missed}
-use Rattle.batch_model.specs.Settling.{is_over}
 use Rattle.machine_index.specs.Over.{is_over_in}
 use Rattle.machine_index.proofs.OverRanks.{over_first}
 use Rattle.machine_index.proofs.placed_tasks.PlacedTasks.first.Goals as goal

@@ -1,4 +1,4 @@
-use Rattle.std.proofs.Common.{◌≡◌, ◌<◌, IfSome, length, Option, List, ℕ, [], ◌∷◌, ◌++◌, Some, None, set, sym, ap, subst, ◌∙◌, arith}
+use Rattle.std.proofs.Common.{◌≡◌, ◌<◌, IfSome, length, Option, ℕ, [], ◌∷◌, ◌++◌, Some, set, sym, ap, subst, ◌∙◌, arith}
 use Rattle.first_tree.specs.Ranks.{Ranks}
 use Rattle.kept_table.specs.Slots.{put_at}
 use Rattle.machine_index.specs.Over.{AreOver, over_rank}

@@ -1,6 +1,6 @@
 use Rattle.std.proofs.Common.{◌≡◌, Option, List, ℕ, [], ◌∷◌, ◌++◌, Some, None, sym, ap, subst, ◌∙◌}
 use Rattle.kept_table.specs.Slots.{put_at}
-use Rattle.ranked_groups.specs.Items.{Item, GroupsView, set_rank}
+use Rattle.ranked_groups.specs.Items.{GroupsView, set_rank}
 use Rattle.machine_index.specs.Ready.{AreItemsOf, ready_rank, ready_item}
 use Rattle.machine_index.proofs.ReadyItems.{items_put}
 use Rattle.machine_index.proofs.ready_tasks.ReadyTasks.put.Goals as goal

@@ -1,4 +1,4 @@
-use Rattle.std.proofs.Common.{◌≡◌, List, ℕ, ap, sym, subst, ◌∙◌}
+use Rattle.std.proofs.Common.{◌≡◌, List, ℕ, ap, ◌∙◌}
 use Rattle.text_chains.specs.Chains.{ChainsView, places_of, with_place}
 use Rattle.machine_index.proofs.RunPlaces.{place_added, not_has}
 use Rattle.machine_index.proofs.runs_of_attempts.RunsOfAttempts.add_place.Goals as goal

@@ -1,6 +1,6 @@
-use Rattle.std.proofs.Common.{◌≡◌, ◌&&◌, Bool, Option, Some, None, sym, ap, ◌∙◌}
+use Rattle.std.proofs.Common.{◌≡◌, ◌&&◌, Bool, Some, None, sym, ap, ◌∙◌}
 use Rattle.std.specs.List.{find}
-use Rattle.kept_table.specs.Slots.{slot_at, place_of}
+use Rattle.kept_table.specs.Slots.{place_of}
 use Rattle.kept_table.proofs.Listed.{rows_found, rows_missed}
 use Rattle.text_chains.specs.Chains.{places_of}
 use Rattle.batch_model.specs.Runs.{is_present, is_main}
