@@ -1,0 +1,9 @@
+pub mod AttemptTexts
+pub mod ChangedSlots
+pub mod HeldSums
+pub mod HeldTasks
+pub mod LowestPlaces
+pub mod RunPlaces
+pub mod OverRanks
+pub mod ReadyItems
+pub mod RunSteps

@@ -1,0 +1,4 @@
+pub mod Attempts
+pub mod Held
+pub mod Over
+pub mod Ready

@@ -1,0 +1,16 @@
+//! What the due rules look for, kept beside the tables: each part follows every change of the tables, so that none walks them.
+//! Places are those of the tables' tasks and runs.
+#![tactic(auto)]
+
+mod attempt_text;
+mod held_slots;
+mod node_sums;
+mod placed_tasks;
+mod ready_tasks;
+mod row_tests;
+mod runs_of_attempts;
+
+pub use held_slots::HeldSlots;
+pub use placed_tasks::{PlacedTasks, place_of_run};
+pub use ready_tasks::ReadyTasks;
+pub use runs_of_attempts::RunsOfAttempts;

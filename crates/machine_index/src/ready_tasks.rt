@@ -1,0 +1,112 @@
+//! The ready tasks of each job.
+ghost use Rattle.std.specs.Prelude.{◌≡◌, ◌+◌, ◌<◌, ◌≤◌, List, [], Option, Some, None, length, set, IfSome, OnOk};
+ghost use Rattle.std.specs.List.{find};
+ghost use Rattle.std.specs.Option.{option_copied};
+ghost use Rattle.kept_table.specs.Slots.{place_of, put_at};
+ghost use Rattle.bt_rows.specs.Keys.{same_task};
+ghost use Rattle.batch_model.specs.Placing.{is_empty, is_ready};
+ghost use Rattle.batch_model.specs.Variants.{TaskRow};
+ghost use Rattle.machine_index.specs.Ready.{AreItemsOf, is_ready_within, ready_rank};
+
+use bt_base::{Id, NoMemory};
+use bt_rows::tables::Tables;
+use bt_rows::task::{TaskRow, TaskStage};
+use first_tree::NO_RANK;
+use kept_table::KeyText;
+use ranked_groups::RankedGroups;
+use std::alloc::Global;
+use std::marker::Model;
+
+/// The ready tasks of each job, by the slots that they ask for.
+///
+/// Contracts see an item for each place of the tables' tasks, and beside them the room: how many more tasks can be put without allocating.
+#[derive(Drop)]
+pub struct ReadyTasks {
+    groups: RankedGroups,
+}
+
+impl Model for ReadyTasks {
+    ghost use Rattle.ranked_groups.specs.Items.{GroupsView};
+
+    ghost Value = { GroupsView };
+
+    ghost view = { λ r. r.groups };
+}
+
+/// Whether the task is ready: active, on one node, and depending on nothing.
+fn is_ready(task: &TaskRow) -> bool
+    ensures { result ≡ is_ready task.now }
+{
+    task.stage == TaskStage::Active
+        && task.needs.as_slice().is_empty()
+        && task.spans.as_slice().is_empty()
+        && task.multi.is_none()
+}
+
+/// The slots that a ready task asks for, and no rank of another one.
+fn ready_rank(task: &TaskRow) -> u64
+    ensures { result ≡ ready_rank task.now }
+{
+    if is_ready(task) {
+        u64::from(task.slots)
+    } else {
+        NO_RANK
+    }
+}
+
+impl ReadyTasks {
+    /// No tasks. It does not allocate.
+    pub fn new(alloc: Global) -> ReadyTasks
+        ensures { AreItemsOf [] result.items }
+    {
+        ReadyTasks {
+            groups: RankedGroups::new(alloc),
+        }
+    }
+
+    /// Makes room for this many more tasks. The only error is out of memory.
+    pub fn reserve(&mut self, additional: usize) -> Result<(), NoMemory>
+        ensures items { self.new.items ≡ self.old.items }
+        ensures room { OnOk result (additional ≤ self.new.room) }
+    {
+        self.groups.reserve(additional)
+    }
+
+    /// Follows a task that is put at the place of the one with its key, or else at the end. It does not allocate.
+    pub fn put(&mut self, before: Option<usize>, task: &TaskRow)
+        requires room { 0 < self.old.room }
+        requires place { IfSome before (λ place. place < length self.old.items) }
+        ensures items { (slots : List (Option TaskRow)) → before ≡ place_of (λ old. same_task old task.now) slots → AreItemsOf slots self.old.items → AreItemsOf (put_at before task.now slots) self.new.items }
+        ensures room { self.old.room ≤ self.new.room + 1 }
+    {
+        match before {
+            None => {
+                let group = KeyText::of_id(&task.job);
+                self.groups.push(group.as_slice(), ready_rank(task));
+            }
+            Some(place) => self.groups.set(place, ready_rank(task)),
+        }
+    }
+
+    /// Follows a task that is removed from this place. It does not allocate.
+    pub fn clear(&mut self, place: usize)
+        requires { place < length self.old.items }
+        ensures items { (slots : List (Option TaskRow)) → AreItemsOf slots self.old.items → AreItemsOf (set slots place None) self.new.items }
+        ensures room { self.new.room ≡ self.old.room }
+    {
+        self.groups.set(place, NO_RANK);
+    }
+
+    /// The first ready task of the job that asks for at most so many slots. None if there is none. It does not allocate.
+    pub fn first<'a>(&self, tables: &'a Tables, job: &Id, most: u8) -> Option<&'a TaskRow>
+        requires { AreItemsOf tables.now.task_slots self.now.items }
+        ensures { option_copied result ≡ find (is_ready_within job.now most) tables.now.state.tasks }
+    {
+        tables.places_known();
+        let group = KeyText::of_id(job);
+        match self.groups.first(group.as_slice(), u64::from(most)) {
+            None => None,
+            Some(place) => tables.task_at(place),
+        }
+    }
+}
