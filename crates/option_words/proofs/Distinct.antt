@@ -1,5 +1,6 @@
 -- Options that are read word by word are those of the grammar, if none is given twice.
-use Rattle.std.proofs.Common.{◌≡◌, ◌∙◌, Bool, true, false, cond, not, ◌&&◌, ◌||◌, List, [], ◌∷◌, ◌++◌, Option, Some, None, refl, sym, ap, ap₂, option_map, option_and_then, append-nil, append_assoc}
+use Rattle.std.proofs.Common.{◌≡◌, ◌∙◌, Bool, true, false, cond, not, ◌&&◌, ◌||◌, List, [], ◌∷◌, ◌++◌, Option, Some, None, refl, sym, ap, ap₂}
+use Rattle.std.proofs.Common.{option_map, option_and_then, append-nil, append_assoc}
 use Rattle.std.specs.List.{list_all}
 use Rattle.std.specs.Option.{option_map_or}
 use Rattle.std.specs.Str.{bytes_eq}
@@ -29,27 +30,33 @@ single done s = refl
 module _ (names : List Text) where
   -- the words after a setting
   after : (rest : List Text) → ((d : Settings) → read names d None rest ≡ option_and_then (add_all d) (all_in names rest)) → (done : Settings) (s : Setting)
-      → option_and_then (λ (d : Settings). read names d None rest) (with_setting done s) ≡ option_and_then (add_all done) (option_map (λ more. s ∷ more) (all_in names rest))
+      → option_and_then (λ (d : Settings). read names d None rest) (with_setting done s)
+      ≡ option_and_then (add_all done) (option_map (λ more. s ∷ more) (all_in names rest))
   after rest more done s = (λ i. option_and_then (λ (d : Settings). more d i) (with_setting done s)) ∙ add_first done s (all_in names rest)
 
   read_all : (words : List Text) (done : Settings) → read names done None words ≡ option_and_then (add_all done) (all_in names words)
   read_all [] done = refl
   read_all (w ∷ []) done = go (joined_in names w) (option_in names w)
     where
-      go : (o : Option Setting) (a : Option Text) → option_map_or (λ (s : Setting). option_and_then (λ (d : Settings). read names d None []) (with_setting done s)) o
+      go : (o : Option Setting) (a : Option Text) → option_map_or (λ (s : Setting). option_and_then (λ (d : Settings). read names d None [])
+          (with_setting done s)) o
           (option_and_then (λ (name : Text). read names done (Some name) []) a) ≡ option_and_then (add_all done) (option_map (λ s. s ∷ []) o)
       go (Some s) a = refl
       go None None = refl
       go None (Some name) = refl
-  read_all (w ∷ next ∷ rest) done = go (joined_in names w) (option_in names w) (begins_with_hyphen next) (after (next ∷ rest) (λ d. read_all (next ∷ rest) d) done) (after rest (λ d. read_all rest d) done)
+  read_all (w ∷ next ∷ rest) done = go (joined_in names w) (option_in names w) (begins_with_hyphen next)
+      (after (next ∷ rest) (λ d. read_all (next ∷ rest) d) done) (after rest (λ d. read_all rest d) done)
     where
       go : (o : Option Setting) (a : Option Text) (b : Bool)
-          → ((s : Setting) → option_and_then (λ (d : Settings). read names d None (next ∷ rest)) (with_setting done s) ≡ option_and_then (add_all done) (option_map (λ more. s ∷ more) (all_in names (next ∷ rest))))
-          → ((s : Setting) → option_and_then (λ (d : Settings). read names d None rest) (with_setting done s) ≡ option_and_then (add_all done) (option_map (λ more. s ∷ more) (all_in names rest)))
+          → ((s : Setting) → option_and_then (λ (d : Settings). read names d None (next ∷ rest)) (with_setting done s)
+          ≡ option_and_then (add_all done) (option_map (λ more. s ∷ more) (all_in names (next ∷ rest))))
+          → ((s : Setting) → option_and_then (λ (d : Settings). read names d None rest) (with_setting done s)
+          ≡ option_and_then (add_all done) (option_map (λ more. s ∷ more) (all_in names rest)))
           → option_map_or (λ (s : Setting). option_and_then (λ (d : Settings). read names d None (next ∷ rest)) (with_setting done s)) o
           (option_and_then (λ (name : Text). cond b None (option_and_then (λ (d : Settings). read names d None rest) (with_setting done (name, next)))) a)
           ≡ option_and_then (add_all done) (option_map_or (λ (s : Setting). option_map (λ more. s ∷ more) (all_in names (next ∷ rest))) o
-          (option_and_then (λ (s : Setting). option_map (λ more. s ∷ more) (all_in names rest)) (cond b None (option_map {U = Setting} (λ name. (name, next)) a))))
+          (option_and_then (λ (s : Setting). option_map (λ more. s ∷ more) (all_in names rest))
+          (cond b None (option_map {U = Setting} (λ name. (name, next)) a))))
       go (Some s) a b joined separate = joined s
       go None None true joined separate = refl
       go None None false joined separate = refl

@@ -1,13 +1,17 @@
 -- A command with long options takes the words at which it has no fault.
-use Rattle.std.proofs.Common.{◌≡◌, ◌∙◌, ℕ, suc, zero, ◌==◌, Bool, true, false, cond, ◌&&◌, ◌||◌, List, [], ◌∷◌, Option, Some, None, refl, sym, ap, ap₂, arith, length, true≢false}
+use Rattle.std.proofs.Common.{◌≡◌, ◌∙◌, ℕ, suc, zero, ◌==◌, Bool, true, false, cond, ◌&&◌, ◌||◌, List, [], ◌∷◌, Option, Some, None, refl, sym, ap}
+use Rattle.std.proofs.Common.{ap₂, arith, length, true≢false}
 use Rattle.std.specs.Prelude.{slice_get}
 use Rattle.std.specs.Option.{is_some, option_map_or}
 use Rattle.std.specs.Str.{bytes_eq, chars}
 use Rattle.clap.specs.Kinds.{Kinds, or_else}
 use Rattle.clap.specs.Lexer.{long_of, short_of}
-use Rattle.clap.specs.Walk.{Held, Row, Rule, Step, Waiting, Walk, arg_by_id, arg_by_long, has_row, idle, next, nothing_held, option, positional, settled, subcommand, trailing, value, walk, walk_from, walked, word_met}
-use Rattle.clap.specs.Takes.{bundle_step_passes, flag_word_passes, flags_pass, long_passes, other_passes, settle_passes, step_passes, takes, turn_passes, use_passes, walk_passes, word_passes}
-use Rattle.clap.specs.Faults.{bundle_step_fault, fault_of, flag_word_fault, is_free_app, flags_fault, is_simple_and_free, level_fault, long_fault, other_fault, settle_fault, step_fault, turn_fault, use_fault, walk_fault, word_fault, built_fault}
+use Rattle.clap.specs.Walk.{Held, Row, Rule, Step, Waiting, Walk, arg_by_id, arg_by_long, has_row, idle, next, nothing_held, option, positional}
+use Rattle.clap.specs.Walk.{settled, subcommand, trailing, value, walk, walk_from, walked, word_met}
+use Rattle.clap.specs.Takes.{bundle_step_passes, flag_word_passes, flags_pass, long_passes, other_passes, settle_passes, step_passes, takes}
+use Rattle.clap.specs.Takes.{turn_passes, use_passes, walk_passes, word_passes}
+use Rattle.clap.specs.Faults.{bundle_step_fault, fault_of, flag_word_fault, is_free_app, flags_fault, is_simple_and_free, level_fault, long_fault}
+use Rattle.clap.specs.Faults.{other_fault, settle_fault, step_fault, turn_fault, use_fault, walk_fault, word_fault, built_fault}
 use Rattle.std.proofs.lemmas.Bool.Decides.{nat_tests}
 use Rattle.clap.specs.Simple.{App, Shape}
 use Rattle.clap.proofs.FaultLemmas.{leaf_fault}
@@ -65,7 +69,8 @@ module _ (name : Text) (names : List Text) where
       found true t values e = use_clear t values h.rows e
       found false t values e = refl
 
-      go : (p : Option (Text × List Text)) → option_map_or (λ (p : Text × List Text). option_map_or (λ (a : Rule). use_fault false a p.1 h.rows) (arg_by_id c p.0) []) p [] ≡ []
+      go : (p : Option (Text × List Text)) → option_map_or (λ (p : Text × List Text). option_map_or (λ (a : Rule). use_fault false a p.1 h.rows)
+          (arg_by_id c p.0) []) p [] ≡ []
           → option_map_or (λ (p : Text × List Text). option_map_or (λ (a : Rule). use_passes false a p.1 h.rows) (arg_by_id c p.0) true) p true ≡ true
       go None e = refl
       go (Some p) e = rw (by_id names p.0) (found (is_known names p.0) p.0 p.1 (rw (by_id names p.0) at e))
@@ -73,14 +78,16 @@ module _ (name : Text) (names : List Text) where
   long_clear : (t : Text) (v : Option Text) (h : Held) → long_fault c false (arg_by_long c t) v h ≡ [] → long_passes c false (arg_by_long c t) v h ≡ true
   long_clear t v h e = rw (by_long names t) (go (is_known names t) v (rw (by_long names t) at e))
     where
-      go : (b : Bool) (v : Option Text) → long_fault c false (cond b (Some (full t)) None) v h ≡ [] → long_passes c false (cond b (Some (full t)) None) v h ≡ true
+      go : (b : Bool) (v : Option Text) → long_fault c false (cond b (Some (full t)) None) v h ≡ []
+          → long_passes c false (cond b (Some (full t)) None) v h ≡ true
       go false v e = never _ refl e
       go true None e = settle_clear h e
       go true (Some u) e =
           let parts = halves (settle_fault c false h) (use_fault false (full t) (u ∷ []) (settled c h).rows) e in
           ap₂ ◌&&◌ (settle_clear h parts.0) (use_clear t (u ∷ []) (settled c h).rows parts.1)
 
-  flag_word_clear : (o : Option (Text × Option Text)) (word : Text) (h : Held) → flag_word_fault c false o word h ≡ [] → flag_word_passes c false o word h ≡ true
+  flag_word_clear : (o : Option (Text × Option Text)) (word : Text) (h : Held) → flag_word_fault c false o word h ≡ []
+      → flag_word_passes c false o word h ≡ true
   flag_word_clear (Some p) word h e = long_clear p.0 p.1 h e
   flag_word_clear None word h e = go (short_of word) e
     where
@@ -96,7 +103,8 @@ module _ (name : Text) (names : List Text) where
       go true e = refl
       go false e = flag_word_clear (long_of word) word h e
 
-  word_clear : (is_trailing : Bool) (waiting : Waiting) (word : Text) (h : Held) → word_fault shape [] is_trailing waiting word h ≡ [] → word_passes shape [] is_trailing waiting word h ≡ true
+  word_clear : (is_trailing : Bool) (waiting : Waiting) (word : Text) (h : Held) → word_fault shape [] is_trailing waiting word h ≡ []
+      → word_passes shape [] is_trailing waiting word h ≡ true
   word_clear true waiting word h e = refl
   word_clear false idle word h e = other_clear word h e
   word_clear false (option id) word h e = other_clear word h e
@@ -136,7 +144,8 @@ module _ (name : Text) (names : List Text) where
   clear_takes words e =
       let built_app : App = record { top = shape; subs = [] } in
       let end = (walk c [] nothing_held words).held in
-      let level : level_fault shape [] nothing_held words false [] ≡ [] = sym (leaf_fault built_app nothing_held words refl) ∙ ap (λ a. built_fault a nothing_held words) (sym (built_is name names)) ∙ e in
+      let level : level_fault shape [] nothing_held words false [] ≡ [] = sym (leaf_fault built_app nothing_held words refl)
+      ∙ ap (λ a. built_fault a nothing_held words) (sym (built_is name names)) ∙ e in
       let first = halves (walk_fault shape [] (walk_from nothing_held) words) _ level in
       let second = halves (settle_fault c false end) _ first.1 in
       takes_is name names words ∙ ap₂ ◌&&◌ (walk_clear words (walk_from nothing_held) first.0) (settle_clear end second.0)

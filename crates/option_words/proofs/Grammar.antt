@@ -1,5 +1,7 @@
 -- The options that words have, read word by word, and a word as clap cuts it.
-use Rattle.std.proofs.Common.{◌≡◌, ◌⊎◌, inl, inr, ⊎_elim, ◌∙◌, ℕ, suc, zero, ◌+◌, ◌<◌, ◌==◌, Bool, true, false, cond, not, ◌&&◌, ◌||◌, List, [], ◌∷◌, ◌++◌, Option, Some, None, refl, sym, ap, ap₂, arith, length, take, drop, true≢false, option_map, option_and_then, lt-ltb, le-ltb}
+use Rattle.std.proofs.Common.{◌≡◌, ◌⊎◌, inl, inr, ⊎_elim, ◌∙◌, ℕ, suc, zero, ◌+◌, ◌<◌, ◌==◌, Bool, true, false, cond, not, ◌&&◌, ◌||◌, List, [], ◌∷◌}
+use Rattle.std.proofs.Common.{◌++◌, Option, Some, None, refl, sym, ap, ap₂, arith, length, take, drop, true≢false, option_map, option_and_then}
+use Rattle.std.proofs.Common.{lt-ltb, le-ltb}
 use Rattle.std.specs.List.{list_all, list_any, position, position_or_len}
 use Rattle.std.specs.Option.{is_some, option_map_or}
 use Rattle.std.specs.Prelude.{slice_get}
@@ -21,7 +23,8 @@ with_setting done s = cond (is_given s.0 done) None (Some (done ++ s ∷ []))
 abbrev pub read : List Text → List Setting → Option Text → List Text → Option (List Setting)
 read names done None [] = Some done
 read names done (Some name) [] = None
-read names done None (word ∷ rest) = option_map_or (λ (s : Setting). option_and_then (λ (d : List Setting). read names d None rest) (with_setting done s)) (joined_in names word)
+read names done None (word ∷ rest) = option_map_or (λ (s : Setting). option_and_then (λ (d : List Setting). read names d None rest) (with_setting done s))
+    (joined_in names word)
     (option_and_then (λ (name : Text). read names done (Some name) rest) (option_in names word))
 read names done (Some name) (word ∷ rest) =
     cond (begins_with_hyphen word) None (option_and_then (λ (d : List Setting). read names d None rest) (with_setting done (name, word)))
@@ -68,7 +71,8 @@ take_dashes (suc (suc i)) (x ∷ y ∷ ys) e = e
 no_joined : (names : List Text) (u : Text) → dashes u ≡ false → joined_in names u ≡ None
 no_joined names u e = go (position (λ b. b == 61) u)
   where
-    go : (o : Option ℕ) → option_and_then {U = Setting} (λ i. option_map {U = Setting} (λ (name : Text). (name, drop (suc i) u)) (option_in names (take i u))) o ≡ None
+    go : (o : Option ℕ) → option_and_then {U = Setting} (λ i. option_map {U = Setting} (λ (name : Text). (name, drop (suc i) u))
+        (option_in names (take i u))) o ≡ None
     go None = refl
     go (Some i) = ap (option_map {U = Setting} (λ (name : Text). (name, drop (suc i) u))) (no_option names (take i u) (take_dashes i u e))
 
@@ -120,7 +124,8 @@ known_lacks : (names : List Text) (t : Text) → are_names names ≡ true → ha
 known_lacks [] t ok has = refl
 known_lacks (n ∷ rest) t ok has = go (bytes_eq n t) refl (is_name n) refl ok (known_lacks rest t)
   where
-    go : (b : Bool) → bytes_eq n t ≡ b → (c : Bool) → is_name n ≡ c → (c && are_names rest) ≡ true → (are_names rest ≡ true → has_byte 61 t ≡ true → is_known rest t ≡ false) → is_known (n ∷ rest) t ≡ false
+    go : (b : Bool) → bytes_eq n t ≡ b → (c : Bool) → is_name n ≡ c → (c && are_names rest) ≡ true
+        → (are_names rest ≡ true → has_byte 61 t ≡ true → is_known rest t ≡ false) → is_known (n ∷ rest) t ≡ false
     go b e false f none more = absurd (true≢false (sym none))
     go true e true f all more =
         let bad : has_byte 61 n ≡ true = ap (has_byte 61) (same_text n t e) ∙ has in
@@ -283,14 +288,16 @@ unsound_dashes names ok [] e = inl refl
 unsound_dashes names ok (x ∷ []) e = inl refl
 unsound_dashes names ok (x ∷ y ∷ ys) e = go (x == 45) (y == 45) refl refl ys e
   where
-    go : (a b : Bool) → (x == 45) ≡ a → (y == 45) ≡ b → (zs : Text) → is_sound (x ∷ y ∷ zs) ≡ false → (dashes (x ∷ y ∷ zs) ≡ false) ⊎ (x ∷ y ∷ zs ≡ 45 ∷ 45 ∷ [])
+    go : (a b : Bool) → (x == 45) ≡ a → (y == 45) ≡ b → (zs : Text) → is_sound (x ∷ y ∷ zs) ≡ false
+        → (dashes (x ∷ y ∷ zs) ≡ false) ⊎ (x ∷ y ∷ zs ≡ 45 ∷ 45 ∷ [])
     go true true f g [] e = inr (ap₂ (λ a b. a ∷ b ∷ []) (begins_so x f) (begins_so y g))
     go true true f g (z ∷ zs) e = absurd (true≢false (sym (rw (f, g) refl) ∙ e))
     go true false f g zs e = inl (ap₂ ◌&&◌ f g)
     go false b f g zs e = inl (ap (λ a. a && (y == 45)) f)
 
 pub unsound_alone : (names : List Text) → are_names names ≡ true → (w : Text) → is_sound w ≡ false → option_in names w ≡ None
-unsound_alone names ok w e = ⊎_elim (λ d. no_option names w d) (λ is. ap (option_in names) is ∙ named names [] ∙ ap (λ b. cond b (Some []) None) (no_dashes names ok)) (unsound_dashes names ok w e)
+unsound_alone names ok w e = ⊎_elim (λ d. no_option names w d) (λ is. ap (option_in names) is ∙ named names []
+    ∙ ap (λ b. cond b (Some []) None) (no_dashes names ok)) (unsound_dashes names ok w e)
 
 pub unsound_joined : (names : List Text) → are_names names ≡ true → (w : Text) → is_sound w ≡ false → joined_in names w ≡ None
 unsound_joined names ok w e = ⊎_elim (λ d. no_joined names w d) (λ is. ap (joined_in names) is) (unsound_dashes names ok w e)
@@ -307,11 +314,13 @@ none_then f none None = refl
 none_then f none (Some d) = none d
 
 -- words with one that may be neither have no reading
-pub unsound_none : (names : List Text) → are_names names ≡ true → (words : List Text) → are_sound words ≡ false → (done : List Setting) (p : Option Text) → read names done p words ≡ None
+pub unsound_none : (names : List Text) → are_names names ≡ true → (words : List Text) → are_sound words ≡ false → (done : List Setting) (p : Option Text)
+    → read names done p words ≡ None
 unsound_none names ok [] e done p = absurd (true≢false e)
 unsound_none names ok (w ∷ rest) e done p = go (is_sound w) refl p e (λ f d q. unsound_none names ok rest f d q)
   where
-    go : (b : Bool) → is_sound w ≡ b → (p : Option Text) → (is_sound w && are_sound rest) ≡ false → (are_sound rest ≡ false → (d : List Setting) (q : Option Text) → read names d q rest ≡ None)
+    go : (b : Bool) → is_sound w ≡ b → (p : Option Text) → (is_sound w && are_sound rest) ≡ false
+        → (are_sound rest ≡ false → (d : List Setting) (q : Option Text) → read names d q rest ≡ None)
         → read names done p (w ∷ rest) ≡ None
     go false f None all more = rw (unsound_joined names ok w f, unsound_alone names ok w f) refl
     go false f (Some name) all more = rw (unsound_first w f) refl
@@ -326,7 +335,8 @@ unsound_none names ok (w ∷ rest) e done p = go (is_sound w) refl p e (λ f d q
         let later : are_sound rest ≡ false = sym (ap (λ b. b && are_sound rest) f) ∙ all in
         pick later (joined_in names w) (option_in names w)
       where
-        pick : are_sound rest ≡ false → (o : Option Setting) (a : Option Text) → option_map_or (λ (s : Setting). option_and_then (λ (d : List Setting). read names d None rest) (with_setting done s)) o
+        pick : are_sound rest ≡ false → (o : Option Setting) (a : Option Text)
+            → option_map_or (λ (s : Setting). option_and_then (λ (d : List Setting). read names d None rest) (with_setting done s)) o
             (option_and_then (λ (name : Text). read names done (Some name) rest) a) ≡ None
         pick later (Some s) a = none_then _ (λ d. more later d None) (with_setting done s)
         pick later None (Some name) = more later done (Some name)

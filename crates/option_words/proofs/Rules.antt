@@ -4,7 +4,8 @@ use Rattle.std.specs.List.{count_by, fold, list_all, list_any}
 use Rattle.std.specs.Option.{is_some}
 use Rattle.std.specs.Str.{bytes_eq}
 use Rattle.std.proofs.lemmas.Slice.Eq.{bytes_eq-Decides}
-use Rattle.clap.specs.Walk.{Row, Rule, Walk, arg_by_id, arg_by_index, arg_by_long, arg_by_short, finished, has_row, is_early_multiple, nothing_held, rows_after, settled, walk, walk_from, walked, with_default}
+use Rattle.clap.specs.Walk.{Row, Rule, Walk, arg_by_id, arg_by_index, arg_by_long, arg_by_short, finished, has_row, is_early_multiple, nothing_held}
+use Rattle.clap.specs.Walk.{rows_after, settled, walk, walk_from, walked, with_default}
 use Rattle.clap.specs.Simple.{App, Shape, built, entered, filled, filled_from, is_simple, matches_of, names_of}
 use Rattle.clap.specs.Takes.{built_takes, default_passes, entered_passes, is_given, level_passes, settle_passes, takes, walk_passes}
 use Rattle.option_words.specs.Options.{Text}
@@ -112,13 +113,15 @@ pub leaf_is : (s : Shape) (words : List Text) → built_takes (record { top = s;
 leaf_is s words = go (walk s.rules [] nothing_held words).stopped
   where
     go : (stop : Option (Text × List Text))
-        → (entered_passes (record { top = s; subs = [] }) stop && level_passes s [] nothing_held words (is_some (entered (record { top = s; subs = [] }) stop))) ≡ level_passes s [] nothing_held words false
+        → (entered_passes (record { top = s; subs = [] }) stop && level_passes s [] nothing_held words
+        (is_some (entered (record { top = s; subs = [] }) stop))) ≡ level_passes s [] nothing_held words false
     go None = refl
     go (Some p) = refl
 
 -- the walk passes, and its last option has its value
 abbrev pub walk_ends : List Text → Text → Walk → List Text → Bool
-walk_ends names name w words = walk_passes (built_shape name names) [] w words && settle_passes (fulls names) false (fold (walked (fulls names) []) w words).held
+walk_ends names name w words = walk_passes (built_shape name names) [] w words && settle_passes (fulls names) false
+    (fold (walked (fulls names) []) w words).held
 
 and_true : (b : Bool) → (b && true) ≡ b
 and_true true = refl
