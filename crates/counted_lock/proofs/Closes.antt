@@ -1,4 +1,4 @@
--- What is left when a lock is closed or not.
+-- What `close` leaves, closed or not.
 use Rattle.std.proofs.Common.{◌≡◌, ℕ, ◌<◌, List, length, get_or, refl, ap, sym, ◌∙◌, subst, arith}
 use Rattle.std.specs.Prelude.{All}
 use mathlib.Core.List.{IsPrefix}
@@ -20,7 +20,7 @@ module _ {E O : Type 0} where
       let inside : k < length ps = subst (λ (n : ℕ). k < n) lents.count lt in let p = all k d inside in
       subst (IsLentAt t') (sym (lents.each k d inside)) record { table = p.table ∙ same; real = p.real; part = refl }
 
-  -- who has its part, lends it and gets it back is as before
+  -- a pass that lends its part and gets it back is as before
   once_more : (p : PassState E O) → p.parts ≡ 1 → whole (lent p) ≡ p
   once_more p e = ap (λ (n : ℕ). record { table = p.table; number = p.number; origin = p.origin; seen = p.seen; parts = n }) (sym e)
 
@@ -30,10 +30,12 @@ module _ {E O : Type 0} where
       backs.each k d inside ∙ (ap whole (lents.each k d lt) ∙ once_more (get_or ps k d) (all k d lt).2))
 
 module _ {D E O : Type 0} (entries : D → List E) (origin : D → O) where
-  pub shared : (o : O) (v w : View E O) (object : D) (ps : List (PassState E O)) → w.seen ≡ v.seen → w.parts ≡ length ps → All (λ p. IsPrefix p.seen v.seen) ps → LeavesObject entries origin o w object → IsShared entries object ps
+  pub shared : (o : O) (v w : View E O) (object : D) (ps : List (PassState E O)) → w.seen ≡ v.seen → w.parts ≡ length ps
+      → All (λ p. IsPrefix p.seen v.seen) ps → LeavesObject entries origin o w object → IsShared entries object ps
   shared o v w object ps same parts all l = record {
     history = l.history;
     journal = l.journal;
-    seen = λ k d lt. prefix_trans (get_or ps k d).seen w.seen l.history (subst (λ (z : List (Stamped E)). IsPrefix (get_or ps k d).seen z) (sym same) (all k d lt)) l.begins;
+    seen = λ k d lt. prefix_trans (get_or ps k d).seen w.seen l.history
+        (subst (λ (z : List (Stamped E)). IsPrefix (get_or ps k d).seen z) (sym same) (all k d lt)) l.begins;
     others = λ n le. l.unmade n (omega arith);
   }

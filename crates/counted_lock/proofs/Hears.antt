@@ -1,4 +1,4 @@
--- What a seat has seen once it was told.
+-- What a seat has seen after it took in a note, and after it tried to take a number.
 use Rattle.std.proofs.Common.{◌≡◌, ◌≢◌, ℕ, ◌+◌, false, [], ap, ◌∙◌, subst, arith}
 use Rattle.std.specs.Prelude.{Some}
 use Rattle.atomic_table.specs.Table.{Me}
@@ -12,8 +12,26 @@ module _ {S E O : Type 0} where
   caught me mid after t n is up =
       let c = subst (λ (m : Me S (View E O)). CaughtUp m n after) is up in let p : me.0.parts + 0 ≡ me.0.parts = omega arith in
       let view = c.view in let carried = c.carried in
-      let fixed : caught_up (joined me.0 (note 0 t)) ≡ record { number = me.0.number; spare = me.0.spare; parts = me.0.parts; sole = false; origin = me.0.origin; seen = longer me.0.seen t.seen; told = []; stage = me.0.stage } =
-      ap (λ (z : ℕ). record { number = me.0.number; spare = me.0.spare; parts = z; sole = false; origin = me.0.origin; seen = longer me.0.seen t.seen; told = []; stage = me.0.stage }) p in
+      let fixed : caught_up (joined me.0 (note 0 t)) ≡ record {
+        number = me.0.number;
+        spare = me.0.spare;
+        parts = me.0.parts;
+        sole = false;
+        origin = me.0.origin;
+        seen = longer me.0.seen t.seen;
+        told = [];
+        stage = me.0.stage;
+      } =
+      ap (λ (z : ℕ). record {
+        number = me.0.number;
+        spare = me.0.spare;
+        parts = z;
+        sole = false;
+        origin = me.0.origin;
+        seen = longer me.0.seen t.seen;
+        told = [];
+        stage = me.0.stage;
+      }) p in
       let now = view ∙ fixed in
       record { view = λ i. (now i, carried i); begins = c.begins; heard = c.heard; placed = c.placed }
 

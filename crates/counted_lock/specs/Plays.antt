@@ -1,5 +1,5 @@
--- What each kind of step tells the seat that makes it. `me` is the view before the step and the slots that the seat carries, `after` the same
--- after it, and `found` the word that the step found.
+-- What each kind of step tells the seat that makes it. `me` is its view before the step and the slots that it carries, `after` the
+-- same after the step, and `found` the word that the step found.
 use Rattle.std.specs.Prelude.{◌≡◌, ◌≢◌, ℕ, ◌≤◌, ◌<◌, List, [], ◌∷◌, ◌++◌, map, length, Option, Some}
 use mathlib.Core.List.{IsPrefix}
 use Rattle.atomic_table.specs.Table.{Me}
@@ -69,8 +69,9 @@ module _ {D E O : Type 0} (entries : D → List E) (origin : D → O) (me : Me (
     pub journal : entries object ≡ map entry_of me.0.seen
     pub same_origin : (x : O) → me.0.origin ≡ Some x → origin object ≡ x
 
-  -- kind 5, an add to the count: the entry that the object's journal has more than the history is added to it, under the number of the pass.
-  -- The object is the one in the slot that the seat carries
+  -- kind 5, an add to the count: the entry that the object's journal has more than the history is added to the history, under the
+  -- number of the pass. The object is the one in the slot that the seat carries
   pub record Entered : Type 0 where
     pub carried : after.1 ≡ me.1
-    pub view : (d : D) (e : E) → me.1 ≡ (0, Some d) ∷ [] → entries d ≡ map entry_of me.0.seen ++ e ∷ [] → after.0 ≡ with_seen Holding (me.0.seen ++ stamped me.0.number e ∷ []) me.0
+    pub view : (d : D) (e : E) → me.1 ≡ (0, Some d) ∷ [] → entries d ≡ map entry_of me.0.seen ++ e ∷ []
+        → after.0 ≡ with_seen Holding (me.0.seen ++ stamped me.0.number e ∷ []) me.0

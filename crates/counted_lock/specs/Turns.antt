@@ -51,11 +51,13 @@ module _ {D E O : Type 0} (entries : D → List E) where
 
   -- then that entry is seen, under the number of the pass
   abbrev pub HasEntered : Me (Option D) (View E O) → Me (Option D) (View E O) → Type 0
-  HasEntered me after = (after.1 ≡ me.1) × ((d : D) (e : E) → me.1 ≡ (0, Some d) ∷ [] → entries d ≡ map entry_of me.0.seen ++ e ∷ [] → after.0 ≡ with_seen Holding (me.0.seen ++ stamped me.0.number e ∷ []) me.0)
+  HasEntered me after = (after.1 ≡ me.1) × ((d : D) (e : E) → me.1 ≡ (0, Some d) ∷ [] → entries d ≡ map entry_of me.0.seen ++ e ∷ []
+      → after.0 ≡ with_seen Holding (me.0.seen ++ stamped me.0.number e ∷ []) me.0)
 
   -- the object is in the slot that the seat holds. Its journal is what the seat has seen, and its origin the one that the seat knows
   abbrev pub IsBack : (D → O) → Me (Option D) (View E O) → Type 0
-  IsBack origin me = (d : D) × (me.1 ≡ (0, Some d) ∷ []) × (entries d ≡ map entry_of me.0.seen) × ((x : O) → me.0.origin ≡ Some x → origin d ≡ x) × ((o : O) × (me.0.origin ≡ Some o))
+  IsBack origin me = (d : D) × (me.1 ≡ (0, Some d) ∷ []) × (entries d ≡ map entry_of me.0.seen) × ((x : O) → me.0.origin ≡ Some x → origin d ≡ x)
+      × ((o : O) × (me.0.origin ≡ Some o))
 
   -- the object is in the slot that the seat holds, and the one entry that its journal had more is seen, under the number of the pass
   pub record SeesMore (v : View E O) (after : Me (Option D) (View E O)) (object : D) : Type 0 where
@@ -63,8 +65,8 @@ module _ {D E O : Type 0} (entries : D → List E) where
     pub journal : entries object ≡ map entry_of v.seen ++ entry ∷ []
     pub view : after ≡ (with_seen Holding (v.seen ++ stamped v.number entry ∷ []) v, (0, Some object) ∷ [])
 
-  -- the object is in the slot. Its journal is a history that begins with what the view has seen, without entries under a number from the parts
-  -- of the view on
+  -- the object is in the slot. Its journal is a history that begins with what the view has seen, without entries under a number from
+  -- the parts of the view on
   pub record Leaves (origin : D → O) (o : O) (v : View E O) (slots : List (Option D)) : Type 0 where
     pub object : D
     pub history : List (Stamped E)
@@ -82,7 +84,19 @@ module _ {S E O : Type 0} where
 
   -- the seat has seen the longer of what it had seen and of what it was told, which both are prefixes of
   pub record CatchesUp (told : List (Stamped E)) (me after : Me S (View E O)) : Type 0 where
-    pub view : after ≡ (record { number = me.0.number; spare = me.0.spare; parts = me.0.parts; sole = false; origin = me.0.origin; seen = longer me.0.seen told; told = []; stage = me.0.stage }, me.1)
+    pub view : after ≡ (
+      record {
+        number = me.0.number;
+        spare = me.0.spare;
+        parts = me.0.parts;
+        sole = false;
+        origin = me.0.origin;
+        seen = longer me.0.seen told;
+        told = [];
+        stage = me.0.stage;
+      },
+      me.1,
+    )
     pub begins : IsPrefix me.0.seen (longer me.0.seen told)
     pub heard : IsPrefix told (longer me.0.seen told)
     pub placed : (n : ℕ) → me.0.number ≡ Some n → places_of n (longer me.0.seen told) ≡ places_of n me.0.seen

@@ -101,11 +101,29 @@ module _ {E O : Type 0} where
 
   -- the view with a number for a new pass, which it stands for until then
   abbrev pub with_spare : ℕ → View E O → View E O
-  with_spare n v = record { number = v.number; spare = Some n; parts = v.parts + 1; sole = v.sole; origin = v.origin; seen = v.seen; told = v.told; stage = v.stage }
+  with_spare n v = record {
+    number = v.number;
+    spare = Some n;
+    parts = v.parts + 1;
+    sole = v.sole;
+    origin = v.origin;
+    seen = v.seen;
+    told = v.told;
+    stage = v.stage;
+  }
 
   -- the view without that number and its part
   abbrev pub without_spare : View E O → View E O
-  without_spare v = record { number = v.number; spare = None; parts = v.parts - 1; sole = v.sole; origin = v.origin; seen = v.seen; told = v.told; stage = v.stage }
+  without_spare v = record {
+    number = v.number;
+    spare = None;
+    parts = v.parts - 1;
+    sole = v.sole;
+    origin = v.origin;
+    seen = v.seen;
+    told = v.told;
+    stage = v.stage;
+  }
 
   -- the view of the new pass with that number
   abbrev pub new_pass : View E O → View E O
@@ -129,8 +147,26 @@ module _ {E O : Type 0} where
 
   -- the view after it has taken in another: it stands for the passes of both, and is told what that one has seen
   abbrev pub joined : View E O → View E O → View E O
-  joined v w = record { number = v.number; spare = v.spare; parts = v.parts + w.parts; sole = false; origin = v.origin; seen = v.seen; told = w.seen; stage = v.stage }
+  joined v w = record {
+    number = v.number;
+    spare = v.spare;
+    parts = v.parts + w.parts;
+    sole = false;
+    origin = v.origin;
+    seen = v.seen;
+    told = w.seen;
+    stage = v.stage;
+  }
 
   -- the view after it has seen what it was told
   abbrev pub caught_up : View E O → View E O
-  caught_up v = record { number = v.number; spare = v.spare; parts = v.parts; sole = v.sole; origin = v.origin; seen = longer v.seen v.told; told = []; stage = v.stage }
+  caught_up v = record {
+    number = v.number;
+    spare = v.spare;
+    parts = v.parts;
+    sole = v.sole;
+    origin = v.origin;
+    seen = longer v.seen v.told;
+    told = [];
+    stage = v.stage;
+  }

@@ -81,7 +81,8 @@ impl<D: Journaled<E, O>, E, O> CountedLock<D, E, O> {
         requires other { IsPassOf self.now other }
         ensures passes { IsPassOf self.now result.0 × IsPassOf self.now result.1 }
         ensures numbers { (result.0.number ≡ one.number) × (result.1.number ≡ other.number) }
-        ensures places { (places_of one.number result.0.seen ≡ places_of one.number one.seen) × (places_of other.number result.1.seen ≡ places_of other.number other.seen) }
+        ensures places { (places_of one.number result.0.seen ≡ places_of one.number one.seen)
+            × (places_of other.number result.1.seen ≡ places_of other.number other.seen) }
         ensures seen { IsPrefix one.seen result.0.seen × IsPrefix other.seen result.0.seen × (result.1.seen ≡ result.0.seen) }
     {
         let board = &self.table.shared;

@@ -7,5 +7,6 @@ compare_exchange-requires g c = let same = c.loop.invariant.2 in let plain = c.r
   search rules,
   search rules,
   numbers g.D.Journaled.entries g.D.Journaled.origin _ _ _ _ _
-      (ap (λ m. m.0.spare) same ∙ plain.no_spare) (ap (λ m. m.0.sole) same ∙ plain.not_sole) (let a = ap (λ m. m.0.parts) same in let b = c.requires.part in omega arith),
+      (ap (λ m. m.0.spare) same ∙ plain.no_spare) (ap (λ m. m.0.sole) same ∙ plain.not_sole) (let a = ap (λ m. m.0.parts) same in let b = c.requires.part in
+      omega arith),
 )
