@@ -1,0 +1,153 @@
+//! Closing a lock.
+//!
+//! A new seat gathers the parts of the passes that are handed in. If these are all parts, no other view has the turn, so the object is
+//! in the slot. Otherwise the parts are returned.
+ghost use Rattle.std.specs.Prelude.{◌≡◌, true, ◌<◌, ◌≤◌, ◌+◌, ℕ, [], map, length, All, Some, None, IfOk, IfErr};
+ghost use mathlib.Core.List.{IsPrefix};
+ghost use Rattle.counted_lock.specs.declared.views.Stage.TheVariants.{Free};
+ghost use Rattle.counted_lock.specs.Views.{entry_of};
+ghost use Rattle.counted_lock.specs.Turns.{IsBoard, LeavesObject};
+ghost use Rattle.counted_lock.specs.Passes.{IsPassOf, lent};
+ghost use Rattle.counted_lock.specs.Closing.{IsGatherer, Lends, TakesPart, IsAt, IsLentAt, AreLent, AreBack, IsShared};
+
+use crate::lock::CountedLock;
+use crate::pass::Pass;
+use crate::plays::{CatchUp, Count, JoinNote, LendPart, NewSeat, TakePart};
+use crate::steps::{Board, COUNT, MADE, Place};
+use crate::views::Journaled;
+use std::mem;
+
+/// A lock that was not closed, since not all passes were handed in.
+#[derive(Drop)]
+pub struct PassesOut<D: Journaled<E, O>, E, O> {
+    /// The lock, as it was.
+    pub lock: CountedLock<D, E, O>,
+    /// The passes that were handed in, as they were.
+    pub passes: Vec<Pass<E, O>>,
+    /// The number of passes that were handed in.
+    pub given: usize,
+    /// The number of passes that were made, which is greater.
+    pub made: u64,
+}
+
+/// A pass lends its part to the seat that gathers, which is told what the pass has seen.
+fn lend<E, O, D: Journaled<E, O>>(
+    board: &Board<D, E, O>,
+    all: &mut Place<D, E, O>,
+    pass: Pass<E, O>,
+) -> Pass<E, O>
+    requires board { IsBoard board.now all.old.table_id }
+    requires gatherer { IsGatherer all.old.me }
+    requires pass { IsAt all.old.table_id pass }
+    ensures same { all.new.table_id ≡ all.old.table_id }
+    ensures gathered { Lends pass all.old.me all.new.me }
+    ensures lent { result ≡ lent pass }
+{
+    let (number, mut seat) = pass.into_seat();
+    let note = board.split_seat::<LendPart>(&mut seat);
+    board.join_seat::<JoinNote>(all, note);
+    board.load::<CatchUp>(all, COUNT);
+    Pass::of(number, seat)
+}
+
+/// Returns its part to a pass.
+fn give_back<E, O, D: Journaled<E, O>>(
+    board: &Board<D, E, O>,
+    all: &mut Place<D, E, O>,
+    pass: Pass<E, O>,
+) -> Pass<E, O>
+    requires board { IsBoard board.now all.old.table_id }
+    requires gatherer { IsGatherer all.old.me }
+    requires some { 0 < all.old.me.0.parts }
+    requires pass { IsLentAt all.old.table_id pass }
+    ensures same { all.new.table_id ≡ all.old.table_id }
+    ensures gathered { IsGatherer all.new.me × (all.new.me.0.parts + 1 ≡ all.old.me.0.parts) }
+    ensures back { TakesPart pass result }
+{
+    let (number, mut seat) = pass.into_seat();
+    let note = board.split_seat::<LendPart>(all);
+    board.join_seat::<TakePart>(&mut seat, note);
+    Pass::of(number, seat)
+}
+
+/// All passes lend their parts, in order.
+fn lend_all<E, O, D: Journaled<E, O>>(
+    board: &Board<D, E, O>,
+    all: &mut Place<D, E, O>,
+    passes: &mut Vec<Pass<E, O>>,
+)
+    requires board { IsBoard board.now all.old.table_id }
+    requires gatherer { IsGatherer all.old.me }
+    requires passes { All (IsAt all.old.table_id) passes.old.items }
+    ensures same { all.new.table_id ≡ all.old.table_id }
+    ensures gatherer { IsGatherer all.new.me }
+    ensures parts { all.new.me.0.parts ≡ all.old.me.0.parts + length passes.old.items }
+    ensures heard { All (λ p. IsPrefix p.seen all.new.me.0.seen) passes.old.items }
+    ensures lent { AreLent passes.old.items passes.new.items }
+{
+    for pass in passes.iter_mut() {
+        let mine = mem::replace(pass, Pass::blank());
+        *pass = lend(board, all, mine);
+    }
+}
+
+/// Returns their parts to all passes.
+fn give_back_all<E, O, D: Journaled<E, O>>(
+    board: &Board<D, E, O>,
+    all: &mut Place<D, E, O>,
+    passes: &mut Vec<Pass<E, O>>,
+)
+    requires board { IsBoard board.now all.old.table_id }
+    requires gatherer { IsGatherer all.old.me }
+    requires parts { length passes.old.items ≤ all.old.me.0.parts }
+    requires passes { All (IsLentAt all.old.table_id) passes.old.items }
+    ensures back { AreBack passes.old.items passes.new.items }
+{
+    for pass in passes.iter_mut() {
+        let mine = mem::replace(pass, Pass::blank());
+        *pass = give_back(board, all, mine);
+    }
+}
+
+/// Takes the object out of a lock, by a seat that stands for all passes.
+fn take_out<D: Journaled<E, O>, E, O>(lock: CountedLock<D, E, O>, all: Place<D, E, O>) -> D
+    requires table { all.table_id ≡ lock.table }
+    requires sole { all.me.0.sole ≡ true }
+    requires free { all.me.0.stage ≡ Free }
+    ensures { LeavesObject D.entries D.origin lock.origin all.me.0 result }
+{
+    let CountedLock { table } = lock;
+    let mut closed = table.close_with(all);
+    let slot = closed.take(0);
+    closed.free();
+    slot.unwrap()
+}
+
+impl<D: Journaled<E, O>, E, O> CountedLock<D, E, O> {
+    /// Closes the lock if all passes that were made are handed in, and returns the object. Its journal without numbers is the
+    /// history, which begins with what each pass had seen, and has no entries of other passes. Otherwise the error returns lock and
+    /// passes as they were, and says how many passes were handed in and how many were made. It does not allocate.
+    pub fn close(self, mut passes: Vec<Pass<E, O>>) -> Result<D, PassesOut<D, E, O>>
+        requires passes { All (IsPassOf self) passes.items }
+        ensures shared { IfOk result (λ d. IsShared D.entries d passes.items) }
+        ensures origin { IfOk result (λ d. D.origin d ≡ self.origin) }
+        ensures untouched { IfErr result (λ o. (o.lock ≡ self) × (o.passes.items ≡ passes.items)) }
+        ensures counts { IfErr result (λ o. (o.given ≡ length passes.items) × (o.given < o.made)) }
+    {
+        let board = &self.table.shared;
+        let mut all = board.load_new_seat::<NewSeat>(COUNT).1;
+        lend_all(board, &mut all, &mut passes);
+        let made = board.load::<Count>(&mut all, MADE);
+        let given = passes.len();
+        if (given as u64) < made {
+            give_back_all(board, &mut all, &mut passes);
+            return Err(PassesOut {
+                lock: self,
+                passes,
+                given,
+                made,
+            });
+        }
+        Ok(take_out(self, all))
+    }
+}
