@@ -1,0 +1,3 @@
+pub mod LineCounts
+pub mod Reading
+pub mod Splits

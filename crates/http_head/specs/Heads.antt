@@ -1,0 +1,68 @@
+-- What is at the front of bytes: a head, the beginning of one, or neither (RFC 9112, section 2, as the kit's `httparse` states it).
+use Rattle.std.specs.Prelude.{◌≡◌, ℕ, ◌<◌, ◌≤◌, ◌+◌, ◌⊎◌, List, length, take, drop, ◌++◌, ⊤}
+use Rattle.httparse.specs.Grammar.{RequestHead, print_request, ReadsRequest, HasNoRequest, NeverHasRequest, MayBecomeRequest}
+use Rattle.httparse.specs.Spans.{span_bytes, IsWithin, RequestExceeds}
+use Rattle.http_head.specs.declared.heads.TheConstants.{HEAD_LIMIT, FIELD_LIMIT}
+use Rattle.http_head.specs.declared.heads.Head.{Head}
+use Rattle.http_head.specs.declared.heads.Parsed.{Parsed}
+use Rattle.http_head.specs.declared.heads.Parsed.TheVariants.{Whole, Partial, TooMany, Invalid}
+use Rattle.http_head.specs.declared.heads.HeadRead.{HeadRead}
+use Rattle.http_head.specs.declared.heads.HeadRead.TheVariants.{Found, More, Bad, TooLong}
+use Rattle.http_head.specs.Fields.{fields_of}
+use Rattle.http_head.specs.Framing.{framing_of, is_last}
+use Rattle.http_head.specs.Lines.{HasManyLines, lines_ended}
+
+-- the head of the grammar at the front of the bytes, and what is kept of it
+pub record IsHeadAt (bytes : List ℕ) (head : Head) (h : RequestHead) : Type 0 where
+  pub reads : ReadsRequest bytes h (drop head.len bytes)
+  pub len : head.len ≡ length (print_request h)
+  pub within : head.len ≤ length bytes
+  pub few : length h.fields ≤ FIELD_LIMIT
+  pub method_within : IsWithin head.len head.method
+  pub target_within : IsWithin head.len head.target
+  pub method : span_bytes bytes head.method ≡ h.method
+  pub target : span_bytes bytes head.target ≡ h.target
+  pub framing : head.framing ≡ framing_of h.minor (fields_of h)
+  pub last : head.is_last ≡ is_last h.minor (fields_of h)
+
+-- there is a head of the grammar of which this is kept
+abbrev pub IsHead : List ℕ → Head → Type 0
+IsHead bytes head = (h : RequestHead) × IsHeadAt bytes head h
+
+-- what the parser answered
+abbrev pub IsParsed : List ℕ → Parsed → Type 0
+IsParsed bytes (Whole head) = IsHead bytes head
+IsParsed bytes Partial = HasNoRequest bytes × MayBecomeRequest bytes
+IsParsed bytes TooMany = RequestExceeds FIELD_LIMIT bytes
+IsParsed bytes Invalid = NeverHasRequest bytes
+
+-- no bytes can follow that make a head within the limit of bytes
+abbrev pub NeverHasHead : List ℕ → Type 0
+NeverHasHead bytes = NeverHasRequest (take HEAD_LIMIT bytes)
+
+-- the first bytes, as many as the limit, hold no head though they could become one, or more fields than their limit have come
+abbrev pub HasLongHead : List ℕ → Type 0
+HasLongHead bytes =
+    ((HEAD_LIMIT ≤ length bytes) × HasNoRequest (take HEAD_LIMIT bytes) × MayBecomeRequest (take HEAD_LIMIT bytes))
+    ⊎ HasManyLines (take HEAD_LIMIT bytes)
+
+-- a head may still come
+pub record IsOpen (bytes : List ℕ) : Type 0 where
+  pub short : length bytes < HEAD_LIMIT
+  pub no_head : HasNoRequest bytes
+  pub may_become : MayBecomeRequest bytes
+  pub lines : lines_ended bytes ≤ FIELD_LIMIT + 1
+
+-- what is at the front of bytes, as far as they have come
+abbrev pub IsHeadRead : List ℕ → HeadRead → Type 0
+IsHeadRead bytes (Found head) = IsHead bytes head × (head.len ≤ HEAD_LIMIT)
+IsHeadRead bytes More = IsOpen bytes
+IsHeadRead bytes Bad = NeverHasHead bytes
+IsHeadRead bytes TooLong = HasLongHead bytes
+
+-- what was read of some bytes stands whatever follows them, unless a head may still come
+abbrev pub StaysRead : List ℕ → HeadRead → Type 0
+StaysRead bytes (Found head) = (more : List ℕ) → IsHeadRead (bytes ++ more) (Found head)
+StaysRead bytes More = ⊤
+StaysRead bytes Bad = (more : List ℕ) → IsHeadRead (bytes ++ more) Bad
+StaysRead bytes TooLong = (more : List ℕ) → IsHeadRead (bytes ++ more) TooLong

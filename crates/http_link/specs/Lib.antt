@@ -1,0 +1,3 @@
+pub mod Filling
+pub mod Pieces
+pub mod Links

@@ -1,0 +1,3 @@
+pub mod Methods
+pub mod Table
+pub mod Targets
