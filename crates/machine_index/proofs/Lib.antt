@@ -2,6 +2,7 @@ pub mod AttemptTexts
 pub mod ChangedSlots
 pub mod HeldSums
 pub mod HeldTasks
+pub mod IndexedSteps
 pub mod LowestPlaces
 pub mod RunPlaces
 pub mod OverRanks
