@@ -31,7 +31,7 @@ indexed_at tasks others slots placed view groups ranks sums e f runs ready over 
 }
 
 module _ {R : Type 0} where
-  -- with room for another row
+  -- a place that changes and is then free
   free_set : (slots : List (Option R)) (at : ℕ) (slot : Option R) → set (set slots at slot) at None ≡ set slots at None
   free_set [] at slot = refl
   free_set (old ∷ slots) zero slot = refl
@@ -41,7 +41,7 @@ module _ {R : Type 0} where
   free_past [] = refl
   free_past (old ∷ slots) = ap (λ (rest : List (Option R)). old ∷ rest) (free_past slots)
 
-  free_push : (slots : List (Option R)) (slot : Option R) → set (slots ++ slot ∷ []) (length slots) None ≡ slots ++ None ∷ []
+  pub free_push : (slots : List (Option R)) (slot : Option R) → set (slots ++ slot ∷ []) (length slots) None ≡ slots ++ None ∷ []
   free_push [] slot = refl
   free_push (old ∷ slots) slot = ap (λ (rest : List (Option R)). old ∷ rest) (free_push slots slot)
 
@@ -50,7 +50,7 @@ module _ {R : Type 0} where
   rows_none (None ∷ slots) = rows_none slots
   rows_none (Some row ∷ slots) = ap (λ (rs : List R). row ∷ rs) (rows_none slots)
 
-  none_there : (slots : List (Option R)) (at : ℕ) (found : R) → slot_at (slots ++ None ∷ []) at ≡ Some found → slot_at slots at ≡ Some found
+  pub none_there : (slots : List (Option R)) (at : ℕ) (found : R) → slot_at (slots ++ None ∷ []) at ≡ Some found → slot_at slots at ≡ Some found
   none_there [] zero found h = absurd (cc)
   none_there [] (suc at) found h = absurd (cc)
   none_there (slot ∷ slots) zero found h = h

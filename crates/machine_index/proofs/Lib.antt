@@ -5,6 +5,7 @@ pub mod HeldTasks
 pub mod IndexedSteps
 pub mod LowestPlaces
 pub mod RunPlaces
+pub mod NextPlaces
 pub mod OverRanks
 pub mod ReadyItems
 pub mod RunSteps

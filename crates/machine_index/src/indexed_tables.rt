@@ -80,6 +80,25 @@ fn clear_over(over: &mut PlacedTasks, place: Option<usize>)
 }
 
 impl IndexedTables {
+    /// These tables, with what is kept beside them, and without room. The only error is out of memory.
+    pub fn of_tables(alloc: Global, tables: Tables) -> Result<IndexedTables, NoMemory>
+        ensures { IfOk result (λ indexed. indexed.state ≡ tables.state) }
+    {
+        tables.places_known();
+        let runs = RunsOfAttempts::of_tables(alloc, &tables)?;
+        let ready = ReadyTasks::of_tables(alloc, &tables)?;
+        let over = PlacedTasks::of_tables(alloc, &tables, &runs)?;
+        let held = HeldSlots::of_tables(alloc, &tables)?;
+        Ok(IndexedTables {
+            tables,
+            runs,
+            ready,
+            over,
+            held,
+            room: 0,
+        })
+    }
+
     /// The tables.
     pub fn tables(&self) -> &Tables
         ensures { result.now.state ≡ self.now.state }
