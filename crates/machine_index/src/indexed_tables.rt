@@ -106,8 +106,20 @@ impl IndexedTables {
         &self.tables
     }
 
+    /// Closes up the free places of tasks and of runs, if more than half of either are free, and then leaves no room. It copies the
+    /// tables. It fails only when out of memory, and then they are as before.
+    pub fn close_up(&mut self, alloc: Global) -> Result<(), NoMemory>
+        ensures { self.new.state ≡ self.old.state }
+    {
+        if self.tables.has_sparse_tasks() || self.tables.has_sparse_runs() {
+            let copy = self.tables.copy()?;
+            *self = IndexedTables::of_tables(alloc, copy)?;
+        }
+        Ok(())
+    }
+
     /// Reserves room for these changes. It fails only when out of memory, and then the tables are as before, without room. The places
-    /// of removed tasks and runs stay free.
+    /// of removed tasks and runs stay free until `close_up`.
     pub fn reserve(&mut self, changes: &[Change]) -> Result<(), NoMemory>
         ensures state { self.new.state ≡ self.old.state }
         ensures room { OnOk result (length changes.now ≤ self.new.room) }
