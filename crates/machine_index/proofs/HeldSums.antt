@@ -180,21 +180,17 @@ run_enough view tasks slots at run there owned held =
     let e = held_own (is_owned tasks) run owned in
     omega (arith, b, c, d, e)
 
-pub run_added : (old mid new : SumsView) (tasks : List TaskRow) (slots : List (Option RunRow)) (at : ℕ) (run : RunRow) → slot_at slots at ≡ Some run
-    → ((node : ℕ) → kept_sum mid node ≡ kept_sum old node) → HasKeys old mid → IsCounted mid run
-    → ((node : ℕ) → kept_sum new node ≡ kept_sum mid node + run_held (is_owned tasks) node run) → HasKeys mid new
+pub run_added : (old new : SumsView) (tasks : List TaskRow) (slots : List (Option RunRow)) (at : ℕ) (run : RunRow) → slot_at slots at ≡ Some run
+    → ((node : ℕ) → kept_sum new node ≡ kept_sum old node + run_held (is_owned tasks) node run) → HasKeys old new → IsCounted new run
     → HasHeld old tasks (set slots at None) → HasHeld new tasks slots
-run_added old mid new tasks slots at run there same first counts sums second held = record {
+run_added old new tasks slots at run there sums keys counts held = record {
   held = λ node.
       let a = sums node in
-      let s = same node in
       let b = held.held node in
       let c = sum_free (run_held (is_owned tasks) node) slots at in
       let d = ap (value_of (run_held (is_owned tasks) node)) there in
-      omega (arith, a, s, b, c, d);
-  counted =
-      counted_kept mid new slots second
-      (counted_with mid slots at run there counts (counted_kept old mid (set slots at None) first held.counted));
+      omega (arith, a, b, c, d);
+  counted = counted_with new slots at run there counts (counted_kept old new (set slots at None) keys held.counted);
 }
 
 -- no sum is too great

@@ -2,8 +2,10 @@ pub mod AttemptTexts
 pub mod ChangedSlots
 pub mod HeldSums
 pub mod HeldTasks
+pub mod IndexedSteps
 pub mod LowestPlaces
 pub mod RunPlaces
+pub mod NextPlaces
 pub mod OverRanks
 pub mod ReadyItems
 pub mod RunSteps

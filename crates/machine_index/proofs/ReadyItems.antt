@@ -21,7 +21,7 @@ items_length [] items h = ap length h
 items_length (slot ∷ slots) [] h = absurd h
 items_length (slot ∷ slots) (item ∷ items) h = ap suc (items_length slots items h.1)
 
-items_push : (slots : List (Option TaskRow)) (items : List Item) (task : TaskRow) → AreItemsOf slots items
+pub items_push : (slots : List (Option TaskRow)) (items : List Item) (task : TaskRow) → AreItemsOf slots items
     → AreItemsOf (slots ++ Some task ∷ []) (items ++ ready_item task ∷ [])
 items_push [] [] task h = (refl, refl)
 items_push [] (item ∷ items) task h = absurd (cc)

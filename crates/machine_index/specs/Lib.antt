@@ -1,4 +1,5 @@
 pub mod Attempts
 pub mod Held
+pub mod Indexed
 pub mod Over
 pub mod Ready

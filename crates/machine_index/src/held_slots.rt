@@ -1,5 +1,5 @@
 //! The slots that are held on each node.
-ghost use Rattle.std.specs.Prelude.{◌≡◌, ◌+◌, ◌<◌, ◌≤◌, ◌^◌, ℕ, Bool, true, List, Option, Some, None, [], length, set, sum_by, OnOk};
+ghost use Rattle.std.specs.Prelude.{◌≡◌, ◌+◌, ◌<◌, ◌≤◌, ◌^◌, ℕ, Bool, true, List, Option, Some, None, [], length, take, set, sum_by, IfOk, OnOk};
 ghost use Rattle.kept_table.specs.Slots.{AreApart, rows, slot_at};
 ghost use Rattle.text_chains.specs.Places.{value_of};
 ghost use Rattle.bt_rows.specs.Texts.{task_text};
@@ -239,6 +239,21 @@ impl HeldSlots {
         }
     }
 
+    /// Adds the slots of a new run, if its task is placed.
+    fn hold(&mut self, tables: &Tables, run: &RunRow)
+        requires room { 0 < self.old.room }
+        requires apart { AreApart task_text tables.now.task_slots }
+        requires small { (node : ℕ) → kept_sum self.old node < 2 ^ 80 }
+        ensures sums { (node : ℕ) → kept_sum self.new node ≡ kept_sum self.old node + run_held (is_owned tables.now.state.tasks) node run.now }
+        ensures keys { HasKeys self.old self.new }
+        ensures counted { IsCounted self.new run.now }
+        ensures room { self.old.room ≤ self.new.room + 1 }
+    {
+        let _slots = slots_of(run);
+        self.sums.add_node(run.node);
+        self.add_if(run, is_owned(tables, run));
+    }
+
     /// Gives back the slots of the run at this place, before it is removed or replaced. It does not allocate.
     pub fn release_run(&mut self, tables: &Tables, place: usize)
         requires apart { AreApart task_text tables.now.task_slots }
@@ -263,11 +278,35 @@ impl HeldSlots {
         run_places_known(tables);
         match tables.run_at(place) {
             None => {}
-            Some(run) => {
-                let _slots = slots_of(run);
-                self.sums.add_node(run.node);
-                self.add_if(run, is_owned(tables, run));
-            }
+            Some(run) => self.hold(tables, run),
         }
+    }
+
+    /// Holds the slots of the run at this place, if there is one, after those at the places before it. It does not allocate.
+    fn hold_next(&mut self, tables: &Tables, place: usize)
+        requires place { place < length tables.now.run_slots }
+        requires room { 0 < self.old.room }
+        requires apart { AreApart task_text tables.now.task_slots }
+        requires held { HasHeld self.old tables.now.state.tasks (take place tables.now.run_slots) }
+        ensures { HasHeld self.new tables.now.state.tasks (take (place + 1) tables.now.run_slots) }
+    {
+        run_places_known(tables);
+        match tables.run_at(place) {
+            None => {}
+            Some(run) => self.hold(tables, run),
+        }
+    }
+
+    /// The slots that are held in the tables. The only error is out of memory.
+    pub fn of_tables(alloc: Global, tables: &Tables) -> Result<HeldSlots, NoMemory>
+        ensures { IfOk result (λ held. HasHeld held tables.now.state.tasks tables.now.run_slots) }
+    {
+        tables.keys_known();
+        let mut held = HeldSlots::new(alloc);
+        for place in 0..tables.run_place_count() {
+            held.reserve(1)?;
+            held.hold_next(tables, place);
+        }
+        Ok(held)
     }
 }

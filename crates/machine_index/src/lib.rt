@@ -4,6 +4,7 @@
 
 mod attempt_text;
 mod held_slots;
+mod indexed_tables;
 mod node_sums;
 mod placed_tasks;
 mod ready_tasks;
@@ -11,6 +12,7 @@ mod row_tests;
 mod runs_of_attempts;
 
 pub use held_slots::HeldSlots;
+pub use indexed_tables::IndexedTables;
 pub use placed_tasks::{PlacedTasks, place_of_run};
 pub use ready_tasks::ReadyTasks;
 pub use runs_of_attempts::RunsOfAttempts;

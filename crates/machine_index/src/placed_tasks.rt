@@ -1,5 +1,5 @@
 //! The placed tasks whose runs have ended.
-ghost use Rattle.std.specs.Prelude.{◌≡◌, ◌+◌, ◌<◌, ◌≤◌, ◌++◌, ◌∷◌, [], List, Option, Some, None, length, map, set, IfOk, IfSome, OnOk};
+ghost use Rattle.std.specs.Prelude.{◌≡◌, ◌+◌, ◌<◌, ◌≤◌, ◌++◌, ◌∷◌, [], List, Option, Some, None, length, map, take, set, IfOk, IfSome, OnOk};
 ghost use Rattle.std.specs.List.{find};
 ghost use Rattle.std.specs.Option.{option_copied};
 ghost use Rattle.first_tree.specs.Ranks.{no_rank};
@@ -107,6 +107,33 @@ impl PlacedTasks {
             None => self.ranks.push(rank),
             Some(place) => self.ranks.set(place, rank),
         }
+    }
+
+    /// Follows the task at this place, or the free place, after those before it. It does not allocate.
+    fn push_next(&mut self, tables: &Tables, runs: &RunsOfAttempts, place: usize)
+        requires runs { HasRuns runs.now tables.now.run_slots }
+        requires place { place < length tables.now.task_slots }
+        requires room { 0 < self.old.room }
+        ensures { AreOver tables.now.state.runs (take place tables.now.task_slots) self.old.items → AreOver tables.now.state.runs (take (place + 1) tables.now.task_slots) self.new.items }
+    {
+        self.ranks.push(rank_at(tables, runs, place));
+    }
+
+    /// The tasks of the tables with these runs. The only error is out of memory.
+    pub fn of_tables(
+        alloc: Global,
+        tables: &Tables,
+        runs: &RunsOfAttempts,
+    ) -> Result<PlacedTasks, NoMemory>
+        requires { HasRuns runs.now tables.now.run_slots }
+        ensures { IfOk result (λ placed. AreOver tables.now.state.runs tables.now.task_slots placed.items) }
+    {
+        let mut placed = PlacedTasks::new(alloc)?;
+        for place in 0..tables.task_place_count() {
+            placed.reserve(1)?;
+            placed.push_next(tables, runs, place);
+        }
+        Ok(placed)
     }
 
     /// Follows a task that is removed from this place. It does not allocate.

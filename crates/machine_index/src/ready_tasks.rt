@@ -1,5 +1,5 @@
 //! The ready tasks of each job.
-ghost use Rattle.std.specs.Prelude.{◌≡◌, ◌+◌, ◌<◌, ◌≤◌, List, [], Option, Some, None, length, set, IfSome, OnOk};
+ghost use Rattle.std.specs.Prelude.{◌≡◌, ◌+◌, ◌<◌, ◌≤◌, List, [], Option, Some, None, length, take, set, IfOk, IfSome, OnOk};
 ghost use Rattle.std.specs.List.{find};
 ghost use Rattle.std.specs.Option.{option_copied};
 ghost use Rattle.kept_table.specs.Slots.{place_of, put_at};
@@ -86,6 +86,33 @@ impl ReadyTasks {
             }
             Some(place) => self.groups.set(place, ready_rank(task)),
         }
+    }
+
+    /// Follows the task at this place, or the free place, after those before it. It does not allocate.
+    fn push_next(&mut self, tables: &Tables, place: usize)
+        requires place { place < length tables.now.task_slots }
+        requires room { 0 < self.old.room }
+        ensures { AreItemsOf (take place tables.now.task_slots) self.old.items → AreItemsOf (take (place + 1) tables.now.task_slots) self.new.items }
+    {
+        match tables.task_at(place) {
+            None => self.groups.push(&[], NO_RANK),
+            Some(task) => {
+                let group = KeyText::of_id(&task.job);
+                self.groups.push(group.as_slice(), ready_rank(task));
+            }
+        }
+    }
+
+    /// The tasks of the tables. The only error is out of memory.
+    pub fn of_tables(alloc: Global, tables: &Tables) -> Result<ReadyTasks, NoMemory>
+        ensures { IfOk result (λ ready. AreItemsOf tables.now.task_slots ready.items) }
+    {
+        let mut ready = ReadyTasks::new(alloc);
+        for place in 0..tables.task_place_count() {
+            ready.reserve(1)?;
+            ready.push_next(tables, place);
+        }
+        Ok(ready)
     }
 
     /// Follows a task that is removed from this place. It does not allocate.

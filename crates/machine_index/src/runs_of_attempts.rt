@@ -1,5 +1,5 @@
 //! The places of the runs of each attempt.
-ghost use Rattle.std.specs.Prelude.{◌≡◌, ◌+◌, ◌<◌, ◌≤◌, ◌&&◌, ℕ, List, [], Option, Some, None, length, OnOk};
+ghost use Rattle.std.specs.Prelude.{◌≡◌, ◌+◌, ◌<◌, ◌≤◌, ◌&&◌, ℕ, List, [], Option, Some, None, length, take, IfOk, OnOk};
 ghost use Rattle.std.specs.Option.{option_copied, unwrap_or};
 ghost use Rattle.kept_table.specs.Slots.{slot_at, holds, put_at, clear_at};
 ghost use Rattle.batch_model.specs.Runs.{is_present, is_busy_for, is_main};
@@ -103,6 +103,30 @@ impl RunsOfAttempts {
             None => {}
             Some(text) => self.add_place(&text, place),
         }
+    }
+
+    /// Follows the run at this place, if there is one, after those at the places before it. It does not allocate.
+    fn add_next(&mut self, tables: &Tables, place: usize)
+        requires place { place < length tables.now.run_slots }
+        requires room { 0 < self.old.room }
+        ensures { HasRuns self.old (take place tables.now.run_slots) → HasRuns self.new (take (place + 1) tables.now.run_slots) }
+    {
+        match tables.run_at(place) {
+            None => {}
+            Some(run) => self.add(run, place),
+        }
+    }
+
+    /// The runs of the tables. The only error is out of memory.
+    pub fn of_tables(alloc: Global, tables: &Tables) -> Result<RunsOfAttempts, NoMemory>
+        ensures { IfOk result (λ runs. HasRuns runs tables.now.run_slots) }
+    {
+        let mut runs = RunsOfAttempts::new(alloc);
+        for place in 0..tables.run_place_count() {
+            runs.reserve(1)?;
+            runs.add_next(tables, place);
+        }
+        Ok(runs)
     }
 
     /// The places of the runs of the task's present attempt, and perhaps others.

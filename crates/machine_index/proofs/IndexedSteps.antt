@@ -1,0 +1,180 @@
+-- The parts are those of the tables after a change.
+use Rattle.std.proofs.Common.{◌≡◌, ℕ, zero, suc, ◌<◌, Bool, IfSome, List, [], ◌∷◌, ◌++◌, length, set, Option, Some, None, refl, sym, ap, subst, ◌∙◌, arith}
+use Rattle.std.specs.Option.{unwrap_or}
+use Rattle.std.proofs.lemmas.List.{length-set}
+use Rattle.first_tree.specs.Ranks.{Ranks}
+use Rattle.kept_table.specs.Slots.{AreApart, slot_at, rows, place_of, put_at, clear_at}
+use Rattle.kept_table.proofs.PlacesOf.{place_of_within, slot_at_past}
+use Rattle.ranked_groups.specs.Items.{GroupsView}
+use Rattle.text_chains.specs.Chains.{ChainsView}
+use Rattle.bt_rows.specs.Keys.{task_has_ids}
+use Rattle.bt_rows.specs.Texts.{task_text}
+use Rattle.batch_model.specs.Variants.{TaskRow, RunRow}
+use Rattle.machine_index.specs.Attempts.{HasRuns}
+use Rattle.machine_index.specs.Held.{SumsView, HasHeld}
+use Rattle.machine_index.specs.Indexed.{IsIndexed}
+use Rattle.machine_index.specs.Over.{AreOver, IsRunStep, over_rank, place_named, place_of_run, with_rank}
+use Rattle.machine_index.specs.Ready.{AreItemsOf}
+use Rattle.machine_index.proofs.OverRanks.{over_step}
+use Rattle.machine_index.proofs.ReadyItems.{items_length}
+use Rattle.machine_index.proofs.RunSteps.{found_at, step_put, step_clear}
+
+-- of the tasks and the runs that are these
+pub indexed_at : (tasks others : List (Option TaskRow)) (slots placed : List (Option RunRow)) (view : ChainsView) (groups : GroupsView) (ranks : Ranks) (sums : SumsView)
+    → others ≡ tasks → placed ≡ slots → HasRuns view slots → AreItemsOf tasks groups.items → AreOver (rows slots) tasks ranks.items
+    → HasHeld sums (rows tasks) slots → IsIndexed others placed view groups ranks sums
+indexed_at tasks others slots placed view groups ranks sums e f runs ready over held = record {
+  runs = rw f runs;
+  ready = rw e ready;
+  over = rw (e, f) over;
+  held = rw (e, f) held;
+}
+
+module _ {R : Type 0} where
+  -- a place that changes and is then free
+  free_set : (slots : List (Option R)) (at : ℕ) (slot : Option R) → set (set slots at slot) at None ≡ set slots at None
+  free_set [] at slot = refl
+  free_set (old ∷ slots) zero slot = refl
+  free_set (old ∷ slots) (suc at) slot = ap (λ (rest : List (Option R)). old ∷ rest) (free_set slots at slot)
+
+  free_past : (slots : List (Option R)) → set slots (length slots) None ≡ slots
+  free_past [] = refl
+  free_past (old ∷ slots) = ap (λ (rest : List (Option R)). old ∷ rest) (free_past slots)
+
+  pub free_push : (slots : List (Option R)) (slot : Option R) → set (slots ++ slot ∷ []) (length slots) None ≡ slots ++ None ∷ []
+  free_push [] slot = refl
+  free_push (old ∷ slots) slot = ap (λ (rest : List (Option R)). old ∷ rest) (free_push slots slot)
+
+  rows_none : (slots : List (Option R)) → rows (slots ++ None ∷ []) ≡ rows slots
+  rows_none [] = refl
+  rows_none (None ∷ slots) = rows_none slots
+  rows_none (Some row ∷ slots) = ap (λ (rs : List R). row ∷ rs) (rows_none slots)
+
+  pub none_there : (slots : List (Option R)) (at : ℕ) (found : R) → slot_at (slots ++ None ∷ []) at ≡ Some found → slot_at slots at ≡ Some found
+  none_there [] zero found h = absurd (cc)
+  none_there [] (suc at) found h = absurd (cc)
+  none_there (slot ∷ slots) zero found h = h
+  none_there (slot ∷ slots) (suc at) found h = none_there slots at found h
+
+  -- the rows beside the one that was put
+  free_put : (before : Option ℕ) (slots : List (Option R)) (row : R)
+      → rows (set (put_at before row slots) (unwrap_or before (length slots)) None) ≡ rows (set slots (unwrap_or before (length slots)) None)
+  free_put None slots row = ap rows (free_push slots (Some row)) ∙ rows_none slots ∙ sym (ap rows (free_past slots))
+  free_put (Some at) slots row = ap rows (free_set slots at (Some row))
+
+  pub free_clear : (before : Option ℕ) (slots : List (Option R)) → set slots (unwrap_or before (length slots)) None ≡ clear_at before slots
+  free_clear None slots = free_past slots
+  free_clear (Some at) slots = refl
+
+  pub found_slot : (before : Option ℕ) (slots : List (Option R)) → slot_at slots (unwrap_or before (length slots)) ≡ found_at before slots
+  found_slot None slots = slot_at_past slots (length slots) (omega arith)
+  found_slot (Some at) slots = refl
+
+-- what the other tasks hold, after the task was put
+pub held_beside : (sums : SumsView) (before : Option ℕ) (tasks others : List (Option TaskRow)) (slots placed : List (Option RunRow)) (place : ℕ) (task : TaskRow)
+    → others ≡ put_at before task tasks → placed ≡ slots → place ≡ unwrap_or before (length tasks) → HasHeld sums (rows (set tasks place None)) slots
+    → HasHeld sums (rows (set others place None)) placed
+held_beside sums before tasks others slots placed place task e f is held =
+    rw (e, f, is)
+    (subst (λ (ts : List TaskRow). HasHeld sums ts slots) (sym (free_put before tasks task))
+    (subst (λ (k : ℕ). HasHeld sums (rows (set tasks k None)) slots) is held))
+
+-- one place more, without a run
+pub held_none : (sums : SumsView) (tasks : List TaskRow) (slots : List (Option RunRow)) → HasHeld sums tasks slots → HasHeld sums tasks (slots ++ None ∷ [])
+held_none sums tasks slots held = record {
+  held = λ node. rw (rows_none slots) (held.held node);
+  counted = λ place run there. held.counted place run (none_there slots place run there);
+}
+
+held_free : (sums : SumsView) (tasks : List TaskRow) (before : Option ℕ) (slots : List (Option RunRow)) (run : RunRow)
+    → HasHeld sums tasks (set slots (unwrap_or before (length slots)) None) → HasHeld sums tasks (set (put_at before run slots) (unwrap_or before (length slots)) None)
+held_free sums tasks None slots run held =
+    subst (HasHeld sums tasks) (sym (free_push slots (Some run))) (held_none sums tasks slots (subst (HasHeld sums tasks) (free_past slots) held))
+held_free sums tasks (Some at) slots run held = subst (HasHeld sums tasks) (sym (free_set slots at (Some run))) held
+
+-- what the other runs hold, after the run was put
+pub held_beside_run : (sums : SumsView) (before : Option ℕ) (tasks others : List TaskRow) (slots placed : List (Option RunRow)) (place : ℕ) (run : RunRow)
+    → others ≡ tasks → placed ≡ put_at before run slots → place ≡ unwrap_or before (length slots) → HasHeld sums tasks (set slots place None)
+    → HasHeld sums others (set placed place None)
+held_beside_run sums before tasks others slots placed place run e f is held =
+    rw (e, f, is) (held_free sums tasks before slots run (subst (λ (k : ℕ). HasHeld sums tasks (set slots k None)) is held))
+
+named_within : (slots : List (Option TaskRow)) (job id : Option (List ℕ)) → IfSome (place_named slots job id) (λ place. place < length slots)
+named_within slots None id = tt
+named_within slots (Some job) None = tt
+named_within slots (Some job) (Some id) = by (place_of (task_has_ids job id) slots) refl
+  where
+    by : (place : Option ℕ) → place_of (task_has_ids job id) slots ≡ place → IfSome place (λ at. at < length slots)
+    by None e = tt
+    by (Some at) e = place_of_within (task_has_ids job id) slots at e
+
+-- the run's task has one of the places
+pub run_within : (slots : List (Option TaskRow)) (run : Option RunRow) → IfSome (place_of_run slots run) (λ place. place < length slots)
+run_within slots None = tt
+run_within slots (Some run) = named_within slots run.job run.task
+
+-- the ranks of the tasks that the old and the new run name were put
+pub over_after : (was is : Option RunRow) (slots placed : List (Option RunRow)) (tasks others : List (Option TaskRow)) (runs : List RunRow) (p q : Option ℕ) (ranks first second : List ℕ)
+    → AreApart task_text tasks → IsRunStep was is slots placed → others ≡ tasks → runs ≡ rows placed → p ≡ place_of_run tasks was → q ≡ place_of_run tasks is
+    → first ≡ with_rank runs others p ranks → second ≡ with_rank runs others q first → AreOver (rows slots) tasks ranks
+    → AreOver (rows placed) others second
+over_after was is slots placed tasks others runs p q ranks first second apart step e f g h i j over =
+    rw (j, i, g, h, f, e) (over_step was is slots placed tasks ranks apart step (run_within tasks was) (run_within tasks is) over)
+
+-- with other room
+pub indexed_kept : (tasks others : List (Option TaskRow)) (slots placed : List (Option RunRow)) (view changed : ChainsView) (groups grouped : GroupsView) (ranks ranked : Ranks) (sums summed : SumsView)
+    → others ≡ tasks → placed ≡ slots → (HasRuns view slots → HasRuns changed slots) → grouped.items ≡ groups.items → ranked.items ≡ ranks.items
+    → (HasHeld sums (rows tasks) slots → HasHeld summed (rows tasks) slots) → IsIndexed tasks slots view groups ranks sums
+    → IsIndexed others placed changed grouped ranked summed
+indexed_kept tasks others slots placed view changed groups grouped ranks ranked sums summed e f runs ready over held indexed =
+    indexed_at tasks others slots placed changed grouped ranked summed e f (runs indexed.runs) (rw ready indexed.ready) (rw over indexed.over) (held indexed.held)
+
+-- a place that was found is one of the parts'
+pub within_ready : (test : TaskRow → Bool) (place : Option ℕ) (tasks : List (Option TaskRow)) (groups : GroupsView) → place ≡ place_of test tasks → AreItemsOf tasks groups.items
+    → IfSome place (λ at. at < length groups.items)
+within_ready test None tasks groups e ready = tt
+within_ready test (Some at) tasks groups e ready =
+    let within = place_of_within test tasks at (sym e) in
+    let long = items_length tasks groups.items ready in
+    omega (arith, within, long)
+
+pub within_over : (test : TaskRow → Bool) (place : Option ℕ) (tasks : List (Option TaskRow)) (ranks : List ℕ) → place ≡ place_of test tasks → length ranks ≡ length tasks
+    → IfSome place (λ at. at < length ranks)
+within_over test None tasks ranks e long = tt
+within_over test (Some at) tasks ranks e long =
+    let within = place_of_within test tasks at (sym e) in
+    omega (arith, within, long)
+
+pub within_named : (run : Option RunRow) (place : Option ℕ) (tasks : List (Option TaskRow)) (ranks : List ℕ) → place ≡ place_of_run tasks run → length ranks ≡ length tasks
+    → IfSome place (λ at. at < length ranks)
+within_named run place tasks ranks e long = rw (e, long) (run_within tasks run)
+
+with_length : (runs : List RunRow) (tasks : List (Option TaskRow)) (place : Option ℕ) (ranks : List ℕ) → length (with_rank runs tasks place ranks) ≡ length ranks
+with_length runs tasks None ranks = refl
+with_length runs tasks (Some at) ranks = length-set ranks at (over_rank runs (slot_at tasks at))
+
+pub within_again : (run : Option RunRow) (place before : Option ℕ) (tasks others : List (Option TaskRow)) (runs : List RunRow) (ranks first : List ℕ) → place ≡ place_of_run tasks run
+    → first ≡ with_rank runs others before ranks → length ranks ≡ length tasks → IfSome place (λ at. at < length first)
+within_again run place before tasks others runs ranks first e f long =
+    within_named run place tasks first e (ap length f ∙ with_length runs others before ranks ∙ long)
+
+-- the step of the runs
+pub put_step : (before : Option ℕ) (place : ℕ) (slots placed : List (Option RunRow)) (run : RunRow) → place ≡ unwrap_or before (length slots) → placed ≡ put_at before run slots
+    → IsRunStep (slot_at slots place) (Some run) slots placed
+put_step before place slots placed run e f = rw (f, e, found_slot before slots) (step_put before slots run)
+
+pub clear_step : (before : Option ℕ) (place : ℕ) (slots placed : List (Option RunRow)) → place ≡ unwrap_or before (length slots) → placed ≡ clear_at before slots
+    → IsRunStep (slot_at slots place) None slots placed
+clear_step before place slots placed e f = rw (f, e, found_slot before slots) (step_clear before slots)
+
+-- what the runs hold, after one was removed
+pub held_cleared : (sums : SumsView) (before : Option ℕ) (tasks others : List TaskRow) (slots placed : List (Option RunRow)) (place : ℕ)
+    → others ≡ tasks → placed ≡ clear_at before slots → place ≡ unwrap_or before (length slots) → HasHeld sums tasks (set slots place None) → HasHeld sums others placed
+held_cleared sums before tasks others slots placed place e f is held =
+    rw (e, f, ← free_clear before slots) (subst (λ (k : ℕ). HasHeld sums tasks (set slots k None)) is held)
+
+-- what the tasks hold, after one was removed
+pub held_without : (sums : SumsView) (before : Option ℕ) (tasks : List (Option TaskRow)) (slots : List (Option RunRow)) (place : ℕ)
+    → place ≡ unwrap_or before (length tasks) → HasHeld sums (rows (set tasks place None)) slots → HasHeld sums (rows (clear_at before tasks)) slots
+held_without sums before tasks slots place is held =
+    rw (← free_clear before tasks) (subst (λ (k : ℕ). HasHeld sums (rows (set tasks k None)) slots) is held)

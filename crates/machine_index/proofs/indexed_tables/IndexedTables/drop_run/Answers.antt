@@ -1,0 +1,48 @@
+use Rattle.std.proofs.Common.{◌≡◌, List, Option, None, ℕ, length, refl, sym, ap, subst, ◌∙◌, rules}
+use Rattle.std.specs.Option.{unwrap_or}
+use Rattle.kept_table.specs.Slots.{slot_at, rows, clear_at}
+use Rattle.batch_model.specs.Variants.{TaskRow}
+use Rattle.machine_index.specs.Attempts.{HasRuns}
+use Rattle.machine_index.specs.Ready.{AreItemsOf}
+use Rattle.machine_index.proofs.IndexedSteps.{within_named, over_after, clear_step, held_cleared}
+use Rattle.machine_index.proofs.RunPlaces.{runs_cleared}
+use Rattle.machine_index.proofs.indexed_tables.IndexedTables.drop_run.Goals as goal
+
+pub refresh-requires-clause-runs : goal.refresh-requires-clause-runs
+refresh-requires-clause-runs c =
+    let s = c.self.inside in
+    let slots = s.tables.run_slots in
+    let before = c.run_place-before.result in
+    let placed : c.apply_one.new.self.run_slots ≡ clear_at before slots =
+    c.apply_one.ensures.runs ∙ sym (ap (λ (p : Option ℕ). clear_at p slots) c.run_place-before.ensures) in
+    subst (HasRuns s.runs) (sym placed) (runs_cleared s.runs slots before c.self.invariant.0.runs)
+
+pub refresh-requires-clause-place : goal.refresh-requires-clause-place
+refresh-requires-clause-place c =
+    let s = c.self.inside in
+    within_named (slot_at s.tables.run_slots c.unwrap_or-place.result) c.task_of_run_at-old_task.result s.tables.task_slots s.over.items c.task_of_run_at-old_task.ensures
+    c.self.invariant.0.over.long
+
+pub invariant_of-self : goal.invariant_of-self
+invariant_of-self c =
+    let s = c.self.inside in
+    let t = s.tables in
+    let old = c.self.invariant.0 in
+    let before = c.run_place-before.result in
+    let new = c.apply_one.new.self in
+    let place : c.unwrap_or-place.result ≡ unwrap_or before (length t.run_slots) = c.unwrap_or-place.ensures ∙ ap (unwrap_or before) c.run_place_count.ensures in
+    let placed : new.run_slots ≡ clear_at before t.run_slots =
+    c.apply_one.ensures.runs ∙ sym (ap (λ (p : Option ℕ). clear_at p t.run_slots) c.run_place-before.ensures) in (
+      record {
+        runs = subst (HasRuns s.runs) (sym placed) (runs_cleared s.runs t.run_slots before old.runs);
+        ready = subst (λ (ts : List (Option TaskRow)). AreItemsOf ts s.ready.items) (sym c.apply_one.ensures.tasks) old.ready;
+        over =
+            over_after (slot_at t.run_slots c.unwrap_or-place.result) None t.run_slots new.run_slots t.task_slots new.task_slots new.state.runs c.task_of_run_at-old_task.result None s.over.items
+            c.refresh.new.self.items c.refresh.new.self.items c.keys_known.ensures.tasks (clear_step before c.unwrap_or-place.result t.run_slots new.run_slots place placed) c.apply_one.ensures.tasks
+            (sym c.places_known-2.ensures.runs) c.task_of_run_at-old_task.ensures refl c.refresh.ensures.items refl old.over;
+        held =
+            held_cleared c.release_run.new.self before t.state.tasks (rows new.task_slots) t.run_slots new.run_slots c.unwrap_or-place.result
+            (ap rows c.apply_one.ensures.tasks ∙ c.places_known.ensures.tasks) placed place c.release_run.ensures.held;
+      },
+      search rules,
+    )

@@ -1,0 +1,57 @@
+use Rattle.std.proofs.Common.{◌≡◌, List, Option, Some, ℕ, length, sym, ap, subst, ◌∙◌, rules}
+use Rattle.std.specs.Option.{unwrap_or}
+use Rattle.kept_table.specs.Slots.{slot_at, rows, put_at}
+use Rattle.batch_model.specs.Variants.{TaskRow}
+use Rattle.machine_index.specs.Attempts.{HasRuns}
+use Rattle.machine_index.specs.Held.{HasHeld}
+use Rattle.machine_index.specs.Ready.{AreItemsOf}
+use Rattle.machine_index.proofs.IndexedSteps.{within_named, within_again, over_after, put_step, held_beside_run}
+use Rattle.machine_index.proofs.indexed_tables.IndexedTables.put_run.Goals as goal
+
+pub hold_run-requires-clause-held : goal.hold_run-requires-clause-held
+hold_run-requires-clause-held c =
+    let t = c.self.inside.tables in
+    let before = c.run_place-before.result in
+    let new = c.apply_one.new.self in
+    let place : c.unwrap_or-place.result ≡ unwrap_or before (length t.run_slots) = c.unwrap_or-place.ensures ∙ ap (unwrap_or before) c.run_place_count.ensures in
+    let placed : new.run_slots ≡ put_at before c.args.run t.run_slots =
+    c.apply_one.ensures.runs ∙ sym (ap (λ (p : Option ℕ). put_at p c.args.run t.run_slots) c.run_place-before.ensures) in
+    held_beside_run c.release_run.new.self before t.state.tasks new.state.tasks t.run_slots new.run_slots c.unwrap_or-place.result c.args.run
+    (sym c.places_known-2.ensures.tasks ∙ ap rows c.apply_one.ensures.tasks ∙ c.places_known.ensures.tasks) placed place c.release_run.ensures.held
+
+pub refresh-requires-clause-place : goal.refresh-requires-clause-place
+refresh-requires-clause-place c =
+    let s = c.self.inside in
+    within_named (slot_at s.tables.run_slots c.unwrap_or-place.result) c.task_of_run_at-old_task.result s.tables.task_slots s.over.items c.task_of_run_at-old_task.ensures
+    c.self.invariant.0.over.long
+
+pub refresh-requires-2-clause-place : goal.refresh-requires-2-clause-place
+refresh-requires-2-clause-place c =
+    let s = c.self.inside in
+    let new = c.apply_one.new.self in
+    within_again (Some c.args.run) c.place_of_run-new_task.result c.task_of_run_at-old_task.result s.tables.task_slots new.task_slots new.state.runs s.over.items c.refresh.new.self.items
+    c.place_of_run-new_task.ensures c.refresh.ensures.items c.self.invariant.0.over.long
+
+pub invariant_of-self : goal.invariant_of-self
+invariant_of-self c =
+    let s = c.self.inside in
+    let t = s.tables in
+    let old = c.self.invariant.0 in
+    let before = c.run_place-before.result in
+    let new = c.apply_one.new.self in
+    let place : c.unwrap_or-place.result ≡ unwrap_or before (length t.run_slots) = c.unwrap_or-place.ensures ∙ ap (unwrap_or before) c.run_place_count.ensures in
+    let placed : new.run_slots ≡ put_at before c.args.run t.run_slots =
+    c.apply_one.ensures.runs ∙ sym (ap (λ (p : Option ℕ). put_at p c.args.run t.run_slots) c.run_place-before.ensures) in (
+      record {
+        runs = subst (HasRuns c.add.new.self) (sym placed) (c.add.ensures.runs t.run_slots before place old.runs);
+        ready = subst (λ (ts : List (Option TaskRow)). AreItemsOf ts s.ready.items) (sym c.apply_one.ensures.tasks) old.ready;
+        over =
+            over_after (slot_at t.run_slots c.unwrap_or-place.result) (Some c.args.run) t.run_slots new.run_slots t.task_slots new.task_slots new.state.runs c.task_of_run_at-old_task.result
+            c.place_of_run-new_task.result s.over.items c.refresh.new.self.items c.refresh-2.new.self.items c.keys_known.ensures.tasks
+            (put_step before c.unwrap_or-place.result t.run_slots new.run_slots c.args.run place placed) c.apply_one.ensures.tasks (sym c.places_known-2.ensures.runs)
+            c.task_of_run_at-old_task.ensures c.place_of_run-new_task.ensures c.refresh.ensures.items c.refresh-2.ensures.items old.over;
+        held =
+            subst (λ (ts : List TaskRow). HasHeld c.hold_run.new.self ts new.run_slots) (sym c.places_known-2.ensures.tasks) c.hold_run.ensures.held;
+      },
+      search rules,
+    )

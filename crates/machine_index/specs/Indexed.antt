@@ -1,0 +1,31 @@
+-- Tables, and what is kept beside them.
+use Rattle.std.specs.Prelude.{◌≤◌, ℕ, List, Option}
+use Rattle.first_tree.specs.Ranks.{Ranks}
+use Rattle.kept_table.specs.Slots.{rows}
+use Rattle.ranked_groups.specs.Items.{GroupsView}
+use Rattle.text_chains.specs.Chains.{ChainsView}
+use Rattle.batch_model.specs.Variants.{State, TaskRow, RunRow}
+use Rattle.machine_index.specs.Attempts.{HasRuns}
+use Rattle.machine_index.specs.Held.{SumsView, HasHeld}
+use Rattle.machine_index.specs.Over.{AreOver}
+use Rattle.machine_index.specs.Ready.{AreItemsOf}
+
+-- what contracts see of the tables: the state, and how many changes can be made without allocating
+pub record IndexedView : Type 0 where
+  pub state : State
+  pub room : ℕ
+
+-- each part is that of these tasks and runs
+pub record IsIndexed (tasks : List (Option TaskRow)) (slots : List (Option RunRow)) (view : ChainsView) (groups : GroupsView) (ranks : Ranks) (sums : SumsView) : Type 0 where
+  pub runs : HasRuns view slots
+  pub ready : AreItemsOf tasks groups.items
+  pub over : AreOver (rows slots) tasks ranks.items
+  pub held : HasHeld sums (rows tasks) slots
+
+-- the tables and each part have room for so many changes
+pub record HasRoom (room tables runs ready over held : ℕ) : Type 0 where
+  pub of_tables : room ≤ tables
+  pub of_runs : room ≤ runs
+  pub of_ready : room ≤ ready
+  pub of_over : room ≤ over
+  pub of_held : room ≤ held

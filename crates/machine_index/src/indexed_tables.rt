@@ -1,0 +1,287 @@
+//! The tables with what is kept beside them.
+ghost use Rattle.std.specs.Prelude.{◌≡◌, ◌+◌, ◌<◌, ◌≤◌, List, Option, Some, length, IfOk, IfSome, OnOk};
+ghost use Rattle.std.specs.List.{find};
+ghost use Rattle.std.specs.Option.{option_copied};
+ghost use Rattle.kept_table.specs.Slots.{slot_at, clear_at};
+ghost use Rattle.bt_rows.specs.Changes.{apply_change, apply_changes, tasks_placed, runs_placed};
+ghost use Rattle.batch_model.specs.Settling.{is_over};
+ghost use Rattle.batch_model.specs.Slots.{held_slots};
+ghost use Rattle.batch_model.specs.Tasks.{is_busy, main_run};
+ghost use Rattle.batch_model.specs.Variants.{TaskRow, RunRow};
+ghost use Rattle.machine_index.specs.Over.{AreOver, place_of_run};
+ghost use Rattle.machine_index.specs.Ready.{AreItemsOf, is_ready_within};
+
+use crate::held_slots::HeldSlots;
+use crate::placed_tasks::{PlacedTasks, place_of_run};
+use crate::ready_tasks::ReadyTasks;
+use crate::runs_of_attempts::RunsOfAttempts;
+use bt_base::{Id, List, NoMemory};
+use bt_rows::run::RunRow;
+use bt_rows::tables::{Change, Tables};
+use bt_rows::task::{TaskKey, TaskRow};
+use std::alloc::Global;
+use std::marker::Model;
+
+/// Tables, and beside them what the due rules look for. Each change of the tables is followed.
+///
+/// Contracts see the state, and beside it the room: the number of changes that may be made without an allocation.
+#[derive(Drop)]
+pub struct IndexedTables {
+    tables: Tables,
+    runs: RunsOfAttempts,
+    ready: ReadyTasks,
+    over: PlacedTasks,
+    held: HeldSlots,
+    room: usize,
+}
+
+impl Model for IndexedTables {
+    ghost use Rattle.machine_index.specs.Indexed.{IndexedView, IsIndexed, HasRoom};
+
+    ghost Value = { IndexedView };
+
+    ghost view = { λ i. record { state = i.tables.state; room = i.room } };
+
+    ghost invariant = { λ i. IsIndexed i.tables.task_slots i.tables.run_slots i.runs i.ready i.over i.held × HasRoom i.room i.tables.room i.runs.room i.ready.room i.over.room i.held.room };
+}
+
+/// The place of the task that the run at this place names.
+fn task_of_run_at(tables: &Tables, place: usize) -> Option<usize>
+    ensures { result ≡ place_of_run tables.now.task_slots (slot_at tables.now.run_slots place) }
+{
+    match tables.run_at(place) {
+        None => None,
+        Some(run) => place_of_run(tables, run),
+    }
+}
+
+/// Follows a task that is removed from this place, if there is one.
+fn clear_ready(ready: &mut ReadyTasks, place: Option<usize>)
+    requires { IfSome place (λ at. at < length ready.old.items) }
+    ensures items { (slots : List (Option TaskRow)) → AreItemsOf slots ready.old.items → AreItemsOf (clear_at place slots) ready.new.items }
+    ensures room { ready.new.room ≡ ready.old.room }
+{
+    match place {
+        None => {}
+        Some(place) => ready.clear(place),
+    }
+}
+
+/// Follows a task that is removed from this place, if there is one.
+fn clear_over(over: &mut PlacedTasks, place: Option<usize>)
+    requires { IfSome place (λ at. at < length over.old.items) }
+    ensures ranks { (runs : List RunRow) (slots : List (Option TaskRow)) → AreOver runs slots over.old.items → AreOver runs (clear_at place slots) over.new.items }
+    ensures room { over.new.room ≡ over.old.room }
+{
+    match place {
+        None => {}
+        Some(place) => over.clear(place),
+    }
+}
+
+impl IndexedTables {
+    /// These tables, with what is kept beside them, and without room. The only error is out of memory.
+    pub fn of_tables(alloc: Global, tables: Tables) -> Result<IndexedTables, NoMemory>
+        ensures { IfOk result (λ indexed. indexed.state ≡ tables.state) }
+    {
+        tables.places_known();
+        let runs = RunsOfAttempts::of_tables(alloc, &tables)?;
+        let ready = ReadyTasks::of_tables(alloc, &tables)?;
+        let over = PlacedTasks::of_tables(alloc, &tables, &runs)?;
+        let held = HeldSlots::of_tables(alloc, &tables)?;
+        Ok(IndexedTables {
+            tables,
+            runs,
+            ready,
+            over,
+            held,
+            room: 0,
+        })
+    }
+
+    /// The tables.
+    pub fn tables(&self) -> &Tables
+        ensures { result.now.state ≡ self.now.state }
+    {
+        &self.tables
+    }
+
+    /// Closes up the free places of tasks and of runs, if more than half of either are free, and then leaves no room. It copies the
+    /// tables. It fails only when out of memory, and then they are as before.
+    pub fn close_up(&mut self, alloc: Global) -> Result<(), NoMemory>
+        ensures { self.new.state ≡ self.old.state }
+    {
+        if self.tables.has_sparse_tasks() || self.tables.has_sparse_runs() {
+            let copy = self.tables.copy()?;
+            *self = IndexedTables::of_tables(alloc, copy)?;
+        }
+        Ok(())
+    }
+
+    /// Reserves room for these changes. It fails only when out of memory, and then the tables are as before, without room. The places
+    /// of removed tasks and runs stay free until `close_up`.
+    pub fn reserve(&mut self, changes: &[Change]) -> Result<(), NoMemory>
+        ensures state { self.new.state ≡ self.old.state }
+        ensures room { OnOk result (length changes.now ≤ self.new.room) }
+    {
+        let additional = changes.len();
+        self.room = 0;
+        self.tables.reserve(changes)?;
+        self.runs.reserve(additional)?;
+        self.ready.reserve(additional)?;
+        self.over.reserve(additional)?;
+        self.held.reserve(additional)?;
+        self.room = additional;
+        Ok(())
+    }
+
+    /// Puts a task.
+    fn put_task(&mut self, task: TaskRow)
+        requires { 1 ≤ self.old.room }
+        ensures state { self.new.state ≡ apply_change (Change.PutTask task) self.old.state }
+        ensures room { self.new.room + 1 ≡ self.old.room }
+    {
+        let before = self.tables.task_place(&task.job, &task.id);
+        let place = before.unwrap_or(self.tables.task_place_count());
+        self.tables.places_known();
+        self.tables.keys_known();
+        self.held.release_task(&self.tables, &self.runs, place);
+        self.ready.put(before, &task);
+        self.over.put(&self.tables, &self.runs, before, &task);
+        self.tables.apply_one(Change::PutTask(task));
+        self.tables.keys_known();
+        self.held.hold_task(&self.tables, &self.runs, place);
+        self.room -= 1;
+    }
+
+    /// Drops the task with this key.
+    fn drop_task(&mut self, key: TaskKey)
+        requires { 1 ≤ self.old.room }
+        ensures state { self.new.state ≡ apply_change (Change.DropTask key) self.old.state }
+        ensures room { self.new.room + 1 ≡ self.old.room }
+    {
+        let before = self.tables.task_place(&key.job, &key.id);
+        let place = before.unwrap_or(self.tables.task_place_count());
+        self.tables.keys_known();
+        self.held.release_task(&self.tables, &self.runs, place);
+        clear_ready(&mut self.ready, before);
+        clear_over(&mut self.over, before);
+        self.tables.apply_one(Change::DropTask(key));
+        self.room -= 1;
+    }
+
+    /// Puts a run.
+    fn put_run(&mut self, run: RunRow)
+        requires { 1 ≤ self.old.room }
+        ensures state { self.new.state ≡ apply_change (Change.PutRun run) self.old.state }
+        ensures room { self.new.room + 1 ≡ self.old.room }
+    {
+        let before = self.tables.run_place(run.number);
+        let place = before.unwrap_or(self.tables.run_place_count());
+        let old_task = task_of_run_at(&self.tables, place);
+        let new_task = place_of_run(&self.tables, &run);
+        self.tables.places_known();
+        self.tables.keys_known();
+        self.held.release_run(&self.tables, place);
+        self.runs.add(&run, place);
+        self.tables.apply_one(Change::PutRun(run));
+        self.tables.places_known();
+        self.tables.keys_known();
+        self.held.hold_run(&self.tables, place);
+        self.over.refresh(&self.tables, &self.runs, old_task);
+        self.over.refresh(&self.tables, &self.runs, new_task);
+        self.room -= 1;
+    }
+
+    /// Drops the run with this number.
+    fn drop_run(&mut self, number: u64)
+        requires { 1 ≤ self.old.room }
+        ensures state { self.new.state ≡ apply_change (Change.DropRun number) self.old.state }
+        ensures room { self.new.room + 1 ≡ self.old.room }
+    {
+        let before = self.tables.run_place(number);
+        let place = before.unwrap_or(self.tables.run_place_count());
+        let old_task = task_of_run_at(&self.tables, place);
+        self.tables.places_known();
+        self.tables.keys_known();
+        self.held.release_run(&self.tables, place);
+        self.tables.apply_one(Change::DropRun(number));
+        self.tables.places_known();
+        self.over.refresh(&self.tables, &self.runs, old_task);
+        self.room -= 1;
+    }
+
+    /// Makes a change of other rows than tasks and runs.
+    fn change_others(&mut self, change: Change)
+        requires room { 1 ≤ self.old.room }
+        requires tasks { (slots : List (Option TaskRow)) → tasks_placed change slots ≡ slots }
+        requires runs { (slots : List (Option RunRow)) → runs_placed change slots ≡ slots }
+        ensures state { self.new.state ≡ apply_change change self.old.state }
+        ensures room { self.new.room + 1 ≡ self.old.room }
+    {
+        self.tables.apply_one(change);
+        self.room -= 1;
+    }
+
+    /// Makes one change. It does not allocate.
+    pub fn apply_one(&mut self, change: Change)
+        requires { 1 ≤ self.old.room }
+        ensures state { self.new.state ≡ apply_change change self.old.state }
+        ensures room { self.new.room + 1 ≡ self.old.room }
+    {
+        match change {
+            Change::PutTask(task) => self.put_task(task),
+            Change::DropTask(key) => self.drop_task(key),
+            Change::PutRun(run) => self.put_run(run),
+            Change::DropRun(number) => self.drop_run(number),
+            others => self.change_others(others),
+        }
+    }
+
+    /// Makes the changes from the first to the last. It does not allocate.
+    pub fn apply(&mut self, changes: List<Change>)
+        requires { length changes ≤ self.old.room }
+        ensures { self.new.state ≡ apply_changes changes self.old.state }
+    {
+        for change in changes.into_vec() {
+            self.apply_one(change);
+        }
+    }
+
+    /// The first placed task of whose present attempt no run is unended. None if there is none.
+    pub fn first_over(&self) -> Option<&TaskRow>
+        ensures { option_copied result ≡ find (is_over self.now.state) self.now.state.tasks }
+    {
+        self.tables.places_known();
+        self.over.first(&self.tables)
+    }
+
+    /// The first ready task of the job that asks for at most so many slots. None if there is none.
+    pub fn first_ready(&self, job: &Id, most: u8) -> Option<&TaskRow>
+        ensures { option_copied result ≡ find (is_ready_within job.now most) self.now.state.tasks }
+    {
+        self.ready.first(&self.tables, job, most)
+    }
+
+    /// Whether a run of the task's present attempt has not ended.
+    pub fn is_busy(&self, task: &TaskRow) -> bool
+        ensures { result ≡ is_busy self.now.state task.now }
+    {
+        self.runs.is_busy(&self.tables, task)
+    }
+
+    /// The main run of the task's present attempt.
+    pub fn main_run(&self, task: &TaskRow) -> Option<&RunRow>
+        ensures { option_copied result ≡ main_run self.now.state task.now }
+    {
+        self.runs.main_run(&self.tables, task)
+    }
+
+    /// The slots that the runs of placed tasks hold on the node.
+    pub fn held(&self, node: u64) -> u128
+        ensures { result ≡ held_slots self.now.state node }
+    {
+        self.tables.places_known();
+        self.held.held(&self.tables, node)
+    }
+}
