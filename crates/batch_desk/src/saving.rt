@@ -60,7 +60,7 @@ pub fn make_saved<K: Keeper>(
     ensures told { Tells (K.told keeper.new) machine.new.state }
     ensures cause { FailsWithCause (K.faults keeper.old) (K.faults keeper.new) result }
 {
-    machine.reserve(plan)?;
+    machine.reserve(alloc, plan)?;
     match save_reserved(alloc, machine, keeper) {
         Ok(()) => Ok(machine.accept()),
         Err(error) => {

@@ -6,19 +6,20 @@ ghost use Rattle.machine_plans.specs.Plans.{IsRule};
 
 use bt_base::NoMemory;
 use bt_rows::plan::{Plan, View};
-use bt_rows::tables::Tables;
+use machine_index::IndexedTables;
 use std::alloc::Global;
 use task_placing::place_first;
 
 /// The plan of the first rule that applies, in the order of `due_step`; None if no rule applies. The only error is out of memory.
-pub fn plan_due(alloc: Global, tables: &Tables, seats: u8) -> Result<Option<Plan>, NoMemory>
-    requires sound { IsSound seats tables.now.state }
+pub fn plan_due(alloc: Global, indexed: &IndexedTables, seats: u8) -> Result<Option<Plan>, NoMemory>
+    requires sound { IsSound seats indexed.now.state }
     requires few { seats ≤ 32 }
-    ensures { IfOk result (IsRule (due_step seats tables.now.state) tables.now.state) }
+    ensures { IfOk result (IsRule (due_step seats indexed.now.state) indexed.now.state) }
 {
+    let tables = indexed.tables();
     let now = tables.moment();
     let view = View { tables, seats, now };
-    if let Some(plan) = job_machine::next_due(alloc, &view)? {
+    if let Some(plan) = job_machine::next_due(alloc, indexed)? {
         return Ok(Some(plan));
     }
     if let Some(plan) = pool_resize::next_due(alloc, &view)? {
@@ -27,5 +28,5 @@ pub fn plan_due(alloc: Global, tables: &Tables, seats: u8) -> Result<Option<Plan
     if let Some(plan) = node_machine::next_due(alloc, &view)? {
         return Ok(Some(plan));
     }
-    place_first(alloc, tables)
+    place_first(alloc, indexed)
 }

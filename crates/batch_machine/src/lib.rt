@@ -5,6 +5,7 @@
 mod due;
 mod event;
 mod machine;
+mod room;
 
 pub use machine::Machine;
 

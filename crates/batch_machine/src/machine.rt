@@ -11,12 +11,14 @@ ghost use Rattle.batch_model.specs.WellFormed.{IsWellFormed};
 ghost use Rattle.machine_plans.specs.Plans.{IsPlanOf, IsRule, moved_to};
 ghost use Rattle.batch_machine.specs.Machines.{IsMade, IsOpened};
 
+use crate::room::make_room;
 use crate::{due, event};
 use bt_base::{Duplicate, List, Moment, NoMemory};
 use bt_rows::event::Event;
 use bt_rows::plan::Plan;
 use bt_rows::reply::Reply;
 use bt_rows::tables::{Change, Tables};
+use machine_index::IndexedTables;
 use machine_opening::opening_changes;
 use std::alloc::Global;
 use std::marker::Model;
@@ -24,7 +26,7 @@ use std::marker::Model;
 /// Tables that events and due steps change, one plan at a time. The tables are sound at every moment.
 #[derive(Drop)]
 pub struct Machine {
-    tables: Tables,
+    indexed: IndexedTables,
     seats: u8,
     reserved: Option<Plan>,
 }
@@ -34,9 +36,9 @@ impl Model for Machine {
 
     ghost Value = { Seen };
 
-    ghost view = { λ m. record { state = m.tables.state; seats = m.seats; reserved = m.reserved } };
+    ghost view = { λ m. record { state = m.indexed.state; seats = m.seats; reserved = m.reserved } };
 
-    ghost invariant = { λ m. IsReady m.tables.room (record { state = m.tables.state; seats = m.seats; reserved = m.reserved }) };
+    ghost invariant = { λ m. IsReady m.indexed.room (record { state = m.indexed.state; seats = m.seats; reserved = m.reserved }) };
 }
 
 impl Machine {
@@ -57,7 +59,7 @@ impl Machine {
         let made = changes.copy()?;
         tables.apply(made);
         let machine = Machine {
-            tables,
+            indexed: IndexedTables::of_tables(alloc, tables)?,
             seats,
             reserved: None,
         };
@@ -69,7 +71,7 @@ impl Machine {
         ensures state { result.now.state ≡ self.now.state }
         ensures sound { IsSound self.now.seats self.now.state }
     {
-        &self.tables
+        self.indexed.tables()
     }
 
     /// The reply to an event at a moment, and the changes that it makes. A refusal is a reply; it changes nothing but the
@@ -80,7 +82,7 @@ impl Machine {
         ensures tick { event.now ≡ Tick → IfOk result (λ plan. plan.changes ≡ moved_to (max self.now.state.moment moment) self.now.state) }
         ensures made { IfOk result (IsMade self.now.seats self.now.state) }
     {
-        event::plan_event(alloc, &self.tables, self.seats, moment.ms(), event)
+        event::plan_event(alloc, self.indexed.tables(), self.seats, moment.ms(), event)
     }
 
     /// The plan of the due step, whose reply states the step; None exactly if no rule applies. The only error is out of memory.
@@ -88,17 +90,17 @@ impl Machine {
         ensures rule { IfOk result (IsRule (due_step self.now.seats self.now.state) self.now.state) }
         ensures sound { IsSound self.now.seats self.now.state }
     {
-        due::plan_due(alloc, &self.tables, self.seats)
+        due::plan_due(alloc, &self.indexed, self.seats)
     }
 
     /// Keeps the plan, and reserves all the memory that it needs. The only error is out of memory, and then no plan is reserved.
-    pub fn reserve(&mut self, plan: Plan) -> Result<(), NoMemory>
+    pub fn reserve(&mut self, alloc: Global, plan: Plan) -> Result<(), NoMemory>
         requires free { self.old.reserved ≡ None }
         requires made { IsMade self.old.seats self.old.state plan }
         ensures ok { OnOk result (self.new ≡ record self.old { reserved = Some plan }) }
         ensures err { OnErr result (self.new ≡ self.old) }
     {
-        self.tables.reserve(plan.changes.as_slice())?;
+        make_room(alloc, &mut self.indexed, plan.changes.as_slice())?;
         self.reserved = Some(plan);
         Ok(())
     }
@@ -113,7 +115,7 @@ impl Machine {
             unreachable!()
         };
         let Plan { reply, changes } = plan;
-        self.tables.apply(changes);
+        self.indexed.apply(changes);
         reply
     }
 

@@ -16,7 +16,7 @@ fn a_tick_moves_the_moment_alone(rt: HostRuntime) -> Result<(), TestFail> {
     let event = Event::new(EventKind::Tick);
     let planned = machine.plan(alloc, Moment::of_ms(5).ok_or("late")?, &event);
     drop(event);
-    machine.reserve(planned?)?;
+    machine.reserve(alloc, planned?)?;
     assert!(rt; matches!(machine.accept(), Reply::Status(200)));
     assert_eq!(rt; machine.tables().moment(), 5);
     assert!(rt; machine.plan_due(alloc)?.is_none());

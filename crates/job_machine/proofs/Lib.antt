@@ -1,2 +1,3 @@
 pub mod AnsweredTasks
 pub mod OtherEndings
+pub mod FirstToSettle

@@ -3,6 +3,7 @@ ghost use Rattle.std.specs.Prelude.{◌≡◌, true, IfOk};
 ghost use Rattle.batch_model.specs.Dues.{settle_first};
 ghost use Rattle.batch_model.specs.Events.{event_now};
 ghost use Rattle.batch_model.specs.Sound.{IsSound};
+ghost use Rattle.batch_model.specs.WellFormed.{KeysAreDistinct};
 ghost use Rattle.machine_plans.specs.Plans.{IsAnswer, IsRule, with_moment};
 ghost use Rattle.job_machine.specs.Owners.{is_of_jobs};
 
@@ -15,6 +16,7 @@ use bt_base::{Fail, NoMemory};
 use bt_rows::event::{Event, EventKind};
 use bt_rows::plan::{Plan, View};
 use bt_rows::refusal::Refusal;
+use machine_index::IndexedTables;
 use std::alloc::Global;
 
 /// The answer to an event of jobs and tasks, or to the ending of a run that is not a start run, at the view's moment. Refusals
@@ -57,9 +59,9 @@ pub fn plan_event(alloc: Global, view: &View, event: &Event) -> Result<Plan, Fai
 
 /// The plan of the first due step of tasks; None exactly if no rule of theirs applies. A placed task without an unended run in its
 /// present attempt is settled (U5). The only error is out of memory.
-pub fn next_due(alloc: Global, view: &View) -> Result<Option<Plan>, NoMemory>
-    requires sound { IsSound view.now.seats view.now.tables.now.state }
-    ensures { IfOk result (IsRule (settle_first view.entry.now.tables.now.state) view.entry.now.tables.now.state) }
+pub fn next_due(alloc: Global, indexed: &IndexedTables) -> Result<Option<Plan>, NoMemory>
+    requires keys { KeysAreDistinct indexed.now.state }
+    ensures { IfOk result (IsRule (settle_first indexed.now.state) indexed.now.state) }
 {
-    settle_first(alloc, view.tables)
+    settle_first(alloc, indexed)
 }

@@ -18,15 +18,26 @@ use bt_rows::plan::Plan;
 use bt_rows::run::Ending;
 use bt_rows::tables::{Change, Tables};
 use bt_rows::task::{Closed, How, TaskRow, TaskStage, Want};
+use machine_index::IndexedTables;
 use machine_plans::step_one;
 use std::alloc::Global;
-use table_scans::{is_busy, is_placed, is_success, main_ending};
+use table_scans::{ending_of, is_placed, is_success};
 
 /// Whether the task is placed, and no run of its present attempt is unended.
-fn is_over(tables: &Tables, task: &TaskRow) -> bool
-    ensures { result ≡ is_over tables.now.state task.now }
+fn is_over(indexed: &IndexedTables, task: &TaskRow) -> bool
+    ensures { result ≡ is_over indexed.now.state task.now }
 {
-    is_placed(task.stage) && !is_busy(tables, task)
+    is_placed(task.stage) && !indexed.is_busy(task)
+}
+
+/// How the main run of the task's present attempt ended, if it did.
+fn main_ending(indexed: &IndexedTables, task: &TaskRow) -> Option<Ending>
+    ensures { result ≡ main_ending indexed.now.state task.now }
+{
+    match indexed.main_run(task) {
+        None => None,
+        Some(run) => ending_of(run.state),
+    }
 }
 
 /// Whether no end of the task is wanted, and no start of it has failed.
@@ -78,14 +89,14 @@ fn has_plain_job(tables: &Tables, task: &TaskRow) -> bool
 }
 
 /// Whether the task is over, and is to be completed as its main run ended.
-fn is_to_complete(tables: &Tables, task: &TaskRow) -> bool
-    ensures { result ≡ is_to_complete tables.now.state task.now }
+fn is_to_complete(indexed: &IndexedTables, task: &TaskRow) -> bool
+    ensures { result ≡ is_to_complete indexed.now.state task.now }
 {
-    is_over(tables, task)
+    is_over(indexed, task)
         && is_undisturbed(task)
         && has_no_conditions(task)
-        && has_plain_job(tables, task)
-        && main_ending(tables, task).is_some()
+        && has_plain_job(indexed.tables(), task)
+        && main_ending(indexed, task).is_some()
 }
 
 /// Whether a requeue of the task is wanted.
@@ -96,24 +107,39 @@ fn wants_requeue(wanted: Option<Want>) -> bool
 }
 
 /// Whether the task is over, and is to be active again.
-fn is_to_requeue(tables: &Tables, task: &TaskRow) -> bool
-    ensures { result ≡ is_to_requeue tables.now.state task.now }
+fn is_to_requeue(indexed: &IndexedTables, task: &TaskRow) -> bool
+    ensures { result ≡ is_to_requeue indexed.now.state task.now }
 {
-    is_over(tables, task) && wants_requeue(task.wanted)
+    is_over(indexed, task) && wants_requeue(task.wanted)
 }
 
 /// Whether the task is to be requeued or completed.
-fn is_to_settle(tables: &Tables, task: &TaskRow) -> bool
-    ensures { result ≡ is_to_settle tables.now.state task.now }
+fn is_to_settle(indexed: &IndexedTables, task: &TaskRow) -> bool
+    ensures { result ≡ is_to_settle indexed.now.state task.now }
 {
-    is_to_requeue(tables, task) || is_to_complete(tables, task)
+    is_to_requeue(indexed, task) || is_to_complete(indexed, task)
 }
 
-/// The first task that is to be settled.
-fn first_to_settle<'a>(tables: &'a Tables) -> Option<&'a TaskRow>
-    ensures { option_copied result ≡ find (is_to_settle tables.now.state) tables.now.state.tasks }
+/// The first task that is to be settled, by a look at all tasks.
+fn search_to_settle<'a>(indexed: &'a IndexedTables) -> Option<&'a TaskRow>
+    ensures { option_copied result ≡ find (is_to_settle indexed.now.state) indexed.now.state.tasks }
 {
-    tables.tasks().find(|task| is_to_settle(tables, task))
+    indexed
+        .tables()
+        .tasks()
+        .find(|task| is_to_settle(indexed, task))
+}
+
+/// The first task that is to be settled. A task that is over and is not to be settled is one of a kind that is not built: then all
+/// tasks are looked at.
+fn first_to_settle<'a>(indexed: &'a IndexedTables) -> Option<&'a TaskRow>
+    ensures { option_copied result ≡ find (is_to_settle indexed.now.state) indexed.now.state.tasks }
+{
+    match indexed.first_over() {
+        None => None,
+        Some(task) if is_to_settle(indexed, task) => Some(task),
+        Some(_) => search_to_settle(indexed),
+    }
 }
 
 /// How a task is closed whose main run ended in this way at `now`, in milliseconds since 1970.
@@ -197,16 +223,16 @@ fn complete(
 /// The plan that completes the task, if its main run ended.
 fn complete_as_ended(
     alloc: Global,
-    tables: &Tables,
+    indexed: &IndexedTables,
     task: &TaskRow,
 ) -> Result<Option<Plan>, NoMemory>
-    requires keys { KeysAreDistinct tables.now.state }
-    requires found { find (is_to_settle tables.now.state) tables.now.state.tasks ≡ Some task.now }
-    ensures { IfOk result (IsRule (complete_as_ended tables.now.state task.now) tables.now.state) }
+    requires keys { KeysAreDistinct indexed.now.state }
+    requires found { find (is_to_settle indexed.now.state) indexed.now.state.tasks ≡ Some task.now }
+    ensures { IfOk result (IsRule (complete_as_ended indexed.now.state task.now) indexed.now.state) }
 {
-    match main_ending(tables, task) {
+    match main_ending(indexed, task) {
         None => Ok(None),
-        Some(ending) => Ok(Some(complete(alloc, tables, task, ending)?)),
+        Some(ending) => Ok(Some(complete(alloc, indexed.tables(), task, ending)?)),
     }
 }
 
@@ -221,25 +247,25 @@ fn requeue(alloc: Global, tables: &Tables, task: &TaskRow) -> Result<Plan, NoMem
 }
 
 /// The plan that settles the task: a wanted requeue goes before the ending of the main run.
-fn settle(alloc: Global, tables: &Tables, task: &TaskRow) -> Result<Option<Plan>, NoMemory>
-    requires keys { KeysAreDistinct tables.now.state }
-    requires found { find (is_to_settle tables.now.state) tables.now.state.tasks ≡ Some task.now }
-    ensures { IfOk result (IsRule (settle tables.now.state task.now) tables.now.state) }
+fn settle(alloc: Global, indexed: &IndexedTables, task: &TaskRow) -> Result<Option<Plan>, NoMemory>
+    requires keys { KeysAreDistinct indexed.now.state }
+    requires found { find (is_to_settle indexed.now.state) indexed.now.state.tasks ≡ Some task.now }
+    ensures { IfOk result (IsRule (settle indexed.now.state task.now) indexed.now.state) }
 {
-    if is_to_requeue(tables, task) {
-        Ok(Some(requeue(alloc, tables, task)?))
+    if is_to_requeue(indexed, task) {
+        Ok(Some(requeue(alloc, indexed.tables(), task)?))
     } else {
-        complete_as_ended(alloc, tables, task)
+        complete_as_ended(alloc, indexed, task)
     }
 }
 
 /// The plan that settles the first task that is to be settled.
-pub fn settle_first(alloc: Global, tables: &Tables) -> Result<Option<Plan>, NoMemory>
-    requires { KeysAreDistinct tables.now.state }
-    ensures { IfOk result (IsRule (settle_first tables.now.state) tables.now.state) }
+pub fn settle_first(alloc: Global, indexed: &IndexedTables) -> Result<Option<Plan>, NoMemory>
+    requires { KeysAreDistinct indexed.now.state }
+    ensures { IfOk result (IsRule (settle_first indexed.now.state) indexed.now.state) }
 {
-    match first_to_settle(tables) {
+    match first_to_settle(indexed) {
         None => Ok(None),
-        Some(task) => settle(alloc, tables, task),
+        Some(task) => settle(alloc, indexed, task),
     }
 }

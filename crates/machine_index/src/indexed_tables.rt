@@ -106,12 +106,21 @@ impl IndexedTables {
         &self.tables
     }
 
-    /// Closes up the free places of tasks and of runs, if more than half of either are free, and then leaves no room. It copies the
-    /// tables. It fails only when out of memory, and then they are as before.
+    /// Whether more than half of the places are free, of tasks or of runs, whichever has more places.
+    fn is_sparse(&self) -> bool {
+        if self.tables.run_place_count() < self.tables.task_place_count() {
+            self.tables.has_sparse_tasks()
+        } else {
+            self.tables.has_sparse_runs()
+        }
+    }
+
+    /// Closes up the free places of tasks and of runs, if there are many, and then leaves no room. It copies the tables, which costs no
+    /// more than the removals before it. It fails only when out of memory, and then they are as before.
     pub fn close_up(&mut self, alloc: Global) -> Result<(), NoMemory>
         ensures { self.new.state ≡ self.old.state }
     {
-        if self.tables.has_sparse_tasks() || self.tables.has_sparse_runs() {
+        if self.is_sparse() {
             let copy = self.tables.copy()?;
             *self = IndexedTables::of_tables(alloc, copy)?;
         }

@@ -1,6 +1,6 @@
 -- What contracts see of a ledger: its nodes in the order of adding, each with its pool, its slots and how many are held.
-use Rattle.std.specs.Prelude.{ℕ, ◌+◌, ◌-◌, Bool, not, ◌&&◌, nat_eq, nat_le, List, [], ◌∷◌, ◌++◌, filter, map, Option, if◌then◌else◌}
-use Rattle.std.specs.Option.{option_map}
+use Rattle.std.specs.Prelude.{ℕ, ◌+◌, ◌-◌, Bool, false, not, ◌&&◌, nat_eq, nat_le, List, [], ◌∷◌, ◌++◌, filter, map, Option, if◌then◌else◌}
+use Rattle.std.specs.Option.{option_map, option_map_or}
 use Rattle.std.specs.List.{list_any}
 use Rattle.bt_base.specs.Ids.{same}
 use Rattle.bt_rows.specs.declared.pool.Fill.{Fill}
@@ -42,6 +42,9 @@ change_entry node change entries = map (λ entry. if is_of node entry then chang
 abbrev pub with_node : List Entry → ℕ → List ℕ → ℕ → List Entry
 with_node entries number of_pool count = entries ++ record { node = number; pool = of_pool; slots = count; held = 0 } ∷ []
 
+abbrev pub with_holder : List Entry → ℕ → List ℕ → ℕ → ℕ → List Entry
+with_holder entries number of_pool count taken = entries ++ record { node = number; pool = of_pool; slots = count; held = taken } ∷ []
+
 abbrev pub without_node : List Entry → ℕ → List Entry
 without_node entries node = filter (λ entry. not (is_of node entry)) entries
 
@@ -64,3 +67,7 @@ precedes fill entry other = prefers fill entry.held entry.node other.held other.
 -- the node of the pool on which `need` slots are to be held
 abbrev pub chosen : List Entry → List ℕ → Fill → ℕ → Option ℕ
 chosen entries pool fill need = option_map (λ (entry : Entry). entry.node) (best (precedes fill) (filter (fits pool need) entries))
+
+-- no more slots are needed than this number, if there is one
+abbrev pub is_within : ℕ → Option ℕ → Bool
+is_within need most = option_map_or (nat_le need) most false

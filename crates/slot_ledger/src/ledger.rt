@@ -1,8 +1,9 @@
 //! The ledger.
-ghost use Rattle.std.specs.Prelude.{◌≡◌, ◌+◌, ◌-◌, ◌≤◌, [], ◌∷◌, ◌++◌, ℕ, List, true, false, OnOk, OnErr, filter};
-ghost use Rattle.std.specs.List.{All, position};
+ghost use Rattle.std.specs.Prelude.{◌≡◌, ◌+◌, ◌-◌, ◌≤◌, [], ◌∷◌, ◌++◌, ℕ, List, true, false, ◌||◌, OnOk, OnErr, filter, is_some};
+ghost use Rattle.bt_rows.specs.declared.pool.Fill.{Fill as FillType};
+ghost use Rattle.std.specs.List.{All, list_any, position};
 ghost use Rattle.std.specs.Option.{option_copied};
-ghost use Rattle.slot_ledger.specs.Ledgers.{Entry as EntryRow, is_of, has_node, has_free_slots, has_held_slots, is_unheld, with_node, without_node, holding, giving, fits, precedes, best, chosen};
+ghost use Rattle.slot_ledger.specs.Ledgers.{Entry as EntryRow, is_of, has_node, has_free_slots, has_held_slots, is_unheld, with_node, with_holder, without_node, holding, giving, fits, precedes, best, chosen, is_within};
 ghost use Rattle.bt_rows.specs.Choice.{is_lower};
 ghost use Rattle.slot_ledger.specs.Calls.{Call, AreLegal, HoldsItsSum, after_calls};
 
@@ -65,6 +66,24 @@ impl Ledger {
         Ok(())
     }
 
+    /// Adds a node of the pool, with the given number of slots, of which `held` are held. The only error is out of memory, which changes
+    /// nothing.
+    pub fn add_holding(&mut self, node: u64, pool: &Id, slots: u8, held: u8) -> Result<(), NoMemory>
+        requires new { has_node self.old node ≡ false }
+        requires few { held ≤ slots }
+        ensures ok { OnOk result (self.new ≡ with_holder self.old node pool.now slots held) }
+        ensures err { OnErr result (self.new ≡ self.old) }
+    {
+        let pool = pool.copy()?;
+        self.entries.push(Entry {
+            node,
+            pool,
+            slots,
+            held,
+        })?;
+        Ok(())
+    }
+
     /// Removes a node of which no slot is held. It does not allocate.
     pub fn remove_node(&mut self, node: u64)
         requires { is_unheld self.old node ≡ true }
@@ -106,6 +125,52 @@ impl Ledger {
             Some(entry) => Some(entry.node),
         }
     }
+
+    /// The most slots that are free on a node of the pool: a node is chosen for no more than these. None if the pool has no node in
+    /// the ledger. It does not allocate.
+    #[tactic(auto, using(crate::proofs::MostFree::chosen_any))]
+    pub fn most_free(&self, pool: &Id) -> Option<u8>
+        ensures { (fill : FillType) (need : ℕ) → is_some (chosen self.now pool.now fill need) ≡ is_within need result }
+    {
+        most_free(&self.entries, pool)
+    }
+}
+
+/// The free slots of the entry's node, if it is of the pool.
+#[tactic(auto, using(crate::proofs::MostFree::fits_free, crate::proofs::MostFree::fits_none))]
+fn free_in(pool: &Id, entry: &Entry) -> Option<u8>
+    ensures { (need : ℕ) → is_within need result ≡ fits pool.now need entry.now }
+{
+    if entry.pool.same(pool) && entry.held <= entry.slots {
+        Some(entry.slots - entry.held)
+    } else {
+        None
+    }
+}
+
+/// The greater of two numbers of slots.
+#[tactic(auto, using(crate::proofs::MostFree::within_max, crate::proofs::MostFree::within_first))]
+fn greater(first: Option<u8>, second: Option<u8>) -> Option<u8>
+    ensures { (need : ℕ) → is_within need result ≡ (is_within need first || is_within need second) }
+{
+    match first {
+        None => second,
+        Some(one) => match second {
+            None => first,
+            Some(other) => Some(one.max(other)),
+        },
+    }
+}
+
+/// The most slots that are free on one of the entries' nodes of the pool.
+fn most_free(entries: &[Entry], pool: &Id) -> Option<u8>
+    ensures { (need : ℕ) → is_within need result ≡ list_any (fits pool.now need) entries.now }
+{
+    let mut most = None;
+    for entry in entries {
+        most = greater(most, free_in(pool, entry));
+    }
+    most
 }
 
 /// A law of legal lists of calls: each node holds what `hold` took on it and `give` did not free since it was added, which is no

@@ -1,3 +1,1 @@
 pub mod HeldSlots
-pub mod NodeEntries
-pub mod RunEntries

@@ -1,5 +1,5 @@
 -- Tasks and runs that hold slots of a node.
-use Rattle.std.specs.Prelude.{ℕ, Bool, ◌&&◌, nat_eq, nat_lt, List, filter}
+use Rattle.std.specs.Prelude.{ℕ, Bool, ◌&&◌, nat_eq, nat_lt, List}
 use Rattle.std.specs.List.{list_any}
 use Rattle.batch_model.specs.Runs.{is_present}
 use Rattle.batch_model.specs.Tasks.{is_placed}
@@ -12,15 +12,3 @@ has_slots node task run = nat_eq run.node node && (nat_lt 0 run.slots && is_pres
 -- the task is placed, and a run of its present attempt has slots of the node
 abbrev pub is_holder : List RunRow → ℕ → TaskRow → Bool
 is_holder runs node task = is_placed task.stage && list_any (has_slots node task) runs
-
--- those that are placed
-abbrev pub only_placed : List TaskRow → List TaskRow
-only_placed tasks = filter (λ task. is_placed task.stage) tasks
-
--- the run is of the present attempt of one of the tasks
-abbrev pub is_of_any : List TaskRow → RunRow → Bool
-is_of_any tasks run = list_any (λ task. is_present task run) tasks
-
--- the run has slots, and is of the present attempt of one of the tasks
-abbrev pub is_holding : List TaskRow → RunRow → Bool
-is_holding tasks run = nat_lt 0 run.slots && is_of_any tasks run

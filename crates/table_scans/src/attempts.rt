@@ -38,22 +38,8 @@ pub fn is_success(ending: Ending) -> bool
     matches!(ending, Ending::Code(0))
 }
 
-/// Whether the run is of the task's present attempt and has not ended.
-fn is_busy_for(task: &TaskRow, run: &RunRow) -> bool
-    ensures { result ≡ is_busy_for task.now run.now }
-{
-    is_present(task, run) && is_unended(run.state)
-}
-
-/// Whether a run of the task's present attempt has not ended.
-pub fn is_busy(tables: &Tables, task: &TaskRow) -> bool
-    ensures { result ≡ is_busy tables.now.state task.now }
-{
-    tables.runs().any(|run| is_busy_for(task, run))
-}
-
 /// How the run ended, if it did.
-fn ending_of(state: RunState) -> Option<Ending>
+pub fn ending_of(state: RunState) -> Option<Ending>
     ensures { result ≡ ending_of state }
 {
     match state {

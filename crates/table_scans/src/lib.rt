@@ -1,17 +1,14 @@
-//! Scans of the tables that planners and writers share: runs, attempts of tasks, nodes of pools, the slots that are held, and the ledger
-//! of the usable nodes.
+//! Scans of the tables that planners and writers share: runs, attempts of tasks, nodes of pools, and the slots that are held.
 //! What each answers is defined in `batch_model`.
 #![tactic(auto)]
 
 mod attempts;
-mod entries;
 mod nodes;
 mod runs;
 mod slots;
 mod states;
 
-pub use attempts::{is_active, is_busy, is_placed, is_success, is_unended, main_ending};
-pub use entries::ledger_of;
+pub use attempts::{ending_of, is_active, is_placed, is_success, is_unended, main_ending};
 pub use nodes::{has_leaving, has_number_left, is_in_pool, is_resizing, is_usable, staying_count};
 pub use runs::{is_present, is_start_number, names};
 pub use slots::holds_slots;

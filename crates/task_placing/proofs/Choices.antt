@@ -20,7 +20,7 @@ use Rattle.batch_model.specs.Slots.{held_slots}
 use Rattle.batch_model.specs.Variants.{State, PoolRow, NodeRow, JobRow}
 use Rattle.model_lists.proofs.RowLists.{each_found, any_none, find_agree}
 use Rattle.model_lists.proofs.Tests.{not_true}
-use Rattle.table_scans.specs.Entries.{slots_of, entry_of, only_usable, ledger_of}
+use Rattle.task_placing.specs.Entries.{slots_of, entry_of, only_usable, ledger_of}
 use Rattle.task_placing.specs.Fitting.{IsPoolRow, fits_in, fits_by}
 
 module _ {X Y : Type 0} where

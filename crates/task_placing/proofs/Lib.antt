@@ -1,4 +1,4 @@
 pub mod Choices
-pub mod LeastNumbers
+pub mod NodeEntries
 pub mod NotPlaced
 pub mod Placements

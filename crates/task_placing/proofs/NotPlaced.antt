@@ -10,7 +10,8 @@ use Rattle.bt_rows.specs.Keys.{same_pool, same_pool_equiv}
 use Rattle.bt_rows.specs.Lists.{AreDistinct}
 use Rattle.bt_rows.proofs.DistinctRows.{found_first}
 use Rattle.slot_ledger.specs.declared.ledger.Entry.{Entry}
-use Rattle.slot_ledger.specs.Ledgers.{chosen}
+use Rattle.slot_ledger.specs.Ledgers.{chosen, is_within}
+use Rattle.bt_rows.specs.declared.pool.Fill.{Fill}
 use Rattle.batch_model.specs.Finding.{Each, best, find_map, only_if, or_else}
 use Rattle.batch_model.specs.Nodes.{is_in_pool, is_usable}
 use Rattle.batch_model.specs.Placing.{is_ready, is_placeable, fits, precedes, choice, places_tasks, place, place_task, place_in, place_of_job}
@@ -19,13 +20,12 @@ use Rattle.batch_model.specs.Slots.{held_slots}
 use Rattle.batch_model.specs.Tasks.{is_in_job}
 use Rattle.batch_model.specs.WellFormed.{needs_length, is_task_valid, is_task_in_range, is_task_past, has_fitting_failures}
 use Rattle.batch_model.specs.Variants.{State, PoolRow, NodeRow, JobRow, TaskRow}
-use Rattle.model_lists.proofs.RowLists.{find_test, each_head, each_tail, each_found, each_any, none_weaker, any_none}
+use Rattle.model_lists.proofs.RowLists.{find_test, each_head, each_tail, each_found, each_any, none_weaker, any_none, find_agree}
 use Rattle.model_lists.proofs.Tests.{and_true, and_first, and_second, or_false_first, or_false_second, not_true}
-use Rattle.table_scans.specs.Entries.{ledger_of}
+use Rattle.task_placing.specs.Entries.{ledger_of}
 use Rattle.task_placing.specs.Fitting.{IsPoolRow, fits_in, fits_by}
-use Rattle.task_placing.specs.LeastSlots.{is_ready_in, least_slots}
 use Rattle.task_placing.proofs.Choices.{same_room, same_fits, node_alone, node_before}
-use Rattle.task_placing.proofs.LeastNumbers.{is_at_most, asks_for, each_asks}
+use Rattle.machine_index.specs.Ready.{is_ready_within}
 
 module _ {Q R : Type 0} where
   first_gives : (give : Q → Option R) (x : Q) (xs : List Q) (b : Bool) → b ≡ is_some (give x) → (found : Option Q) → find_map give xs ≡ option_and_then give found → or_else (give x) (find_map give xs) ≡ option_and_then give (cond b (Some x) found)
@@ -139,36 +139,11 @@ none_is (Some x) h = cc
 
 -- a job without a task that fits
 
-turned : (b c : Bool) → (b && c) ≡ true → (c && b) ≡ true
-turned true true h = refl
-turned true false h = cc
-turned false c h = cc
-
-none_fits : (s : State) (job : JobRow) (pool : PoolRow) (a : TaskRow → Bool) → ((task : TaskRow) → a task ≡ true → is_ready_in job.id task ≡ true → choice s pool task.slots ≡ None) → Each a s.tasks → find_map (place_task s job pool) s.tasks ≡ None
+none_fits : (s : State) (job : JobRow) (pool : PoolRow) (a : TaskRow → Bool) → ((task : TaskRow) → a task ≡ true → choice s pool task.slots ≡ None) → Each a s.tasks → find_map (place_task s job pool) s.tasks ≡ None
 none_fits s job pool a none each =
     none_of_all a (place_task s job pool)
-    (λ task h. none_chosen (is_placeable job task) (place s task) (choice s pool task.slots) (λ k. none task h (turned (is_in_job job.id task) (is_ready task) k)))
+    (λ task h. none_chosen (is_placeable job task) (place s task) (choice s pool task.slots) (λ k. none task h))
     s.tasks each
-
-bounded : (s : State) (job : JobRow) (pool : PoolRow) (least : Option ℕ) → ((n : ℕ) → is_at_most least n ≡ true → choice s pool n ≡ None) → (task : TaskRow) → asks_for job.id least task ≡ true → is_ready_in job.id task ≡ true → choice s pool task.slots ≡ None
-bounded s job pool least none task h ready = none task.slots (under (is_ready_in job.id task) (is_at_most least task.slots) h ready)
-  where
-    under : (a b : Bool) → (not a || b) ≡ true → a ≡ true → b ≡ true
-    under true b i j = i
-    under false b i j = cc
-
--- one that has no ready task
-pub none_ready : (s : State) (job : JobRow) (pool : PoolRow) → least_slots job.id s.tasks ≡ None → find_map (place_task s job pool) s.tasks ≡ None
-none_ready s job pool e =
-    none_fits s job pool (asks_for job.id (least_slots job.id s.tasks))
-    (bounded s job pool (least_slots job.id s.tasks) (λ n h. let k : false ≡ true = sym (ap (λ o. is_at_most o n) e) ∙ h in cc)) (each_asks job.id s.tasks)
-
--- one whose ready tasks ask for no fewer slots than those for which there is no node
-pub none_for_least : (s : State) (entries : List Entry) (job : JobRow) (pool : PoolRow) (need : ℕ) → entries ≡ ledger_of s → IsPoolRow s pool → least_slots job.id s.tasks ≡ Some need → is_some (chosen entries pool.id pool.fill need) ≡ false → find_map (place_task s job pool) s.tasks ≡ None
-none_for_least s entries job pool need e is_row least h =
-    let none : choice s pool need ≡ None = none_is (choice s pool need) (sym (same_room s entries pool need e is_row) ∙ h) in
-    none_fits s job pool (asks_for job.id (least_slots job.id s.tasks))
-    (bounded s job pool (least_slots job.id s.tasks) (λ n k. none_for_more s pool need n none (leb-true need n (sym (ap (λ o. is_at_most o n) least) ∙ k)))) (each_asks job.id s.tasks)
 
 -- no free slot
 
@@ -195,10 +170,34 @@ none_in_pool s entries job (Some pool) found e d valid h =
     let full : not (is_some (chosen entries pool.id pool.fill 1)) ≡ true = each_found (λ row. not (is_some (chosen entries row.id row.fill 1))) (is_pool job.pool) pool s.pools found (any_none (λ row. is_some (chosen entries row.id row.fill 1)) s.pools h) in
     let none : choice s pool 1 ≡ None = none_is (choice s pool 1) (sym (same_room s entries pool 1 e (pool_row s job.pool pool d found)) ∙ not_true (is_some (chosen entries pool.id pool.fill 1)) full) in
     only_none (not pool.deleting) (find_map (place_task s job pool) s.tasks)
-    (none_fits s job pool (is_task_valid s.moment) (λ task k ready. none_for_more s pool 1 task.slots none (at_least_one s.moment task k)) valid)
+    (none_fits s job pool (is_task_valid s.moment) (λ task k. none_for_more s pool 1 task.slots none (at_least_one s.moment task k)) valid)
 
 pub none_free : (s : State) (entries : List Entry) → entries ≡ ledger_of s → AreDistinct same_pool s.pools → Each (is_task_valid s.moment) s.tasks → list_any (λ pool. is_some (chosen entries pool.id pool.fill 1)) s.pools ≡ false → find_map (place_of_job s) s.jobs ≡ None
 none_free s entries e d valid h =
     none_of_all (λ job. true) (place_of_job s)
     (λ job k. only_none (places_tasks job) (option_and_then (place_in s job) (pool_of s job.pool)) (none_in_pool s entries job (pool_of s job.pool) refl e d valid h))
     s.jobs (each_any (λ job. true) (λ job. refl) s.jobs)
+
+-- the first task that fits by a ledger is the first ready one for which enough slots are free
+
+fit_within : (entries : List Entry) (job : JobRow) (pool : PoolRow) (most : ℕ) → ((need : ℕ) → is_some (chosen entries pool.id pool.fill need) ≡ nat_le need most) → (tasks : List TaskRow) → find (fits_by entries job pool) tasks ≡ find (is_ready_within job.id most) tasks
+fit_within entries job pool most same tasks =
+    find_agree (fits_by entries job pool) (is_ready_within job.id most) (λ task. ap (λ b. is_placeable job task && b) (same task.slots)) tasks
+
+and_none : (b : Bool) → (b && false) ≡ false
+and_none true = refl
+and_none false = refl
+
+find_never : {R : Type 0} (test : R → Bool) → ((x : R) → test x ≡ false) → (xs : List R) → find test xs ≡ None
+find_never test never [] = refl
+find_never test never (x ∷ xs) = rw (never x, find_never test never xs) refl
+
+fit_never : (entries : List Entry) (job : JobRow) (pool : PoolRow) → ((need : ℕ) → is_some (chosen entries pool.id pool.fill need) ≡ false) → (tasks : List TaskRow) → find (fits_by entries job pool) tasks ≡ None
+fit_never entries job pool none tasks =
+    find_never (fits_by entries job pool) (λ task. ap (λ b. is_placeable job task && b) (none task.slots) ∙ and_none (is_placeable job task)) tasks
+
+-- the task that was found for the most free slots, if there are any
+pub fits_most : (entries : List Entry) (job : JobRow) (pool : PoolRow) (most : Option ℕ) → ((fill : Fill) (need : ℕ) → is_some (chosen entries pool.id fill need) ≡ is_within need most) → (tasks : List TaskRow)
+    → find (fits_by entries job pool) tasks ≡ option_and_then (λ n. find (is_ready_within job.id n) tasks) most
+fits_most entries job pool None same tasks = fit_never entries job pool (same pool.fill) tasks
+fits_most entries job pool (Some most) same tasks = fit_within entries job pool most (same pool.fill) tasks

@@ -1,3 +1,3 @@
 pub mod Conditions
+pub mod Entries
 pub mod Fitting
-pub mod LeastSlots

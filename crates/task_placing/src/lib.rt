@@ -2,8 +2,8 @@
 //! prefers.
 #![tactic(auto)]
 
+mod entries;
 mod first;
 mod place;
-mod ready;
 
 pub use first::place_first;

@@ -5,4 +5,4 @@ use Rattle.task_placing.proofs.first.place_of_jobs.Given as goal
 
 -- what is left gives what all jobs give
 abbrev pub invariant-loop-job : goal.invariant-loop-job
-invariant-loop-job l = find_map (place_of_job l.tables.state) l.job-iterator ≡ find_map (place_of_job l.tables.state) l.tables.state.jobs
+invariant-loop-job l = find_map (place_of_job l.indexed.state) l.job-iterator ≡ find_map (place_of_job l.indexed.state) l.indexed.state.jobs
