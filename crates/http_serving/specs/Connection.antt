@@ -1,0 +1,103 @@
+-- A connection: requests one after the other, each with its response, and an end. It is a relation between all the bytes that the
+-- link had, the exchanges, the bytes that were written, and the end; how the bytes came is no part of it.
+use Rattle.std.specs.Prelude.{◌≡◌, ℕ, ◌+◌, ◌<◌, Bool, true, false, List, [], ◌∷◌, ◌++◌, Option, Some, None, ⊤}
+use Rattle.std.specs.List.{flat_map}
+use Rattle.std.specs.Str.{bytes_eq}
+use Rattle.httparse.specs.Grammar.{RequestHead}
+use Rattle.bt_base.specs.Content.{Gains, GainsFront}
+use Rattle.http_head.specs.Fields.{fields_of}
+use Rattle.http_head.specs.Framing.{is_last}
+use Rattle.http_serving.specs.declared.connection.TheConstants.{MESSAGE_LIMIT}
+use Rattle.http_serving.specs.declared.end.End.{End}
+use Rattle.http_serving.specs.declared.end.End.TheVariants.{Closed, Asked, Spent, Truncated, LinkFault, Memory}
+use Rattle.http_serving.specs.declared.response.Response.{Response}
+use Rattle.http_serving.specs.Services.{Request}
+use Rattle.http_serving.specs.Responses.{head_text, text_of, end_text}
+use Rattle.http_serving.specs.Reading.{HasMessage, AllowsEnd}
+
+-- where a connection is: whether its last request asked that it end, how many requests were answered, the service, and the
+-- bytes that are left
+pub record Position (S : Type 0) : Type 0 where
+  pub asked : Bool
+  pub answered : ℕ
+  pub service : S
+  pub left : List ℕ
+
+-- a request and its response
+pub record Exchange : Type 0 where
+  pub head : RequestHead
+  pub body : List ℕ
+  pub response : Response
+
+-- the request, as the service sees it
+abbrev pub request_of : Exchange → Request
+request_of x = record { method = x.head.method; target = x.head.target; body = x.body }
+
+-- from one position a request is answered, and the next position follows
+pub record IsExchange {S : Type 0} (answers : S → Request → Response → S → Type 0) (p : Position S) (x : Exchange) (q : Position S) : Type 0 where
+  pub not_asked : p.asked ≡ false
+  pub more : p.answered < MESSAGE_LIMIT
+  pub message : HasMessage p.left x.head x.body q.left
+  pub answer : answers p.service (request_of x) x.response q.service
+  pub asked : q.asked ≡ is_last x.head.minor (fields_of x.head)
+  pub answered : q.answered ≡ p.answered + 1
+
+-- one exchange after the other
+abbrev pub Exchanges : {S : Type 0} → (S → Request → Response → S → Type 0) → Position S → List Exchange → Position S → Type 0
+Exchanges answers p [] q = q ≡ p
+Exchanges answers p (x ∷ xs) q = (m : Position _) × IsExchange answers p x m × Exchanges answers m xs q
+
+-- what is written of an exchange, and of several
+abbrev pub exchange_text : Exchange → List ℕ
+exchange_text x = text_of (bytes_eq x.head.method head_text) x.response
+
+abbrev pub exchanges_text : List Exchange → List ℕ
+exchanges_text exchanges = flat_map exchange_text exchanges
+
+-- what is written at an end
+abbrev pub last_text : End → List ℕ
+last_text Closed = []
+last_text Asked = []
+last_text Spent = []
+last_text Truncated = []
+last_text LinkFault = []
+last_text Memory = []
+last_text end = end_text end
+
+-- a connection may end so at this position
+abbrev pub EndsAt : {S : Type 0} → Position S → End → Type 0
+EndsAt p LinkFault = ⊤
+EndsAt p Memory = ⊤
+EndsAt p Asked = p.asked ≡ true
+EndsAt p Spent = (p.asked ≡ false) × (p.answered ≡ MESSAGE_LIMIT)
+EndsAt p end = (p.asked ≡ false) × (p.answered < MESSAGE_LIMIT) × AllowsEnd p.left end
+
+-- these are the link's bytes, if contracts can see them
+abbrev pub AreTold : Option (List ℕ) → List ℕ → Type 0
+AreTold None bytes = ⊤
+AreTold (Some told) bytes = told ≡ bytes
+
+-- at LinkFault and Memory a prefix of the text was written, and at each other end all of it
+abbrev pub IsWritten : End → Option (List ℕ) → Option (List ℕ) → List ℕ → Type 0
+IsWritten LinkFault before now text = GainsFront before now text
+IsWritten Memory before now text = GainsFront before now text
+IsWritten end before now text = Gains before now text
+
+-- a fault may come at any position, also while the answer before another end is written
+abbrev pub EndsAs : End → End → Type 0
+EndsAs planned LinkFault = ⊤
+EndsAs planned Memory = ⊤
+EndsAs planned end = planned ≡ end
+
+-- what a connection was: the bytes of the link, the exchanges from the first position on, and what was written
+pub record Served {S : Type 0} (answers : S → Request → Response → S → Type 0) (old new : S) (left before now : Option (List ℕ)) (end : End) : Type 0 where
+  pub bytes : List ℕ
+  pub told : AreTold left bytes
+  pub exchanges : List Exchange
+  pub position : Position S
+  pub leads : Exchanges answers (record { asked = false; answered = 0; service = old; left = bytes }) exchanges position
+  pub service : position.service ≡ new
+  pub planned : End
+  pub cut : EndsAs planned end
+  pub ends : EndsAt position planned
+  pub written : IsWritten end before now (exchanges_text exchanges ++ last_text planned)

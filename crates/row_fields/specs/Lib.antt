@@ -1,0 +1,10 @@
+pub mod Fields
+pub mod Scalars
+pub mod Texts
+pub mod Tuples
+pub mod Arrays
+pub mod Names
+pub mod UnitEnums
+pub mod PayloadEnums
+pub mod Plain
+pub mod Parts

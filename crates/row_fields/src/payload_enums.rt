@@ -1,0 +1,208 @@
+//! Enums of which a variant has a value.
+ghost use Rattle.std.specs.Prelude.{◌≡◌};
+ghost use Rattle.row_fields.specs.PayloadEnums.{
+  ending_name,
+  ending_data,
+  ending_in,
+  ending_plain,
+  node_stage_name,
+  node_stage_data,
+  node_stage_in,
+  node_stage_plain,
+  run_state_name,
+  run_state_data,
+  run_state_in,
+  run_state_plain,
+  how_name,
+  how_data,
+  how_in,
+  how_plain,
+};
+
+use crate::fault::RowFault;
+use crate::field::Field;
+use crate::named::{Named, find_named, name_value, payload_of, payload_value};
+use bt_base::{Fail, NoMemory};
+use bt_rows::node::NodeStage;
+use bt_rows::run::{Ending, RunState};
+use bt_rows::task::How;
+use serde_json::Value;
+use std::alloc::Global;
+
+impl Named for Ending {
+    ghost name = { ending_name };
+
+    #[tactic(auto, unfolding(crate::specs::PayloadEnums::ending_name))]
+    fn name(self) -> &'static str {
+        match self {
+            Ending::Code(_) => "Code",
+            Ending::NoCode => "NoCode",
+            Ending::NotStarted => "NotStarted",
+        }
+    }
+}
+
+impl Field for Ending {
+    ghost data_of = { ending_data };
+
+    ghost in_data = { ending_in };
+
+    ghost nesting = { 1 };
+
+    ghost plain = { ending_plain };
+
+    #[tactic(auto, using(crate::proofs::ReadBack::ending_back), unfolding(crate::specs::PayloadEnums::ending_data, crate::specs::PayloadEnums::ending_name))]
+    fn to_value(&self, alloc: Global) -> Result<Value, NoMemory> {
+        match self {
+            Ending::Code(code) => payload_value(alloc, *self, code),
+            _ => name_value(alloc, *self),
+        }
+    }
+
+    #[tactic(auto, unfolding(crate::specs::PayloadEnums::ending_in))]
+    fn of_value(alloc: Global, value: &Value) -> Result<Ending, Fail<RowFault>> {
+        match payload_of(alloc, "Code", value) {
+            Ok(code) => Ok(Ending::Code(code)),
+            Err(Fail::Memory) => Err(Fail::Memory),
+            Err(Fail::Why(_)) => find_named(&[Ending::NoCode, Ending::NotStarted], value),
+        }
+    }
+}
+
+impl Named for NodeStage {
+    ghost name = { node_stage_name };
+
+    #[tactic(auto, unfolding(crate::specs::PayloadEnums::node_stage_name))]
+    fn name(self) -> &'static str {
+        match self {
+            NodeStage::Starting => "Starting",
+            NodeStage::Usable => "Usable",
+            NodeStage::StartFailed => "StartFailed",
+            NodeStage::Leaving(_) => "Leaving",
+        }
+    }
+}
+
+impl Field for NodeStage {
+    ghost data_of = { node_stage_data };
+
+    ghost in_data = { node_stage_in };
+
+    ghost nesting = { 1 };
+
+    ghost plain = { node_stage_plain };
+
+    #[tactic(auto, using(crate::proofs::ReadBack::node_stage_back), unfolding(crate::specs::PayloadEnums::node_stage_data, crate::specs::PayloadEnums::node_stage_name))]
+    fn to_value(&self, alloc: Global) -> Result<Value, NoMemory> {
+        match self {
+            NodeStage::Leaving(option) => payload_value(alloc, *self, option),
+            _ => name_value(alloc, *self),
+        }
+    }
+
+    #[tactic(auto, unfolding(crate::specs::PayloadEnums::node_stage_in))]
+    fn of_value(alloc: Global, value: &Value) -> Result<NodeStage, Fail<RowFault>> {
+        match payload_of(alloc, "Leaving", value) {
+            Ok(option) => Ok(NodeStage::Leaving(option)),
+            Err(Fail::Memory) => Err(Fail::Memory),
+            Err(Fail::Why(_)) => find_named(
+                &[
+                    NodeStage::Starting,
+                    NodeStage::Usable,
+                    NodeStage::StartFailed,
+                ],
+                value,
+            ),
+        }
+    }
+}
+
+impl Named for RunState {
+    ghost name = { run_state_name };
+
+    #[tactic(auto, unfolding(crate::specs::PayloadEnums::run_state_name))]
+    fn name(self) -> &'static str {
+        match self {
+            RunState::Waiting => "Waiting",
+            RunState::Queued => "Queued",
+            RunState::Taken => "Taken",
+            RunState::Ended(_) => "Ended",
+            RunState::Withdrawn => "Withdrawn",
+        }
+    }
+}
+
+impl Field for RunState {
+    ghost data_of = { run_state_data };
+
+    ghost in_data = { run_state_in };
+
+    ghost nesting = { 2 };
+
+    ghost plain = { run_state_plain };
+
+    #[tactic(auto, using(crate::proofs::ReadBack::run_state_back), unfolding(crate::specs::PayloadEnums::run_state_data, crate::specs::PayloadEnums::run_state_name))]
+    fn to_value(&self, alloc: Global) -> Result<Value, NoMemory> {
+        match self {
+            RunState::Ended(ending) => payload_value(alloc, *self, ending),
+            _ => name_value(alloc, *self),
+        }
+    }
+
+    #[tactic(auto, unfolding(crate::specs::PayloadEnums::run_state_in))]
+    fn of_value(alloc: Global, value: &Value) -> Result<RunState, Fail<RowFault>> {
+        match payload_of(alloc, "Ended", value) {
+            Ok(ending) => Ok(RunState::Ended(ending)),
+            Err(Fail::Memory) => Err(Fail::Memory),
+            Err(Fail::Why(_)) => find_named(
+                &[
+                    RunState::Waiting,
+                    RunState::Queued,
+                    RunState::Taken,
+                    RunState::Withdrawn,
+                ],
+                value,
+            ),
+        }
+    }
+}
+
+impl Named for How {
+    ghost name = { how_name };
+
+    #[tactic(auto, unfolding(crate::specs::PayloadEnums::how_name))]
+    fn name(self) -> &'static str {
+        match self {
+            How::Ended(_) => "Ended",
+            How::Terminated => "Terminated",
+            How::Wall => "Wall",
+        }
+    }
+}
+
+impl Field for How {
+    ghost data_of = { how_data };
+
+    ghost in_data = { how_in };
+
+    ghost nesting = { 2 };
+
+    ghost plain = { how_plain };
+
+    #[tactic(auto, using(crate::proofs::ReadBack::how_back), unfolding(crate::specs::PayloadEnums::how_data, crate::specs::PayloadEnums::how_name))]
+    fn to_value(&self, alloc: Global) -> Result<Value, NoMemory> {
+        match self {
+            How::Ended(ending) => payload_value(alloc, *self, ending),
+            _ => name_value(alloc, *self),
+        }
+    }
+
+    #[tactic(auto, unfolding(crate::specs::PayloadEnums::how_in))]
+    fn of_value(alloc: Global, value: &Value) -> Result<How, Fail<RowFault>> {
+        match payload_of(alloc, "Ended", value) {
+            Ok(ending) => Ok(How::Ended(ending)),
+            Err(Fail::Memory) => Err(Fail::Memory),
+            Err(Fail::Why(_)) => find_named(&[How::Terminated, How::Wall], value),
+        }
+    }
+}

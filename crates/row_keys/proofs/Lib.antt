@@ -1,0 +1,3 @@
+pub mod KeptNumbers
+pub mod CountedKeys
+pub mod SeenKeys
