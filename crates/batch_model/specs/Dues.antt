@@ -8,6 +8,8 @@ use Rattle.batch_model.specs.Rows.{put_pool, add_node_row, add_run_row}
 use Rattle.batch_model.specs.Runs.{start_run}
 use Rattle.batch_model.specs.Pools.{is_resizing, has_leaving, staying_count, free_seat, waits_for_start}
 use Rattle.batch_model.specs.Settling.{is_to_settle, settle}
+use Rattle.batch_model.specs.JobRules.{enable_first, terminate_first, disable_first, end_first}
+use Rattle.batch_model.specs.WallTimes.{time_out_task_first, time_out_job_first}
 use Rattle.batch_model.specs.Placing.{place_first}
 use Rattle.batch_model.specs.Steps.{DueStep}
 use Rattle.batch_model.specs.Variants.{State, PoolRow, StartTask, Steady, AllocationTimedOut, NodeRow, NodeStage, Starting, Usable}
@@ -15,6 +17,13 @@ use Rattle.batch_model.specs.Variants.{State, PoolRow, StartTask, Steady, Alloca
 -- U5: a placed task whose present attempt has no unended run is settled
 abbrev pub settle_first : State → Option DueStep
 settle_first s = option_and_then (settle s) (find (is_to_settle s) s.tasks)
+
+-- the rules of jobs and tasks: the wall time of a task is over (U2), and that of a job (U4), a task is settled (U5), a job is
+-- active again (U6), it is terminated with its tasks (U7), it is disabled (U8), and it has ended (U10)
+abbrev pub job_step : State → Option DueStep
+job_step s =
+    first_of
+    (time_out_task_first s ∷ time_out_job_first s ∷ settle_first s ∷ enable_first s ∷ terminate_first s ∷ disable_first s ∷ end_first s ∷ [])
 
 -- U11: a resizing pool that has reached its target is steady, and so is one whose timeout is over
 
@@ -94,8 +103,8 @@ add_node seats s = only_if (has_number_left s.next_run && has_number_left s.next
 abbrev pub node_step : ℕ → State → Option DueStep
 node_step seats s = add_node seats s
 
--- U16: the first task in the order of placing that fits is placed
+-- U16: the first task in the order of placing that fits is placed: of the job of higher priority, then of the earlier job
 
 -- the first rule that applies; none is rest
 abbrev pub due_step : ℕ → State → Option DueStep
-due_step seats s = first_of (settle_first s ∷ end_resize s ∷ node_step seats s ∷ place_first s ∷ [])
+due_step seats s = first_of (job_step s ∷ end_resize s ∷ node_step seats s ∷ place_first s ∷ [])

@@ -1,31 +1,35 @@
 -- Events: their refusals in order, their statuses and what they do. The events that are not built stand in NotBuilt.
-use Rattle.std.specs.Prelude.{ℕ, Bool, true, false, not, ◌&&◌, nat_lt, nat_le, max, List, [], ◌∷◌, length, Option, Some, None, is_some, unwrap_or}
+use Rattle.std.specs.Prelude.{ℕ, Bool, true, false, not, ◌&&◌, nat_lt, nat_le, max, List, [], ◌∷◌, length, codes, Option, Some, None, is_some, unwrap_or}
 use Rattle.std.specs.Option.{option_map_or}
 use Rattle.bt_rows.specs.declared.event.EventKind.{EventKind}
-use Rattle.bt_rows.specs.declared.event.EventKind.TheVariants.{AddPool, AddJob, AddTask, AddTasks, Take, End, Tick}
+use Rattle.bt_rows.specs.declared.event.EventKind.TheVariants.{AddPool, AddJob, PatchJob, DisableJob, EnableJob, TerminateJob, DeleteJob, AddTask, AddTasks, Take, End, Tick}
 use Rattle.bt_rows.specs.declared.event.PoolSpec.{PoolSpec}
 use Rattle.bt_rows.specs.declared.event.JobSpec.{JobSpec}
+use Rattle.bt_rows.specs.declared.event.Limits.{Limits}
+use Rattle.bt_rows.specs.declared.event.JobPatch.{JobPatch}
+use Rattle.bt_rows.specs.declared.event.DisableTasks.{DisableTasks}
 use Rattle.bt_rows.specs.declared.event.TaskSpec.{TaskSpec}
 use Rattle.bt_rows.specs.declared.refusal.Table.TheVariants.{Pools, Jobs, Tasks}
 use Rattle.bt_rows.specs.declared.refusal.Refusal.{Refusal}
 use Rattle.bt_rows.specs.declared.refusal.Refusal.TheVariants.{PoolNotFound, PoolExists, PoolBeingDeleted, JobNotFound, JobExists, JobStateRefuses, TaskExists}
 use Rattle.bt_rows.specs.declared.refusal.Refusal.TheVariants.{DependencyListTooLong, CollectionTooLong, RunNotFound, RunAlreadyEnded, RunAlreadyTaken}
-use Rattle.bt_rows.specs.declared.refusal.Refusal.TheVariants.{RunNotTaken, RunWithdrawn, RunWaiting, TableFull}
+use Rattle.bt_rows.specs.declared.refusal.Refusal.TheVariants.{RunNotTaken, RunWithdrawn, RunWaiting, TableFull, TerminationEngaged}
 use Rattle.bt_rows.specs.declared.reply.Element.{Element}
 use Rattle.bt_rows.specs.declared.reply.Element.TheVariants.{Added, NotAdded}
 use Rattle.bt_rows.specs.declared.reply.Reply.TheVariants.{Status, Refused, Elements}
-use Rattle.batch_model.specs.Finding.{first_of, names}
-use Rattle.batch_model.specs.Rows.{is_run, pool_of, job_of, task_of, run_of, add_pool_row, add_job_row, add_task_row, change_tasks, change_runs}
+use Rattle.batch_model.specs.Finding.{first_of, at_row, names}
+use Rattle.batch_model.specs.Rows.{is_run, pool_of, job_of, task_of, run_of, add_pool_row, add_job_row, add_task_row, put_job, change_tasks, change_runs}
 use Rattle.batch_model.specs.Runs.{is_waiting, is_taken, is_ended, is_withdrawn}
 use Rattle.batch_model.specs.Tasks.{new_task}
-use Rattle.batch_model.specs.Jobs.{is_past, new_job}
+use Rattle.batch_model.specs.Jobs.{is_past, is_disabled, is_job_deleting, can_disable, job_in, new_job}
+use Rattle.batch_model.specs.Stops.{disable, close, terminate}
 use Rattle.batch_model.specs.Pools.{new_pool}
 use Rattle.batch_model.specs.Starts.{start_ended}
 use Rattle.batch_model.specs.Limits.{pool_limit, job_limit, task_limit, collection_limit, needs_limit}
 use Rattle.batch_model.specs.WellFormed.{needs_length}
 use Rattle.batch_model.specs.NotBuilt.{not_built}
 use Rattle.batch_model.specs.Steps.{Answered, refuse_if}
-use Rattle.batch_model.specs.Variants.{State, PoolRow, JobRow, TaskRow, Ending, RunRow, RunKind, StartRun, PrepRun, TaskRun, CoordinationRun, ReleaseRun, Taken}
+use Rattle.batch_model.specs.Variants.{State, PoolRow, JobRow, Enabling, Deleting, TaskRow, Ending, RunRow, RunKind, StartRun, PrepRun, TaskRun, CoordinationRun, ReleaseRun, Taken}
 use Rattle.batch_model.specs.Variants.{Ended}
 
 -- answers
@@ -77,6 +81,69 @@ add_job s id spec = for_new (is_some (job_of s id))
     for_new : Bool → Answered
     for_new true = refuse JobExists s
     for_new false = for_row s PoolNotFound (add_job_in s id spec) (pool_of s spec.pool)
+
+-- the given limits in place of the old ones
+abbrev pub limited : Limits → JobRow → JobRow
+limited limits job = record job { retries = limits.retries; wall = limits.wall }
+
+-- the given values in place of the old ones
+abbrev pub patched : JobPatch → JobRow → JobRow
+patched patch job = record (at_row limited patch.limits job) {
+  priority = unwrap_or patch.priority job.priority;
+  parallel = unwrap_or patch.parallel job.parallel;
+  on_all = unwrap_or patch.on_all job.on_all;
+}
+
+-- a job that is terminated with its tasks is told not to be
+abbrev pub takes_end_back : JobPatch → JobRow → Bool
+takes_end_back patch job = job.on_all && not (unwrap_or patch.on_all true)
+
+-- why a job is not changed, in order
+abbrev pub patch_refusals : JobPatch → JobRow → List (Option Refusal)
+patch_refusals patch job =
+    refuse_if (is_past job.state) (JobStateRefuses job.state)
+    ∷ refuse_if (takes_end_back patch job) TerminationEngaged
+    ∷ []
+
+-- `patch-job`
+abbrev pub patch_job : State → JobPatch → JobRow → Answered
+patch_job s patch job = answer s (patch_refusals patch job) 200 (put_job (patched patch job) s)
+
+-- why a job is not disabled
+abbrev pub disable_refusals : JobRow → List (Option Refusal)
+disable_refusals job = refuse_if (not (can_disable job.state)) (JobStateRefuses job.state) ∷ []
+
+-- `disable-job`
+abbrev pub disable_job : State → DisableTasks → JobRow → Answered
+disable_job s option job = answer s (disable_refusals job) 202 (disable job option s)
+
+-- why a job is not enabled
+abbrev pub enable_refusals : JobRow → List (Option Refusal)
+enable_refusals job = refuse_if (not (is_disabled job.state)) (JobStateRefuses job.state) ∷ []
+
+-- `enable-job`
+abbrev pub enable_job : State → JobRow → Answered
+enable_job s job = answer s (enable_refusals job) 202 (put_job (job_in Enabling job) s)
+
+-- the reason if a request gives none
+unfoldable pub user_terminate : List ℕ
+user_terminate = codes "UserTerminate"
+
+-- why a job is not terminated
+abbrev pub terminate_refusals : JobRow → List (Option Refusal)
+terminate_refusals job = refuse_if (is_past job.state) (JobStateRefuses job.state) ∷ []
+
+-- `terminate-job`
+abbrev pub terminate_job : State → Option (List ℕ) → JobRow → Answered
+terminate_job s reason job = answer s (terminate_refusals job) 202 (terminate (unwrap_or reason user_terminate) job s)
+
+-- why a job is not deleted
+abbrev pub delete_refusals : JobRow → List (Option Refusal)
+delete_refusals job = refuse_if (is_job_deleting job.state) (JobStateRefuses job.state) ∷ []
+
+-- `delete-job`: terminated, with a state of its own; an earlier reason goes
+abbrev pub delete_job : State → JobRow → Answered
+delete_job s job = answer s (delete_refusals job) 202 (close Deleting user_terminate job s)
 
 -- the ids that the task depends on have more characters together than the limit
 abbrev pub has_long_needs : TaskSpec → Bool
@@ -202,6 +269,11 @@ end_run s ending run = answer s (end_refusals run) 200 (run_ended s ending run)
 abbrev pub event_now : EventKind → State → Answered
 event_now (AddPool spec) s = add_pool s spec
 event_now (AddJob job spec) s = add_job s job spec
+event_now (PatchJob job patch) s = for_row s JobNotFound (patch_job s patch) (job_of s job)
+event_now (DisableJob job option) s = for_row s JobNotFound (disable_job s option) (job_of s job)
+event_now (EnableJob job) s = for_row s JobNotFound (enable_job s) (job_of s job)
+event_now (TerminateJob job reason) s = for_row s JobNotFound (terminate_job s reason) (job_of s job)
+event_now (DeleteJob job) s = for_row s JobNotFound (delete_job s) (job_of s job)
 event_now (AddTask job spec) s = for_row s JobNotFound (add_task s spec) (job_of s job)
 event_now (AddTasks job specs) s = for_row s JobNotFound (add_tasks s specs) (job_of s job)
 event_now (Take run) s = for_row s RunNotFound (take_run s) (run_of s run)

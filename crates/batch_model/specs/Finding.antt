@@ -1,5 +1,5 @@
 -- Looking for rows, changing them, and choices in order.
-use Rattle.std.specs.Prelude.{◌≡◌, ℕ, Bool, true, false, nat_eq, nat_le, List, [], ◌∷◌, map, ℤ, pos, negsuc, Option, Some, None, if◌then◌else◌}
+use Rattle.std.specs.Prelude.{◌≡◌, ℕ, ◌+◌, Bool, true, false, nat_eq, nat_le, List, [], ◌∷◌, map, ℤ, pos, negsuc, Option, Some, None, if◌then◌else◌}
 use Rattle.std.specs.List.{list_all}
 use Rattle.bt_base.specs.Ids.{same}
 use Rattle.bt_rows.specs.declared.limits.TheConstants.{NUMBER_LIMIT}
@@ -44,10 +44,19 @@ abbrev pub names : Option (List ℕ) → List ℕ → Bool
 names None id = false
 names (Some name) id = same name id
 
+-- a moment and a duration after it are over; no limit never is
+abbrev pub has_passed : ℕ → Option ℕ → ℕ → Bool
+has_passed from None now = false
+has_passed from (Some duration) now = nat_le (from + duration) now
+
 -- n is at most the limit; -1 is no limit
 abbrev pub is_within_limit : ℕ → ℤ → Bool
 is_within_limit n (pos limit) = nat_le n limit
 is_within_limit n (negsuc below) = nat_eq below 0
+
+-- n is below the limit; -1 is no limit
+abbrev pub is_below : ℕ → ℤ → Bool
+is_below n limit = is_within_limit (n + 1) limit
 
 -- the greatest number that a new node or run gets: 10^15
 abbrev pub last_number : ℕ

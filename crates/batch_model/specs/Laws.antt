@@ -1,12 +1,15 @@
 -- Laws: what holds at every moment of a history.
-use Rattle.std.specs.Prelude.{◌≡◌, ℕ, ◌+◌, ◌-◌, ◌≤◌, true, List, Some}
+use Rattle.std.specs.Prelude.{◌≡◌, ℕ, ◌+◌, ◌-◌, ◌≤◌, true, false, ◌||◌, List, Some}
 use Rattle.bt_rows.specs.declared.due.Due.{Due}
-use Rattle.bt_rows.specs.declared.due.Due.TheVariants.{TaskPlaced}
+use Rattle.bt_rows.specs.declared.due.Due.TheVariants.{TaskPlaced, JobEnded}
 use Rattle.batch_model.specs.Rows.{pool_of, node_of, job_of, task_of}
+use Rattle.batch_model.specs.Tasks.{has_placed_task}
 use Rattle.batch_model.specs.Nodes.{is_in_pool, is_usable}
 use Rattle.batch_model.specs.Slots.{held_slots}
+use Rattle.batch_model.specs.JobRules.{has_unended_run}
 use Rattle.batch_model.specs.Dues.{due_step}
-use Rattle.batch_model.specs.Sound.{SlotsSuffice}
+use Rattle.batch_model.specs.WellFormed.{QuietJobsPlaceNothing}
+use Rattle.batch_model.specs.Sound.{SlotsSuffice, CompletedJobsRest}
 use Rattle.batch_model.specs.Steps.{DueStep}
 use Rattle.batch_model.specs.Variants.{State, PoolRow, NodeRow, JobRow, TaskRow}
 
@@ -39,3 +42,14 @@ PlacesWithinSlots before _ after = Unit {0}
 pub record HoldsWithinSlots (seats : ℕ) (s : State) : Type 0 where
   pub within : SlotsSuffice s
   pub placing : (step : DueStep) → due_step seats s ≡ Some step → PlacesWithinSlots s step.due step.state
+
+-- a due step with this line leads from these tables: if a job has ended, it has no placed task and no unended run there
+abbrev pub EndsAtRest : State → Due → Type 0
+EndsAtRest before (JobEnded job end) = (has_placed_task before job || has_unended_run before job) ≡ false
+EndsAtRest before _ = Unit {0}
+
+-- a completed job has no placed task and no unended run, and the next due step ends a job only so
+pub record JobsEndAtRest (seats : ℕ) (s : State) : Type 0 where
+  pub placing : QuietJobsPlaceNothing s
+  pub resting : CompletedJobsRest s
+  pub ending : (step : DueStep) → due_step seats s ≡ Some step → EndsAtRest s step.due

@@ -2,6 +2,7 @@ pub mod Dues
 pub mod Endings
 pub mod Events
 pub mod Finding
+pub mod JobRules
 pub mod Jobs
 pub mod Laws
 pub mod Limits
@@ -20,6 +21,8 @@ pub mod Sound
 pub mod Starts
 pub mod States
 pub mod Steps
+pub mod Stops
 pub mod Tasks
 pub mod Variants
+pub mod WallTimes
 pub mod WellFormed

@@ -1,8 +1,22 @@
 -- The numbers that due steps lower, compared from the first one on.
-use Rattle.std.specs.Prelude.{ℕ, ◌+◌, ◌-◌, Bool, true, false, not, ◌&&◌, List, [], ◌∷◌, count_by, sum_by, if◌then◌else◌}
+use Rattle.std.specs.Prelude.{ℕ, ◌+◌, ◌-◌, Bool, true, false, not, ◌&&◌, List, [], ◌∷◌, count_by, sum_by, is_some, is_none, if◌then◌else◌}
 use Rattle.batch_model.specs.Tasks.{is_active, is_placed, is_completed, is_busy}
 use Rattle.batch_model.specs.Pools.{is_steady, staying_count}
-use Rattle.batch_model.specs.Variants.{State, PoolRow, TaskRow}
+use Rattle.batch_model.specs.Variants.{State, PoolRow, JobRow, JobState, JobActive, Disabling, Disabled, Enabling, Terminating, JobCompleted, Deleting, TaskRow}
+
+-- how many states at most a job passes through before it is completed, by its state
+abbrev pub steps_of_job : JobState → ℕ
+steps_of_job Enabling = 6
+steps_of_job JobActive = 5
+steps_of_job Disabling = 4
+steps_of_job Disabled = 3
+steps_of_job Terminating = 1
+steps_of_job Deleting = 1
+steps_of_job JobCompleted = 0
+
+-- over all jobs
+abbrev pub jobs_left : State → ℕ
+jobs_left s = sum_by (λ (job : JobRow). steps_of_job job.state) s.jobs
 
 -- one more if it does not hold
 abbrev pub one_unless : Bool → ℕ
@@ -17,9 +31,13 @@ steps_of_pool s pool = (pool.dedicated - staying_count s pool.id) + one_unless (
 abbrev pub pools_left : State → ℕ
 pools_left s = sum_by (steps_of_pool s) s.pools
 
--- tasks that are not completed
+-- a placed task that has started, and that can be stopped yet when its wall time is over
+abbrev pub can_time_out : TaskRow → Bool
+can_time_out task = is_placed task.stage && is_some task.started && is_none task.wanted
+
+-- tasks that are not completed, and tasks that can be stopped yet
 abbrev pub ends_left : State → ℕ
-ends_left s = count_by (λ (task : TaskRow). not (is_completed task.stage)) s.tasks
+ends_left s = count_by (λ (task : TaskRow). not (is_completed task.stage)) s.tasks + count_by can_time_out s.tasks
 
 -- a task to place counts one, and one to settle two
 abbrev pub steps_of_task : State → TaskRow → ℕ
@@ -34,4 +52,4 @@ tasks_left s = sum_by (steps_of_task s) s.tasks
 
 -- the numbers in order
 abbrev pub rank : State → List ℕ
-rank s = pools_left s ∷ ends_left s ∷ tasks_left s ∷ []
+rank s = jobs_left s ∷ pools_left s ∷ ends_left s ∷ tasks_left s ∷ []

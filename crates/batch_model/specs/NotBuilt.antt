@@ -14,7 +14,8 @@ not_built = UnreadableBody
 
 -- unended runs are start runs and main runs of tasks, and no node leaves. The rows of preparation, coordination and release
 -- runs come with preparation tasks and with tasks of several instances, and leaving nodes with resizes and deletions; the
--- lemmas that use this then say what these rows keep.
+-- lemmas that use this then say what these rows keep. With preparation tasks a job that is terminated halts its unended
+-- preparation runs, and sound tables say that completed jobs rest, which follows from this until then.
 pub record OnlyBuiltRows (s : State) : Type 0 where
   pub runs : Each (λ run. is_start run.kind || is_main run.kind || not (is_unended run.state)) s.runs
   pub nodes : Each (λ node. not (is_leaving node.stage)) s.nodes

@@ -2,9 +2,11 @@
 use Rattle.std.specs.Prelude.{ℕ, Bool, not, ◌&&◌, nat_eq, [], Some, None, is_some}
 use Rattle.batch_model.specs.Rows.{change_pools, change_tasks, change_runs}
 use Rattle.batch_model.specs.Runs.{is_unended}
+-- an unended run is withdrawn now
+pub use Rattle.batch_model.specs.Runs.{withdrawn}
 use Rattle.batch_model.specs.Tasks.{is_placed, is_undisturbed, main_ending}
 use Rattle.batch_model.specs.Pools.{is_stopping}
-use Rattle.batch_model.specs.Variants.{State, PoolRow, Steady, Resizing, TaskRow, WantRequeue, RunRow, Withdrawn}
+use Rattle.batch_model.specs.Variants.{State, PoolRow, Steady, Resizing, TaskRow, WantRequeue}
 
 -- a pool that is not being deleted and has a target
 abbrev pub is_refilled : PoolRow → Bool
@@ -29,10 +31,6 @@ is_cut_short s task = is_placed task.stage && is_undisturbed task && not (is_som
 -- its requeue is wanted
 abbrev pub requeued : TaskRow → TaskRow
 requeued task = record task { wanted = Some WantRequeue }
-
--- an unended run is withdrawn now
-abbrev pub withdrawn : ℕ → RunRow → RunRow
-withdrawn now run = record run { state = Withdrawn; ended = Some now }
 
 -- nodes and preparations are gone
 abbrev pub without_nodes : State → State

@@ -1,13 +1,12 @@
--- Placing of tasks, as far as it is built: tasks without dependencies and instances, in jobs of the usual priority without
--- preparation and without a limit on placed tasks.
-use Rattle.std.specs.Prelude.{zero, ◌+◌, ℕ, Bool, true, false, not, ◌&&◌, List, [], ◌∷◌, filter, ℤ, pos, negsuc, Option, is_none}
+-- Placing of tasks, as far as it is built: tasks without dependencies and instances, in jobs without preparation.
+use Rattle.std.specs.Prelude.{◌+◌, ℕ, Bool, true, false, not, ◌&&◌, List, [], ◌∷◌, filter, int_lt, Option, is_none, is_some}
 use Rattle.std.specs.Option.{option_map, option_and_then}
 use Rattle.bt_rows.specs.declared.due.Due.TheVariants.{TaskPlaced}
 use Rattle.bt_rows.specs.Choice.{best, prefers}
-use Rattle.batch_model.specs.Finding.{find_map, only_if, has_number_left}
+use Rattle.batch_model.specs.Finding.{find_map, only_if, is_below, has_number_left}
 use Rattle.batch_model.specs.Rows.{pool_of, put_task, add_run_row}
 use Rattle.batch_model.specs.Runs.{work_run}
-use Rattle.batch_model.specs.Tasks.{is_active, is_in_job}
+use Rattle.batch_model.specs.Tasks.{is_active, is_in_job, placed_count}
 use Rattle.batch_model.specs.Jobs.{is_job_active}
 use Rattle.batch_model.specs.Nodes.{is_in_pool, is_usable}
 use Rattle.batch_model.specs.Slots.{held_slots, has_free}
@@ -19,19 +18,13 @@ abbrev pub is_empty : {A : Type 0} → List A → Bool
 is_empty [] = true
 is_empty (item ∷ items) = false
 
--- 0, the priority of a job that names none
-abbrev pub is_usual_priority : ℤ → Bool
-is_usual_priority (pos zero) = true
-is_usual_priority _ = false
+-- the job may have one more placed task
+abbrev pub has_turn : State → JobRow → Bool
+has_turn s job = is_below (placed_count s job.id) job.parallel
 
--- -1, for any number of placed tasks
-abbrev pub is_no_limit : ℤ → Bool
-is_no_limit (negsuc zero) = true
-is_no_limit _ = false
-
--- an active job whose tasks are placed in the order of adding
-abbrev pub places_tasks : JobRow → Bool
-places_tasks job = is_job_active job.state && is_usual_priority job.priority && is_no_limit job.parallel && is_none job.prep
+-- an active job that may have one more placed task
+abbrev pub places_tasks : State → JobRow → Bool
+places_tasks s job = is_job_active job.state && has_turn s job && is_none job.prep
 
 -- a ready task: active, and depending on nothing
 abbrev pub is_ready : TaskRow → Bool
@@ -78,8 +71,20 @@ place_in s job pool = only_if (not pool.deleting) (find_map (place_task s job po
 
 -- a task of the job, in the job's pool
 abbrev pub place_of_job : State → JobRow → Option DueStep
-place_of_job s job = only_if (places_tasks job) (option_and_then (place_in s job) (pool_of s job.pool))
+place_of_job s job = only_if (places_tasks s job) (option_and_then (place_in s job) (pool_of s job.pool))
 
--- the earlier job first, while run numbers last
+-- a task of the job can be placed
+abbrev pub has_placing : State → JobRow → Bool
+has_placing s job = is_some (place_of_job s job)
+
+-- the job has a higher priority than the other
+abbrev pub is_above : JobRow → JobRow → Bool
+is_above job other = int_lt other.priority job.priority
+
+-- of the jobs of which a task can be placed the one of the highest priority, and of several such the earliest
+abbrev pub next_job : State → Option JobRow
+next_job s = best is_above (filter (has_placing s) s.jobs)
+
+-- a task of that job, while run numbers last
 abbrev pub place_first : State → Option DueStep
-place_first s = only_if (has_number_left s.next_run) (find_map (place_of_job s) s.jobs)
+place_first s = only_if (has_number_left s.next_run) (option_and_then (place_of_job s) (next_job s))

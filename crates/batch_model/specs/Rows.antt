@@ -61,6 +61,9 @@ change_runs test change s = record s { runs = change_where test change s.runs }
 abbrev pub put_pool : PoolRow → State → State
 put_pool pool s = change_pools (is_pool pool.id) (λ old. pool) s
 
+abbrev pub put_job : JobRow → State → State
+put_job job s = change_jobs (is_job job.id) (λ old. job) s
+
 abbrev pub put_task : TaskRow → State → State
 put_task task s = change_tasks (is_task task.job task.id) (λ old. task) s
 

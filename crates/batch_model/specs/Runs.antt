@@ -74,6 +74,25 @@ is_present task run = is_run_of_task task.job task.id run && nat_eq run.attempt 
 abbrev pub is_busy_for : TaskRow → RunRow → Bool
 is_busy_for task run = is_present task run && is_unended run.state
 
+-- withdrawn now
+abbrev pub withdrawn : ℕ → RunRow → RunRow
+withdrawn now run = record run { state = Withdrawn; ended = Some now }
+
+-- asked to stop
+abbrev pub asked_to_stop : RunRow → RunRow
+asked_to_stop run = record run { asked = true }
+
+-- a run that was not taken is withdrawn, one that runs is asked to stop, and one that has ended stays
+abbrev pub halted_in : RunState → ℕ → RunRow → RunRow
+halted_in Waiting now run = withdrawn now run
+halted_in Queued now run = withdrawn now run
+halted_in Taken now run = asked_to_stop run
+halted_in _ now run = run
+
+-- halted now, by its state
+abbrev pub halted : ℕ → RunRow → RunRow
+halted now run = halted_in run.state now run
+
 -- a run on a node of a pool that names no job and no task, and has no slots
 abbrev pub new_run : State → ℕ → List ℕ → RunKind → List ℕ → RunRow
 new_run s on_node of_pool what text = record {

@@ -1,16 +1,17 @@
--- What becomes of a placed task whose present attempt has no unended run, as far as it is built: tasks whose requeue is
--- wanted, and tasks without a wanted end, a failed attempt, exit conditions and retries, in jobs that take no actions.
+-- What becomes of a placed task whose present attempt has no unended run, as far as it is built: tasks whose requeue or
+-- termination is wanted, and, in jobs that take no actions, tasks without exit conditions whose wall time is over, and such
+-- tasks without a wanted end, a failed attempt and retries.
 use Rattle.std.specs.Prelude.{zero, Bool, true, false, not, ◌&&◌, ◌||◌, ℤ, pos, Option, Some, is_some, is_none, if◌then◌else◌}
 use Rattle.std.specs.Option.{option_map, option_map_or}
 use Rattle.bt_rows.specs.declared.due.Outcome.{Outcome}
 use Rattle.bt_rows.specs.declared.due.Outcome.TheVariants.{Success, Failure, Again}
 use Rattle.bt_rows.specs.declared.due.Due.TheVariants.{TaskSettled}
 use Rattle.batch_model.specs.Rows.{job_of, put_task}
-use Rattle.batch_model.specs.Tasks.{is_placed, is_busy, is_undisturbed, main_ending, retry_limit, cleared, completed}
+use Rattle.batch_model.specs.Tasks.{is_placed, is_busy, is_undisturbed, main_ending, retry_limit, cleared, completed, terminated, timed_out}
 use Rattle.batch_model.specs.Placing.{is_empty}
 use Rattle.batch_model.specs.Endings.{is_success, closed_by}
 use Rattle.batch_model.specs.Steps.{DueStep}
-use Rattle.batch_model.specs.Variants.{State, JobRow, TaskRow, Active, Want, WantRequeue, Ending}
+use Rattle.batch_model.specs.Variants.{State, JobRow, TaskRow, Active, Want, WantRequeue, WantTerminate, WantWall, Ending}
 
 -- placed, and no run of the present attempt is unended
 abbrev pub is_over : State → TaskRow → Bool
@@ -69,14 +70,58 @@ requeue s task = record {
   state = put_task (active_again task) s;
 }
 
--- requeued, or completed
+-- its termination is wanted
+abbrev pub wants_termination : Option Want → Bool
+wants_termination (Some WantTerminate) = true
+wants_termination _ = false
+
+-- over, and to be completed as terminated
+abbrev pub is_to_terminate : State → TaskRow → Bool
+is_to_terminate s task = is_over s task && wants_termination task.wanted
+
+-- completed as terminated; the line names the task
+abbrev pub terminate_task : State → TaskRow → DueStep
+terminate_task s task = record {
+  due = TaskSettled task.job task.id Failure;
+  state = put_task (terminated s.moment task) s;
+}
+
+-- its end at its wall time is wanted
+abbrev pub wants_wall_end : Option Want → Bool
+wants_wall_end (Some WantWall) = true
+wants_wall_end _ = false
+
+-- a job takes no actions when tasks fail
+abbrev pub takes_no_actions : JobRow → Bool
+takes_no_actions job = not job.on_fail
+
+-- the task's job is such
+abbrev pub has_job_without_actions : State → TaskRow → Bool
+has_job_without_actions s task = option_map_or takes_no_actions (job_of s task.job) false
+
+-- over, and to be completed as one whose wall time is over
+abbrev pub is_to_time_out : State → TaskRow → Bool
+is_to_time_out s task = is_over s task && wants_wall_end task.wanted && has_no_conditions task && has_job_without_actions s task
+
+-- completed so; the line names the task
+abbrev pub time_out_task : State → TaskRow → DueStep
+time_out_task s task = record {
+  due = TaskSettled task.job task.id Failure;
+  state = put_task (timed_out s.moment task) s;
+}
+
+-- requeued, terminated, timed out, or completed
 abbrev pub is_to_settle : State → TaskRow → Bool
-is_to_settle s task = is_to_requeue s task || is_to_complete s task
+is_to_settle s task = is_to_requeue s task || is_to_terminate s task || is_to_time_out s task || is_to_complete s task
 
 -- as its main run ended
 abbrev pub complete_as_ended : State → TaskRow → Option DueStep
 complete_as_ended s task = option_map (complete s task) (main_ending s task)
 
--- a wanted requeue goes before the ending of the main run
+-- a wanted end goes before the ending of the main run
 abbrev pub settle : State → TaskRow → Option DueStep
-settle s task = if is_to_requeue s task then Some (requeue s task) else complete_as_ended s task
+settle s task =
+    if is_to_requeue s task then Some (requeue s task)
+    else if is_to_terminate s task then Some (terminate_task s task)
+    else if is_to_time_out s task then Some (time_out_task s task)
+    else complete_as_ended s task

@@ -7,6 +7,8 @@ use Rattle.bt_rows.specs.Lists.{AreDistinct}
 use Rattle.bt_rows.specs.Ranges.{is_from_to}
 use Rattle.batch_model.specs.Finding.{Each}
 use Rattle.batch_model.specs.Rows.{is_pool, is_node}
+use Rattle.batch_model.specs.Jobs.{is_job_completed}
+use Rattle.batch_model.specs.JobRules.{has_unended_run}
 use Rattle.batch_model.specs.Runs.{is_unended, is_start, is_preparation, is_release, is_work}
 use Rattle.batch_model.specs.Tasks.{is_placed, is_undisturbed, is_busy, main_ending}
 use Rattle.batch_model.specs.Nodes.{is_usable}
@@ -16,7 +18,7 @@ use Rattle.batch_model.specs.Endings.{is_success}
 use Rattle.batch_model.specs.Slots.{owns, held_slots}
 use Rattle.batch_model.specs.WellFormed.{KeysAreDistinct, RowsAreValid, CountsAreInRange, TasksAreFitting, has_few_tries, has_pool_row, NamedRowsAreThere}
 use Rattle.batch_model.specs.WellFormed.{QuietJobsPlaceNothing, PoolsAreFitting}
-use Rattle.batch_model.specs.Variants.{State, NodeRow, TaskRow, RunRow, RunState, Ended}
+use Rattle.batch_model.specs.Variants.{State, NodeRow, JobRow, TaskRow, RunRow, RunState, Ended}
 
 -- the later node has no higher number
 abbrev pub are_out_of_order : NodeRow → NodeRow → Bool
@@ -143,6 +145,14 @@ has_usable_start s node = not (is_usable node.stage) || awaits_no_start s node.p
 pub record StartsAreSound (s : State) : Type 0 where
   pub usable : Each (has_usable_start s) s.nodes
   pub tries : Each (has_few_tries s) s.nodes
+
+-- no run that names the job is unended, if the job is completed
+abbrev pub is_at_rest : State → JobRow → Bool
+is_at_rest s job = not (is_job_completed job.state && has_unended_run s job.id)
+
+-- a completed job has no unended run; sound tables are such
+abbrev pub CompletedJobsRest : State → Type 0
+CompletedJobsRest s = Each (is_at_rest s) s.jobs
 
 -- all of these, for this number of seats; such tables are also well formed
 pub record IsSound (seats : ℕ) (s : State) : Type 0 where

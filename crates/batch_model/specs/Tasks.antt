@@ -1,11 +1,11 @@
 -- Tasks: their stages, their runs, and new ones.
-use Rattle.std.specs.Prelude.{ℕ, Bool, true, false, ◌&&◌, List, Option, Some, None, ℤ}
+use Rattle.std.specs.Prelude.{ℕ, Bool, true, false, ◌&&◌, List, Option, Some, None, ℤ, count_by}
 use Rattle.std.specs.Option.{is_none, unwrap_or, option_and_then}
 use Rattle.std.specs.List.{find, list_any}
 use Rattle.bt_base.specs.Ids.{same}
 use Rattle.bt_rows.specs.declared.event.TaskSpec.{TaskSpec}
 use Rattle.batch_model.specs.Runs.{is_present, is_busy_for, is_main, ending_of}
-use Rattle.batch_model.specs.Variants.{State, JobRow, TaskRow, TaskStage, Active, Placed, Completed, Closed, Ending, RunRow}
+use Rattle.batch_model.specs.Variants.{State, JobRow, TaskRow, TaskStage, Active, Placed, Completed, Closed, ByTermination, ByWall, Ending, RunRow}
 
 abbrev pub is_active : TaskStage → Bool
 is_active Active = true
@@ -26,6 +26,14 @@ is_in_job job task = same task.job job
 -- a placed task of the job
 abbrev pub is_placed_in : List ℕ → TaskRow → Bool
 is_placed_in job task = is_placed task.stage && is_in_job job task
+
+-- the job has a placed task
+abbrev pub has_placed_task : State → List ℕ → Bool
+has_placed_task s job = list_any (is_placed_in job) s.tasks
+
+-- how many tasks of the job are placed
+abbrev pub placed_count : State → List ℕ → ℕ
+placed_count s job = count_by (is_placed_in job) s.tasks
 
 -- no end is wanted, and no start has failed
 abbrev pub is_undisturbed : TaskRow → Bool
@@ -54,6 +62,14 @@ cleared task = record task { wanted = None; fail = None; started = None }
 -- the task is completed, in such a way
 abbrev pub completed : Closed → TaskRow → TaskRow
 completed closing task = record (cleared task) { stage = Completed; closed = Some closing }
+
+-- a terminated task has no success, and does not satisfy its dependents
+abbrev pub terminated : ℕ → TaskRow → TaskRow
+terminated now task = completed (record { how = ByTermination; success = false; satisfies = false; at = now }) task
+
+-- a task whose wall time is over has no success, and without exit conditions does not satisfy its dependents
+abbrev pub timed_out : ℕ → TaskRow → TaskRow
+timed_out now task = completed (record { how = ByWall; success = false; satisfies = false; at = now }) task
 
 -- a task is added active
 abbrev pub new_task : List ℕ → TaskSpec → TaskRow

@@ -1,8 +1,8 @@
 -- Each event leaves sound tables sound, and a refused one changes nothing but the last moment.
-use Rattle.std.proofs.Common.{◌≡◌, ℕ, ◌≤◌, true, List, ◌∷◌, is_some, inl, inr, refl}
+use Rattle.std.proofs.Common.{◌≡◌, ℕ, ◌≤◌, true, List, ◌∷◌, is_some, unwrap_or, inl, inr, refl}
 use Rattle.bt_base.specs.Moments.{last_moment}
 use Rattle.bt_rows.specs.declared.event.EventKind.{EventKind}
-use Rattle.bt_rows.specs.declared.event.EventKind.TheVariants.{AddPool, AddJob, AddTask, AddTasks, Take, End}
+use Rattle.bt_rows.specs.declared.event.EventKind.TheVariants.{AddPool, AddJob, PatchJob, DisableJob, EnableJob, TerminateJob, DeleteJob, AddTask, AddTasks, Take, End}
 use Rattle.bt_rows.specs.declared.event.JobSpec.{JobSpec}
 use Rattle.bt_rows.specs.declared.event.TaskSpec.{TaskSpec}
 use Rattle.bt_rows.specs.declared.refusal.Refusal.{Refusal}
@@ -10,19 +10,23 @@ use Rattle.bt_rows.specs.declared.refusal.Refusal.TheVariants.{PoolNotFound, Job
 use Rattle.bt_rows.specs.declared.reply.Reply.TheVariants.{Refused}
 use Rattle.bt_rows.specs.Ranges.{is_event_in_range}
 use Rattle.batch_model.specs.Steps.{refuse_if}
-use Rattle.batch_model.specs.Rows.{pool_of, job_of, run_of, add_pool_row, add_job_row}
-use Rattle.batch_model.specs.Jobs.{is_past, new_job}
+use Rattle.batch_model.specs.Rows.{pool_of, job_of, run_of, add_pool_row, add_job_row, put_job}
+use Rattle.batch_model.specs.Jobs.{is_past, job_in, new_job}
+use Rattle.batch_model.specs.Stops.{disable, close, terminate}
 use Rattle.batch_model.specs.Pools.{new_pool}
 use Rattle.batch_model.specs.Events.{add_pool_refusals, add_job, add_job_in, add_job_refusals, task_refusals, task_added, add_task, add_each, accept_all}
+use Rattle.batch_model.specs.Events.{patched, patch_refusals, patch_job, disable_refusals, disable_job, enable_refusals, enable_job, user_terminate}
+use Rattle.batch_model.specs.Events.{terminate_refusals, terminate_job, delete_refusals, delete_job}
 use Rattle.batch_model.specs.Events.{add_tasks, add_tasks_refusals, take_refusals, run_taken, take_run, end_refusals, run_ended, end_run, event_now, event_step}
 use Rattle.batch_model.specs.Events.{at_moment}
 use Rattle.batch_model.specs.Sound.{IsSound}
-use Rattle.batch_model.specs.Variants.{State}
+use Rattle.batch_model.specs.Variants.{State, Enabling, Deleting}
 use Rattle.model_lists.proofs.Tests.{passes_or_not}
 use Rattle.model_events.proofs.Keeping.{for_row_keeps, Leaves, given_leaves, answer_leaves, for_row_leaves}
 use Rattle.model_events.proofs.MomentPassed.{sound_at_moment}
 use Rattle.model_events.proofs.PoolAdded.{add_pool_kept}
 use Rattle.model_events.proofs.JobAdded.{add_job_kept}
+use Rattle.model_events.proofs.JobsChanged.{patch_job_kept, disable_job_kept, enable_job_kept, terminate_job_kept, delete_job_kept}
 use Rattle.model_events.proofs.TaskAdded.{add_task_kept, add_tasks_kept}
 use Rattle.model_events.proofs.RunTaken.{take_kept}
 use Rattle.model_events.proofs.RunEnded.{end_kept}
@@ -32,6 +36,17 @@ module _ (seats : ℕ) (s : State) (h : IsSound seats s) where
   sound_now : (event : EventKind) → is_event_in_range event ≡ true → IsSound seats (event_now event s).state
   sound_now (AddPool spec) k = add_pool_kept seats s spec k h
   sound_now (AddJob job spec) k = add_job_kept seats s job spec k h
+  sound_now (PatchJob job patch) k =
+      for_row_keeps (IsSound seats) s h JobNotFound (patch_job s patch) (job_of s job) (λ row found. patch_job_kept seats s job row found h patch k)
+  sound_now (DisableJob job option) k =
+      for_row_keeps (IsSound seats) s h JobNotFound (disable_job s option) (job_of s job) (λ row found. disable_job_kept seats s job row found h option)
+  sound_now (EnableJob job) k =
+      for_row_keeps (IsSound seats) s h JobNotFound (enable_job s) (job_of s job) (λ row found. enable_job_kept seats s job row found h)
+  sound_now (TerminateJob job reason) k =
+      for_row_keeps (IsSound seats) s h JobNotFound (terminate_job s reason) (job_of s job)
+      (λ row found. terminate_job_kept seats s job row found h reason k)
+  sound_now (DeleteJob job) k =
+      for_row_keeps (IsSound seats) s h JobNotFound (delete_job s) (job_of s job) (λ row found. delete_job_kept seats s job row found h)
   sound_now (AddTask job spec) k =
       for_row_keeps (IsSound seats) s h JobNotFound (add_task s spec) (job_of s job) (λ row. add_task_kept seats s job spec row k h)
   sound_now (AddTasks job specs) k =
@@ -68,6 +83,18 @@ module _ (s : State) where
   refused_now : (event : EventKind) → Leaves s (event_now event s)
   refused_now (AddPool spec) = answer_leaves s (add_pool_refusals s spec) 201 (add_pool_row (new_pool s.moment spec) s)
   refused_now (AddJob job spec) = job_leaves job spec
+  refused_now (PatchJob job patch) =
+      for_row_leaves s JobNotFound (patch_job s patch) (job_of s job)
+      (λ row. answer_leaves s (patch_refusals patch row) 200 (put_job (patched patch row) s))
+  refused_now (DisableJob job option) =
+      for_row_leaves s JobNotFound (disable_job s option) (job_of s job) (λ row. answer_leaves s (disable_refusals row) 202 (disable row option s))
+  refused_now (EnableJob job) =
+      for_row_leaves s JobNotFound (enable_job s) (job_of s job) (λ row. answer_leaves s (enable_refusals row) 202 (put_job (job_in Enabling row) s))
+  refused_now (TerminateJob job reason) =
+      for_row_leaves s JobNotFound (terminate_job s reason) (job_of s job)
+      (λ row. answer_leaves s (terminate_refusals row) 202 (terminate (unwrap_or reason user_terminate) row s))
+  refused_now (DeleteJob job) =
+      for_row_leaves s JobNotFound (delete_job s) (job_of s job) (λ row. answer_leaves s (delete_refusals row) 202 (close Deleting user_terminate row s))
   refused_now (AddTask job spec) =
       for_row_leaves s JobNotFound (add_task s spec) (job_of s job)
       (λ row. answer_leaves s (refuse_if (is_past row.state) (JobStateRefuses row.state) ∷ task_refusals s row spec) 201 (task_added s row spec))

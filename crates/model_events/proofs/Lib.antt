@@ -2,6 +2,7 @@ pub mod Keeping
 pub mod MomentPassed
 pub mod PoolAdded
 pub mod JobAdded
+pub mod JobsChanged
 pub mod TaskAdded
 pub mod take
 pub mod RunTaken

@@ -8,3 +8,5 @@ pub mod Putting
 pub mod KeyedLists
 pub mod RowSums
 pub mod Lengths
+pub mod KeptRows
+pub mod BestRows

@@ -132,15 +132,21 @@ module _ {R : Type 0} where
       (λ k. sum_less_where a f g at_most test x ys (each_tail a y ys h) k less)
 
   -- changes in place after which a row that was found doesn't pass any more, and no row passes that didn't
-  pub count_change_less : (test : R → Bool) (change : R → R) (p : R → Bool) → ((x : R) → test x ≡ true → p (change x) ≡ true → p x ≡ true)
-      → (x : R) (xs : List R) → find test xs ≡ Some x → test x ≡ true → p x ≡ true → p (change x) ≡ false
+  pub count_found_less : (test : R → Bool) (change : R → R) (p : R → Bool) → ((x : R) → test x ≡ true → p (change x) ≡ true → p x ≡ true)
+      → (seek : R → Bool) (x : R) (xs : List R) → find seek xs ≡ Some x → test x ≡ true → p x ≡ true → p (change x) ≡ false
       → count_by p (change_where test change xs) < count_by p xs
-  count_change_less test change p give x xs found here before after =
+  count_found_less test change p give seek x xs found here before after =
       let k : count_by p (change_where test change xs) ≡ sum_by (λ y. cond {A = ℕ} (p (changed test change y)) 1 0) xs =
       sum_change test change (λ y. cond {A = ℕ} (p y) 1 0) xs in
       let m : sum_by (λ y. cond {A = ℕ} (p (changed test change y)) 1 0) xs < count_by p xs =
       sum_less_where (λ y. true) (λ y. cond {A = ℕ} (p (changed test change y)) 1 0) (λ y. cond {A = ℕ} (p y) 1 0)
-      (λ y e. counts_changed test change p y (give y)) test x xs
+      (λ y e. counts_changed test change p y (give y)) seek x xs
       (each_any (λ y. true) (λ y. refl) xs) found (rw (here, after, before) (omega arith))
       in
       rw k m
+
+  -- so too if it was found as one that changes
+  pub count_change_less : (test : R → Bool) (change : R → R) (p : R → Bool) → ((x : R) → test x ≡ true → p (change x) ≡ true → p x ≡ true)
+      → (x : R) (xs : List R) → find test xs ≡ Some x → test x ≡ true → p x ≡ true → p (change x) ≡ false
+      → count_by p (change_where test change xs) < count_by p xs
+  count_change_less test change p give x xs found here before after = count_found_less test change p give test x xs found here before after

@@ -2,24 +2,48 @@
 use Rattle.std.proofs.Common.{◌≡◌, ℕ, true, [], ◌∷◌, Some}
 use Rattle.bt_base.proofs.Turns.{lex_lt}
 use Rattle.batch_model.specs.Placing.{place_first}
-use Rattle.batch_model.specs.Dues.{settle_first, end_resize, node_step, due_step}
-use Rattle.batch_model.specs.Laws.{HoldsWithinSlots}
+use Rattle.batch_model.specs.JobRules.{enable_first, terminate_first, disable_first, end_first}
+use Rattle.batch_model.specs.WallTimes.{time_out_task_first, time_out_job_first}
+use Rattle.batch_model.specs.Dues.{settle_first, job_step, end_resize, node_step, due_step}
+use Rattle.batch_model.specs.Laws.{HoldsWithinSlots, JobsEndAtRest}
 use Rattle.batch_model.specs.Measure.{rank}
 use Rattle.batch_model.specs.Sound.{IsSound}
 use Rattle.batch_model.specs.Steps.{DueStep}
 use Rattle.batch_model.specs.Variants.{State}
+use Rattle.model_tables.proofs.JobsRest.{completed_rest}
 use Rattle.model_rules.proofs.Rules.{IsDueKept, first_gives}
 use Rattle.model_rules.proofs.TaskSettled.{settle_kept}
+use Rattle.model_rules.proofs.JobsMoved.{enable_kept, terminate_kept, disable_kept, end_kept}
+use Rattle.model_rules.proofs.WallTimes.{time_out_task_kept, time_out_job_kept}
 use Rattle.model_rules.proofs.PoolResized.{end_resize_kept}
 use Rattle.model_rules.proofs.NodeAdded.{add_node_kept}
 use Rattle.model_rules.proofs.TaskPlaced.{place_first_kept}
+
+-- the rules of jobs and tasks in their order, each with its lemma
+job_step_kept : (seats : ℕ) (s : State) → IsSound seats s → (step : DueStep) → job_step s ≡ Some step → IsDueKept seats s step
+job_step_kept seats s h step e =
+    first_gives (IsDueKept seats s)
+    (time_out_task_first s ∷ time_out_job_first s ∷ settle_first s ∷ enable_first s ∷ terminate_first s ∷ disable_first s ∷ end_first s ∷ []) (
+      time_out_task_kept seats s h,
+      (
+        time_out_job_kept seats s h,
+        (
+          settle_kept seats s h,
+          (
+            enable_kept seats s h,
+            (terminate_kept seats s h, (disable_kept seats s h, (end_kept seats s h, tt))),
+          ),
+        ),
+      ),
+    )
+    step e
 
 -- the rules in their order, each with its lemma
 kept_by_due : (seats : ℕ) (s : State) (step : DueStep) → IsSound seats s → due_step seats s ≡ Some step → IsDueKept seats s step
 kept_by_due seats s step h e =
     first_gives (IsDueKept seats s)
-    (settle_first s ∷ end_resize s ∷ node_step seats s ∷ place_first s ∷ [])
-    (settle_kept seats s h, (end_resize_kept seats s h, (add_node_kept seats s h, (place_first_kept seats s h, tt))))
+    (job_step s ∷ end_resize s ∷ node_step seats s ∷ place_first s ∷ [])
+    (job_step_kept seats s h, (end_resize_kept seats s h, (add_node_kept seats s h, (place_first_kept seats s h, tt))))
     step e
 
 -- a due step keeps tables sound
@@ -39,4 +63,12 @@ pub within_slots : (seats : ℕ) (s : State) → IsSound seats s → HoldsWithin
 within_slots seats s h = record {
   within = h.consistent.slots;
   placing = λ step e. let kept : IsDueKept seats s step = kept_by_due seats s step h e in kept.places;
+}
+
+-- completed jobs of sound tables rest, and the next due step ends a job only at rest
+pub jobs_end_at_rest : (seats : ℕ) (s : State) → IsSound seats s → JobsEndAtRest seats s
+jobs_end_at_rest seats s h = record {
+  placing = h.limited.quiet;
+  resting = completed_rest seats s h;
+  ending = λ step e. let kept : IsDueKept seats s step = kept_by_due seats s step h e in kept.ends;
 }

@@ -1,6 +1,9 @@
 pub mod Rules
 pub mod settle
 pub mod TaskSettled
+pub mod JobDropped
+pub mod JobsMoved
+pub mod WallTimes
 pub mod PoolResized
 pub mod NodeAdded
 pub mod place

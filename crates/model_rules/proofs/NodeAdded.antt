@@ -6,7 +6,7 @@ use Rattle.std.proofs.lemmas.Bool.Decides.{nat_tests, Decides-ltb}
 use Rattle.std.proofs.lemmas.List.Sums.{sum_by_push}
 use Rattle.bt_base.specs.Ids.{same}
 use Rattle.bt_base.proofs.SameIds.{same_equiv}
-use Rattle.bt_base.proofs.Turns.{lex_lt, lex_first}
+use Rattle.bt_base.proofs.Turns.{lex_lt, lex_first, lex_next}
 use Rattle.bt_rows.specs.Keys.{same_node, same_pool, same_pool_equiv}
 use Rattle.bt_rows.specs.Ranges.{is_from_to}
 use Rattle.bt_rows.proofs.DistinctRows.{found_first, find-passes, sum_by-less}
@@ -358,8 +358,8 @@ node_falls : (s : State) (pool : PoolRow) (seat : ℕ) → find (lacks_node s) s
 node_falls s pool seat f = begun pool.start
   where
     begun : (start : Option StartTask) → lex_lt (rank (begin_start start (new_node s pool seat) (with_new s pool seat))) (rank s) ≡ true
-    begun None = lex_first _ _ _ _ (fewer_to_add s pool seat f) refl
-    begun (Some start) = lex_first _ _ _ _ (fewer_to_add s pool seat f) refl
+    begun None = lex_next _ _ _ _ (omega arith) (lex_first _ _ _ _ (fewer_to_add s pool seat f) refl)
+    begun (Some start) = lex_next _ _ _ _ (omega arith) (lex_first _ _ _ _ (fewer_to_add s pool seat f) refl)
 
 -- the rule
 
@@ -376,6 +376,7 @@ module _ (seats : ℕ) (s : State) (h : IsSound seats s) where
     };
     falls = node_falls s pool seat found;
     places = tt;
+    ends = tt;
   }
 
   -- U15

@@ -3,7 +3,7 @@ use Rattle.std.proofs.Common.{◌≡◌, ℕ, Bool, true, not, ◌||◌, nat_le,
 use Rattle.std.proofs.Common.{Option, arith, cond, subst}
 use Rattle.std.specs.List.{find}
 use Rattle.bt_base.proofs.SameIds.{same_equiv}
-use Rattle.bt_base.proofs.Turns.{lex_lt, lex_first}
+use Rattle.bt_base.proofs.Turns.{lex_lt, lex_first, lex_next}
 use Rattle.bt_rows.specs.Keys.{same_pool, same_pool_equiv}
 use Rattle.bt_rows.specs.Lists.{AreDistinct}
 use Rattle.bt_rows.proofs.DistinctRows.{found_first, find-passes}
@@ -226,7 +226,7 @@ rest_falls seats s pool why h f =
     let first = found_first same_pool same_pool_equiv (ends_resize s) pool s.pools h.consistent.keys.pools f in
     let total = sum_by-put_row same_pool same_pool_equiv pool s.pools h.consistent.keys.pools first (steps_of_pool s) (at_rest why pool) (λ x. refl) in
     let one : one_unless (is_steady pool.alloc) ≡ 1 = resizing_counts pool.alloc (ending_resizes s pool (find-passes (ends_resize s) pool s.pools f)) in
-    lex_first _ _ _ _ (omega (arith, total, one)) refl
+    lex_next _ _ _ _ (omega arith) (lex_first _ _ _ _ (omega (arith, total, one)) refl)
 
 -- the rule
 
@@ -242,6 +242,7 @@ module _ (seats : ℕ) (s : State) (h : IsSound seats s) where
     };
     falls = rest_falls seats s pool pool.error h found;
     places = tt;
+    ends = tt;
   }
 
   -- a pool whose timeout is over
@@ -255,6 +256,7 @@ module _ (seats : ℕ) (s : State) (h : IsSound seats s) where
     };
     falls = rest_falls seats s pool (Some AllocationTimedOut) h found;
     places = tt;
+    ends = tt;
   }
 
   -- one or the other

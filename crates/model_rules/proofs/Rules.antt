@@ -7,13 +7,15 @@ use Rattle.batch_model.specs.Steps.{DueStep}
 use Rattle.batch_model.specs.Variants.{State}
 use Rattle.batch_model.specs.Sound.{IsSound}
 use Rattle.batch_model.specs.Measure.{rank}
-use Rattle.batch_model.specs.Laws.{PlacesWithinSlots}
+use Rattle.batch_model.specs.Laws.{PlacesWithinSlots, EndsAtRest}
 
--- the tables after the step are sound, its rank is lower, and if it places a task, then within free slots
+-- the tables after the step are sound, its rank is lower, if it places a task, then within free slots, and if it ends a job,
+-- then one without placed tasks and unended runs
 pub record IsDueKept (seats : ℕ) (s : State) (step : DueStep) : Type 0 where
   pub sound : IsSound seats step.state
   pub falls : lex_lt (rank step.state) (rank s) ≡ true
   pub places : PlacesWithinSlots s step.due step.state
+  pub ends : EndsAtRest s step.due
 
 module _ {A B : Type 0} where
   -- a value made of another, which there is

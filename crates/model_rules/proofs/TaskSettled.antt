@@ -1,15 +1,15 @@
 -- The rule that settles a task keeps sound tables, and lowers the rank.
-use Rattle.std.proofs.Common.{◌≡◌, ℕ, Some, refl, true, Option, None, sym, ap, subst, Bool, false, not, ◌&&◌, nat_le, find, cond}
+use Rattle.std.proofs.Common.{◌≡◌, ℕ, Some, refl, true, Option, None, sym, ap, subst, Bool, false, not, ◌&&◌, nat_le, find, cond, inl, inr}
 use Rattle.std.proofs.Common.{arith}
 use Rattle.std.specs.List.{find, list_any}
 use Rattle.bt_base.proofs.Turns.{lex_lt, lex_first, lex_next}
 use Rattle.bt_rows.proofs.DistinctRows.{find-passes, found_first}
 use Rattle.bt_rows.specs.Ranges.{passes_if_some}
 use Rattle.bt_rows.specs.Keys.{same_task, same_task_equiv}
-use Rattle.batch_model.specs.Settling.{is_to_settle, complete, is_over, active_again, requeue, is_to_requeue, complete_as_ended, settle}
+use Rattle.batch_model.specs.Settling.{is_to_settle, complete, is_over, active_again, requeue, is_to_requeue, is_to_terminate, terminate_task, is_to_time_out, time_out_task, complete_as_ended, settle}
 use Rattle.batch_model.specs.Endings.{closed_by}
 use Rattle.batch_model.specs.Sound.{IsConsistent, IsWithinLimits, IsSound}
-use Rattle.batch_model.specs.Variants.{State, TaskRow, Completed, Ending, TaskStage, Active, Placed, Closed, JobRow}
+use Rattle.batch_model.specs.Variants.{State, TaskRow, Completed, Ending, TaskStage, Active, Placed, Closed, ByTermination, ByWall, JobRow}
 use Rattle.batch_model.specs.Rows.{put_task, is_task}
 use Rattle.batch_model.specs.Tasks.{is_placed, is_placed_in, completed, is_active, is_completed, is_busy, main_ending}
 use Rattle.batch_model.specs.WellFormed.{is_closed_if_completed, is_task_in_range, is_closed_past, is_task_valid, has_no_placed_if_quiet}
@@ -17,8 +17,8 @@ use Rattle.batch_model.specs.Jobs.{is_quiet}
 use Rattle.batch_model.specs.Limits.{task_limit}
 use Rattle.batch_model.specs.Dues.{settle_first}
 use Rattle.batch_model.specs.Steps.{DueStep}
-use Rattle.batch_model.specs.Measure.{steps_of_task, rank}
-use Rattle.model_lists.proofs.Tests.{and_first, and_true, and_second, not_true}
+use Rattle.batch_model.specs.Measure.{steps_of_task, can_time_out, rank}
+use Rattle.model_lists.proofs.Tests.{passes_or_not, and_first, and_true, and_second, not_true}
 use Rattle.model_lists.proofs.RowLists.{each_found, each_weaker, any_none, none_any}
 use Rattle.model_lists.proofs.ChangedRows.{each_change_same}
 use Rattle.model_lists.proofs.NextNumbers.{is_not_after_itself}
@@ -29,10 +29,10 @@ use Rattle.model_rules.proofs.Rules.{IsDueKept, from_map, from_then, less_placed
 
 -- consistent
 
--- a task whose present attempt is over is completed
-consistent_completed : (seats : ℕ) (s : State) (task : TaskRow) (ending : Ending) → IsConsistent seats s → find (is_to_settle s) s.tasks ≡ Some task
-    → IsConsistent seats (complete s task ending).state
-consistent_completed seats s task ending h found = consistent_settled Completed (Some (closed_by s.moment ending)) refl refl seats s task h found
+-- a task whose present attempt is over is completed, in such a way
+consistent_completed : (seats : ℕ) (s : State) (task : TaskRow) (closing : Closed) → IsConsistent seats s → find (is_to_settle s) s.tasks ≡ Some task
+    → IsConsistent seats (put_task (completed closing task) s)
+consistent_completed seats s task closing h found = consistent_settled Completed (Some closing) refl refl seats s task h found
 
 -- a placed task isn't closed, where closings fit
 placed_unclosed : (stage : TaskStage) (closed : Option Closed) → is_placed stage ≡ true → fits_closing stage closed ≡ true → closed ≡ None
@@ -113,10 +113,10 @@ module _ (s : State) (task : TaskRow) (test : TaskRow → Bool) (h : IsWithinLim
   task_valid = each_found (is_task_valid s.moment) test task s.tasks f h.rows.tasks
 
   -- a task that is completed now
-  limited_completed : (ending : Ending) → IsWithinLimits (complete s task ending).state
-  limited_completed ending =
-      limited_task_put s (completed (closed_by s.moment ending) task) h
-      (and_true (and_true (and_first _ _ (and_first _ _ task_valid)) (is_not_after_itself s.moment))
+  limited_completed : (closing : Closed) → nat_le closing.at s.moment ≡ true → IsWithinLimits (put_task (completed closing task) s)
+  limited_completed closing now =
+      limited_task_put s (completed closing task) h
+      (and_true (and_true (and_first _ _ (and_first _ _ task_valid)) now)
       (and_true (and_first _ _ (and_second _ _ task_valid)) refl))
       refl
 
@@ -147,17 +147,21 @@ ends_one h = rw h refl
 to_settle_placed : (s : State) (task : TaskRow) → find (is_to_settle s) s.tasks ≡ Some task → is_placed task.stage ≡ true
 to_settle_placed s task f = and_first _ _ (over_if_settled s task (find-passes (is_to_settle s) task s.tasks f))
 
--- a task less is to end, and pools are as they were
-completed_falls : (seats : ℕ) (s : State) (task : TaskRow) (ending : Ending) → IsSound seats s → find (is_to_settle s) s.tasks ≡ Some task
-    → lex_lt (rank (complete s task ending).state) (rank s) ≡ true
-completed_falls seats s task ending h f =
+-- a task less is to end, and jobs and pools are as they were
+completed_falls : (seats : ℕ) (s : State) (task : TaskRow) (closing : Closed) → IsSound seats s → find (is_to_settle s) s.tasks ≡ Some task
+    → lex_lt (rank (put_task (completed closing task) s)) (rank s) ≡ true
+completed_falls seats s task closing h f =
     let first = found_first same_task same_task_equiv (is_to_settle s) task s.tasks h.consistent.keys.tasks f in
     let total =
     sum_by-put_row same_task same_task_equiv task s.tasks h.consistent.keys.tasks first (λ (t : TaskRow). cond {A = ℕ} (not (is_completed t.stage)) 1 0)
-    (completed (closed_by s.moment ending) task) (λ x. refl)
+    (completed closing task) (λ x. refl)
     in
     let one : cond {A = ℕ} (not (is_completed task.stage)) 1 0 ≡ 1 = ends_one (placed_counts task.stage (to_settle_placed s task f)) in
-    lex_next _ _ _ _ (omega arith) (lex_first _ _ _ _ (omega (arith, total, one)) refl)
+    let timed =
+    sum_by-put_row same_task same_task_equiv task s.tasks h.consistent.keys.tasks first (λ (t : TaskRow). cond {A = ℕ} (can_time_out t) 1 0)
+    (completed closing task) (λ x. refl)
+    in
+    lex_next _ _ _ _ (omega arith) (lex_next _ _ _ _ (omega arith) (lex_first _ _ _ _ (omega (arith, total, one, timed)) refl))
 
 -- a task that is requeued
 
@@ -171,7 +175,7 @@ placed_inactive Completed h = cc
 steps_if_over : (s : State) (task : TaskRow) → is_placed task.stage ≡ true → is_busy s task ≡ false → steps_of_task s task ≡ 2
 steps_if_over s task h k = rw (placed_inactive task.stage h, h, k) refl
 
--- a task is only to be placed that was to be settled before, and pools and ends are as they were
+-- a task is only to be placed that was to be settled before, and jobs, pools and ends are as they were, or fewer tasks can be stopped
 requeued_falls : (seats : ℕ) (s : State) (task : TaskRow) → IsSound seats s → find (is_to_settle s) s.tasks ≡ Some task
     → lex_lt (rank (requeue s task).state) (rank s) ≡ true
 requeued_falls seats s task h f =
@@ -186,7 +190,28 @@ requeued_falls seats s task h f =
     let one : cond {A = ℕ} (not (is_completed task.stage)) 1 0 ≡ 1 = ends_one (placed_counts task.stage placed_before) in
     let steps = sum_by-put_row same_task same_task_equiv task s.tasks h.consistent.keys.tasks first (steps_of_task s) (active_again task) (λ x. refl) in
     let before : steps_of_task s task ≡ 2 = steps_if_over s task placed_before free in
-    lex_next _ _ _ _ (omega arith) (lex_next _ _ _ _ (omega (arith, ends, one)) (lex_first _ _ _ _ (omega (arith, steps, before)) refl))
+    let timed =
+    sum_by-put_row same_task same_task_equiv task s.tasks h.consistent.keys.tasks first (λ (t : TaskRow). cond {A = ℕ} (can_time_out t) 1 0)
+    (active_again task) (λ x. refl)
+    in
+    elim (passes_or_not (can_time_out task)) [
+      | inl can ↦
+          let counts : cond {A = ℕ} (can_time_out task) 1 0 ≡ 1 = rw can refl in
+          lex_next _ _ _ _ (omega arith) (lex_next _ _ _ _ (omega arith) (lex_first _ _ _ _ (omega (arith, ends, one, timed, counts)) refl))
+      | inr cannot ↦
+          let counts : cond {A = ℕ} (can_time_out task) 1 0 ≡ 0 = rw cannot refl in
+          lex_next _ _ _ _ (omega arith)
+          (lex_next _ _ _ _ (omega arith)
+          (lex_next _ _ _ _ (omega (arith, ends, one, timed, counts)) (lex_first _ _ _ _ (omega (arith, steps, before)) refl)))
+    ]
+
+-- the closing of a terminated task
+abbrev terminated_closing : ℕ → Closed
+terminated_closing now = record { how = ByTermination; success = false; satisfies = false; at = now }
+
+-- the closing of a task whose wall time is over
+abbrev timed_out_closing : ℕ → Closed
+timed_out_closing now = record { how = ByWall; success = false; satisfies = false; at = now }
 
 -- the rule
 
@@ -202,27 +227,57 @@ module _ (seats : ℕ) (s : State) (h : IsSound seats s) where
     };
     falls = requeued_falls seats s task h found;
     places = tt;
+    ends = tt;
   }
 
-  -- a task that is completed
+  -- a task that is completed now
+  sound_completed : (task : TaskRow) (closing : Closed) → nat_le closing.at s.moment ≡ true → find (is_to_settle s) s.tasks ≡ Some task
+      → IsSound seats (put_task (completed closing task) s)
+  sound_completed task closing now found = record {
+    consistent = consistent_completed seats s task closing h.consistent found;
+    limited = limited_completed s task (is_to_settle s) h.limited found closing now;
+    unended = h.unended;
+    starts = record { usable = h.starts.usable; tries = h.starts.tries };
+  }
+
+  -- as its main run ended
   complete_kept : (task : TaskRow) (ending : Ending) → find (is_to_settle s) s.tasks ≡ Some task → IsDueKept seats s (complete s task ending)
   complete_kept task ending found = record {
-    sound = record {
-      consistent = consistent_completed seats s task ending h.consistent found;
-      limited = limited_completed s task (is_to_settle s) h.limited found ending;
-      unended = h.unended;
-      starts = record { usable = h.starts.usable; tries = h.starts.tries };
-    };
-    falls = completed_falls seats s task ending h found;
+    sound = sound_completed task (closed_by s.moment ending) (is_not_after_itself s.moment) found;
+    falls = completed_falls seats s task (closed_by s.moment ending) h found;
     places = tt;
+    ends = tt;
   }
 
-  -- one or the other
-  either_kept : (step : DueStep) (task : TaskRow) (b : Bool) → find (is_to_settle s) s.tasks ≡ Some task
-      → cond b (Some (requeue s task)) (complete_as_ended s task) ≡ Some step → IsDueKept seats s step
-  either_kept step task true found e =
+  -- as terminated
+  terminate_kept : (task : TaskRow) → find (is_to_settle s) s.tasks ≡ Some task → IsDueKept seats s (terminate_task s task)
+  terminate_kept task found = record {
+    sound = sound_completed task (terminated_closing s.moment) (is_not_after_itself s.moment) found;
+    falls = completed_falls seats s task (terminated_closing s.moment) h found;
+    places = tt;
+    ends = tt;
+  }
+
+  -- as one whose wall time is over
+  time_out_kept : (task : TaskRow) → find (is_to_settle s) s.tasks ≡ Some task → IsDueKept seats s (time_out_task s task)
+  time_out_kept task found = record {
+    sound = sound_completed task (timed_out_closing s.moment) (is_not_after_itself s.moment) found;
+    falls = completed_falls seats s task (timed_out_closing s.moment) h found;
+    places = tt;
+    ends = tt;
+  }
+
+  -- one of these
+  either_kept : (step : DueStep) (task : TaskRow) (a b c : Bool) → find (is_to_settle s) s.tasks ≡ Some task
+      → cond a (Some (requeue s task)) (cond b (Some (terminate_task s task)) (cond c (Some (time_out_task s task)) (complete_as_ended s task))) ≡ Some step
+      → IsDueKept seats s step
+  either_kept step task true b c found e =
       let is : requeue s task ≡ step = cc in subst (IsDueKept seats s) is (requeue_kept task found)
-  either_kept step task false found e =
+  either_kept step task false true c found e =
+      let is : terminate_task s task ≡ step = cc in subst (IsDueKept seats s) is (terminate_kept task found)
+  either_kept step task false false true found e =
+      let is : time_out_task s task ≡ step = cc in subst (IsDueKept seats s) is (time_out_kept task found)
+  either_kept step task false false false found e =
       let made = from_map (complete s task) (main_ending s task) step e in
       subst (IsDueKept seats s) made.1 (complete_kept task made.0 found)
 
@@ -230,4 +285,4 @@ module _ (seats : ℕ) (s : State) (h : IsSound seats s) where
   pub settle_kept : (step : DueStep) → settle_first s ≡ Some step → IsDueKept seats s step
   settle_kept step e =
       let found = from_then (settle s) (find (is_to_settle s) s.tasks) step e in
-      either_kept step found.0 (is_to_requeue s found.0) found.2 found.1
+      either_kept step found.0 (is_to_requeue s found.0) (is_to_terminate s found.0) (is_to_time_out s found.0) found.2 found.1

@@ -6,10 +6,11 @@ use Rattle.bt_rows.specs.declared.event.EventKind.TheVariants.{AddPool, AddJob, 
 use Rattle.bt_rows.specs.declared.reply.Reply.{Reply}
 use Rattle.bt_rows.specs.declared.reply.Reply.TheVariants.{Status, Refused}
 use Rattle.bt_rows.specs.declared.refusal.Refusal.TheVariants as refusal
-use Rattle.bt_rows.specs.declared.due.Outcome.TheVariants.{Success, Again}
+use Rattle.bt_rows.specs.declared.due.Outcome.TheVariants.{Success, Failure, Again}
+use Rattle.bt_rows.specs.declared.due.JobEnd.TheVariants.{Kept, Removed}
 use Rattle.bt_rows.specs.declared.due.ResizeEnd.TheVariants.{Reached, TimedOut}
 use Rattle.bt_rows.specs.declared.due.Due.{Due}
-use Rattle.bt_rows.specs.declared.due.Due.TheVariants.{TaskSettled, PoolResized, NodeAdded, TaskPlaced}
+use Rattle.bt_rows.specs.declared.due.Due.TheVariants.{TaskSettled, JobEnabled, JobDisabled, JobEnded, PoolResized, NodeAdded, TaskPlaced}
 use Rattle.batch_model.specs.Variants.{State, empty_state, Alloc, Steady, Resizing, Stopping, ByRequeue, PoolRow, NodeStage, Starting, StartFailed, Leaving}
 use Rattle.batch_model.specs.Variants.{NodeRow, JobState, JobActive, Disabling, Disabled, Enabling, Terminating, JobCompleted, Deleting, JobRow, Want}
 use Rattle.batch_model.specs.Variants.{WantRequeue, WantTerminate, WantWall, WantDelete, TaskRow, Code, RunState, Waiting, Queued, Taken, Ended, Withdrawn}
@@ -233,13 +234,13 @@ wants = None ∷ Some WantRequeue ∷ Some WantTerminate ∷ Some WantWall ∷ S
 abbrev pub dues_by_want : List (Option Due)
 dues_by_want = map (λ want. due_of (with_wanted want over)) wants
 
--- the other wanted ends are not built yet
+-- a wanted deletion is not built yet
 abbrev pub all_by_want : List (Option Due)
 all_by_want =
     Some (TaskSettled (codes "j") (codes "t") Success)
     ∷ Some (TaskSettled (codes "j") (codes "t") (Again 2))
-    ∷ None
-    ∷ None
+    ∷ Some (TaskSettled (codes "j") (codes "t") Failure)
+    ∷ Some (TaskSettled (codes "j") (codes "t") Failure)
     ∷ None
     ∷ []
 
@@ -283,13 +284,22 @@ due_on_usable = due_of task_to_place
 abbrev pub placed_due : Option Due
 placed_due = Some (TaskPlaced (codes "j") (codes "t") 1 1)
 
--- jobs whose tasks are placed
+-- the due step of a job with an active task, by the job's state: an active job places it, and another goes on by itself if
+-- it has nothing to wait for
 
 abbrev pub dues_by_job_state : List (Option Due)
 dues_by_job_state = map (λ one. due_of (with_jobs_in one task_to_place)) job_states
 
 abbrev pub all_by_job_state : List (Option Due)
-all_by_job_state = placed_due ∷ None ∷ None ∷ None ∷ None ∷ None ∷ None ∷ []
+all_by_job_state =
+    placed_due
+    ∷ Some (JobDisabled (codes "j"))
+    ∷ None
+    ∷ Some (JobEnabled (codes "j"))
+    ∷ Some (JobEnded (codes "j") Kept)
+    ∷ None
+    ∷ Some (JobEnded (codes "j") Removed)
+    ∷ []
 
 -- the last numbers
 

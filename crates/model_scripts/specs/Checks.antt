@@ -104,10 +104,11 @@ has_counts_in_range s = all_of
     ∷ is_from_to 1 (last_number + 64) s.next_run
     ∷ [])
 
--- quiet jobs place nothing, pools, formulas and samples fit each other, and nothing is prepared
+-- quiet jobs place nothing and completed ones rest, pools, formulas and samples fit each other, and nothing is prepared
 abbrev pub has_fitting_pools : State → Bool
 has_fitting_pools s = all_of
     (list_all (well.has_no_placed_if_quiet s) s.jobs
+    ∷ list_all (sound.is_at_rest s) s.jobs
     ∷ list_all (well.is_deleting_whole s) s.pools
     ∷ list_all (λ (scale : ScaleRow). well.has_pool_row s scale.pool) s.scales
     ∷ list_all (λ (sample : SampleRow). well.has_pool_row s sample.pool) s.samples

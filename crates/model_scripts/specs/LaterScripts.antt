@@ -1,14 +1,14 @@
 -- What is not built yet.
 use Rattle.std.specs.Prelude.{List, [], ◌∷◌, map, replicate, Some, None, pos, negsuc, codes, true, false}
 use Rattle.bt_rows.specs.declared.event.EventKind.{EventKind}
-use Rattle.bt_rows.specs.declared.event.EventKind.TheVariants.{AddPool, DeletePool, DisableAutoscale, AddJob}
+use Rattle.bt_rows.specs.declared.event.EventKind.TheVariants.{AddPool, DeletePool, DisableAutoscale, AddJob, Tick}
 use Rattle.bt_rows.specs.declared.event.EventKind.TheVariants.{AddTask, DeleteTask, Take, End}
 use Rattle.bt_rows.specs.declared.reply.Reply.{Reply}
 use Rattle.bt_rows.specs.declared.reply.Reply.TheVariants.{Status, Refused}
 use Rattle.bt_rows.specs.declared.refusal.Refusal.TheVariants as refusal
 use Rattle.bt_rows.specs.declared.due.ResizeEnd.TheVariants.{Reached}
-use Rattle.bt_rows.specs.declared.due.Due.TheVariants.{PoolResized, NodeAdded, TaskPlaced}
-use Rattle.batch_model.specs.Variants.{empty_state, Steady, Usable, JobActive, Active, Placed, Code, TaskRun, Queued, Ended, StartTask}
+use Rattle.bt_rows.specs.declared.due.Due.TheVariants.{PoolResized, NodeAdded, TaskPlaced, TaskTimedOut}
+use Rattle.batch_model.specs.Variants.{empty_state, Steady, Usable, JobActive, Active, Placed, Code, TaskRun, Queued, Ended, StartTask, NoCode}
 use Rattle.batch_model.specs.Events.{event_step}
 use Rattle.model_scripts.specs.Scripts.{Call, at, Line, line, Sheet}
 use Rattle.model_scripts.specs.Bodies.{pool_body, job_body, task_body}
@@ -53,18 +53,12 @@ unplaced_tasks_rows = record {
 abbrev pub prep_body : StartTask
 prep_body = record { line = codes "w"; retries = pos 0; wait = true }
 
--- jobs with a higher and a lower priority, a limit on placed tasks and a preparation, and then one with none of these
+-- a job with a preparation, and then one without
 abbrev pub unheeded_jobs : List Call
 unheeded_jobs =
     at 0 (AddPool (pool_body (codes "p") 1))
-    ∷ at 0 (AddJob (codes "a") (record (job_body (codes "p")) { priority = pos 1 }))
-    ∷ at 0 (AddJob (codes "b") (record (job_body (codes "p")) { priority = negsuc 0 }))
-    ∷ at 0 (AddJob (codes "c") (record (job_body (codes "p")) { parallel = pos 1 }))
     ∷ at 0 (AddJob (codes "d") (record (job_body (codes "p")) { prep = Some prep_body }))
     ∷ at 0 (AddJob (codes "e") (job_body (codes "p")))
-    ∷ at 0 (AddTask (codes "a") (task_body (codes "t")))
-    ∷ at 0 (AddTask (codes "b") (task_body (codes "t")))
-    ∷ at 0 (AddTask (codes "c") (task_body (codes "t")))
     ∷ at 0 (AddTask (codes "d") (task_body (codes "t")))
     ∷ at 0 (AddTask (codes "e") (task_body (codes "t")))
     ∷ []
@@ -72,12 +66,6 @@ unheeded_jobs =
 abbrev pub unheeded_jobs_lines : List Line
 unheeded_jobs_lines =
     line (Status 201) (NodeAdded (codes "p") 1 1 ∷ PoolResized (codes "p") Reached ∷ [])
-    ∷ line (Status 201) []
-    ∷ line (Status 201) []
-    ∷ line (Status 201) []
-    ∷ line (Status 201) []
-    ∷ line (Status 201) []
-    ∷ line (Status 201) []
     ∷ line (Status 201) []
     ∷ line (Status 201) []
     ∷ line (Status 201) []
@@ -89,17 +77,11 @@ unheeded_jobs_rows = record {
   pools = (codes "p", false, Steady, 1, 0) ∷ [];
   nodes = (1, codes "p", 1, Usable) ∷ [];
   jobs =
-      (codes "a", codes "p", JobActive, 0)
-      ∷ (codes "b", codes "p", JobActive, 0)
-      ∷ (codes "c", codes "p", JobActive, 0)
-      ∷ (codes "d", codes "p", JobActive, 0)
+      (codes "d", codes "p", JobActive, 0)
       ∷ (codes "e", codes "p", JobActive, 0)
       ∷ [];
   tasks =
-      (codes "a", codes "t", Active, 0, 0, None, None)
-      ∷ (codes "b", codes "t", Active, 0, 0, None, None)
-      ∷ (codes "c", codes "t", Active, 0, 0, None, None)
-      ∷ (codes "d", codes "t", Active, 0, 0, None, None)
+      (codes "d", codes "t", Active, 0, 0, None, None)
       ∷ (codes "e", codes "t", Placed, 1, 0, None, None)
       ∷ [];
   runs = (1, TaskRun, 1, codes "p", (Some (codes "e"), Some (codes "t"), 1), Queued, 0, None, None) ∷ [];
@@ -177,6 +159,35 @@ unsettled_tasks_rows = record {
       ∷ [];
   moment = 2;
 }
+
+-- a task with exit conditions, and one of a job that heeds failures, which are stopped for their wall times
+abbrev pub unsettled_stops : List Call
+unsettled_stops =
+    at 0 (AddPool (pool_body (codes "p") 2))
+    ∷ at 0 (AddJob (codes "j") (job_body (codes "p")))
+    ∷ at 0 (AddJob (codes "l") (record (job_body (codes "p")) { on_fail = true }))
+    ∷ at 0 (AddTask (codes "j") (record (task_body (codes "c")) { wall = Some 1; other = Some (record { job = None; satisfies = Some true }) }))
+    ∷ at 0 (AddTask (codes "l") (record (task_body (codes "d")) { wall = Some 1 }))
+    ∷ at 1 (Take 1)
+    ∷ at 1 (Take 2)
+    ∷ at 2 Tick
+    ∷ at 3 (End 1 NoCode)
+    ∷ at 3 (End 2 NoCode)
+    ∷ []
+
+abbrev pub unsettled_stops_lines : List Line
+unsettled_stops_lines =
+    line (Status 201) (NodeAdded (codes "p") 1 1 ∷ NodeAdded (codes "p") 2 2 ∷ PoolResized (codes "p") Reached ∷ [])
+    ∷ line (Status 201) []
+    ∷ line (Status 201) []
+    ∷ line (Status 201) (TaskPlaced (codes "j") (codes "c") 1 1 ∷ [])
+    ∷ line (Status 201) (TaskPlaced (codes "l") (codes "d") 2 2 ∷ [])
+    ∷ line (Status 200) []
+    ∷ line (Status 200) []
+    ∷ line (Status 200) (TaskTimedOut (codes "j") (codes "c") ∷ TaskTimedOut (codes "l") (codes "d") ∷ [])
+    ∷ line (Status 200) []
+    ∷ line (Status 200) []
+    ∷ []
 
 -- events that are not built yet: one of pools, one of formulas and one of tasks
 abbrev pub unbuilt : List EventKind

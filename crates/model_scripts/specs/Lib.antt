@@ -5,6 +5,7 @@ pub mod Checks
 pub mod CollectionScripts
 pub mod EndingScripts
 pub mod FirstPath
+pub mod JobScripts
 pub mod LaterScripts
 pub mod OpeningScripts
 pub mod PlacingScripts
@@ -14,3 +15,4 @@ pub mod SlotScripts
 pub mod StartScripts
 pub mod StartsByHand
 pub mod TickScripts
+pub mod WallTimeScripts

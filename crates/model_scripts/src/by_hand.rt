@@ -47,7 +47,8 @@ pub fn resizes_end_in_two_ways()
     ensures steady { row.due_of_late_steady ≡ None }
 {}
 
-/// A wanted requeue goes before the ending of the main run, and waits until no run of the attempt is unended.
+/// A wanted requeue, termination or end at the wall time goes before the ending of the main run, and waits until no run of the
+/// attempt is unended.
 pub fn a_wanted_requeue_goes_first()
     ensures ended { row.dues_by_want ≡ row.all_by_want }
     ensures running { row.due_while_running ≡ None }
@@ -67,7 +68,8 @@ pub fn tasks_go_on_usable_nodes()
     ensures usable { row.due_on_usable ≡ row.placed_due }
 {}
 
-/// Of the states of a job only the active one lets its tasks be placed.
+/// Of the states of a job only the active one lets its tasks be placed. A job without placed tasks and unended runs that is
+/// disabling, enabling, terminating or deleting goes on by itself.
 pub fn only_active_jobs_place_tasks()
     ensures { row.dues_by_job_state ≡ row.all_by_job_state }
 {}

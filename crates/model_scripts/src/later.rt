@@ -13,7 +13,7 @@ pub fn tasks_are_not_placed_yet()
     ensures good { is_good row.unplaced_tasks ≡ true }
 {}
 
-/// A job with a priority, a limit on placed tasks or a preparation is not heeded yet, and holds up none.
+/// A job with a preparation is not heeded yet, and holds up none.
 pub fn jobs_are_not_heeded_yet()
     ensures lines { lines_of row.unheeded_jobs ≡ row.unheeded_jobs_lines }
     ensures rows { rows_after row.unheeded_jobs ≡ row.unheeded_jobs_rows }
@@ -32,6 +32,12 @@ pub fn retries_are_not_made_yet()
     ensures lines { lines_of row.unsettled_tasks ≡ row.unsettled_tasks_lines }
     ensures rows { rows_after row.unsettled_tasks ≡ row.unsettled_tasks_rows }
     ensures good { is_good row.unsettled_tasks ≡ true }
+{}
+
+/// A task with exit conditions, or of a job that heeds failures, is stopped for its wall time and not settled yet.
+pub fn stopped_tasks_are_not_settled_yet()
+    ensures lines { lines_of row.unsettled_stops ≡ row.unsettled_stops_lines }
+    ensures good { is_good row.unsettled_stops ≡ true }
 {}
 
 /// Events that are not read yet.

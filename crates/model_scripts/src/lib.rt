@@ -8,6 +8,7 @@ mod by_hand;
 mod collections;
 mod endings;
 mod first_path;
+mod jobs;
 mod later;
 mod openings;
 mod placing;
@@ -15,6 +16,7 @@ mod pools;
 mod slots;
 mod starts;
 mod ticks;
+mod wall_times;
 
 pub use adding::{
     a_moment_below_the_last_leaves_it, ids_are_spelled_as_the_rows, jobs_are_refused,
@@ -35,9 +37,15 @@ pub use endings::{any_other_ending_is_a_failure, the_limit_of_the_task_goes_befo
 pub use first_path::{
     a_task_ends_with_success, nothing_comes_of_no_calls, runs_are_taken_and_ended_once,
 };
+pub use jobs::{
+    a_completed_job_is_deleted, a_disabled_job_places_nothing, a_disabled_job_requeues_its_tasks,
+    a_disabled_job_waits_for_its_tasks, a_disabling_job_is_opened, a_job_ends_with_its_tasks,
+    a_job_is_deleted, a_job_is_terminated, a_job_without_tasks_ends, a_terminating_job_is_deleted,
+    a_termination_goes_before_a_requeue, priorities_go_before_the_order_of_jobs,
+};
 pub use later::{
     events_are_not_read_yet, jobs_are_not_heeded_yet, pools_that_scale_are_not_read_yet,
-    retries_are_not_made_yet, tasks_are_not_placed_yet,
+    retries_are_not_made_yet, stopped_tasks_are_not_settled_yet, tasks_are_not_placed_yet,
 };
 pub use openings::{
     a_taken_run_is_made_again, an_ending_is_settled_after_the_opening, empty_tables_open_as_empty,
@@ -63,3 +71,8 @@ pub use starts::{
     start_runs_come_to_an_end,
 };
 pub use ticks::{a_resize_times_out, a_tick_moves_the_moment};
+pub use wall_times::{
+    a_job_is_terminated_in_time, a_new_attempt_has_its_whole_time, a_task_is_stopped_in_time,
+    a_wall_time_is_changed, a_wall_time_may_be_zero, tasks_go_before_their_jobs,
+    the_first_of_two_ends_stays,
+};

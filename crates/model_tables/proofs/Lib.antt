@@ -6,4 +6,9 @@ pub mod TasksKept
 pub mod NodeChanged
 pub mod StartAdded
 pub mod StartsKept
+pub mod JobPut
+pub mod TasksStopped
+pub mod JobsStopped
+pub mod OneStopped
+pub mod JobsRest
 pub mod WellFormedTables

@@ -38,7 +38,7 @@ or_later_second false false true d give h = refl
 or_later_second false false false d give h = h
 
 -- fewer together with the same number
-few_still : (tries more less next : ℕ) → less ≤ more → nat_lt (tries + more) next ≡ true → nat_lt (tries + less) next ≡ true
+pub few_still : (tries more less next : ℕ) → less ≤ more → nat_lt (tries + more) next ≡ true → nat_lt (tries + less) next ≡ true
 few_still tries more less next h k = grind (arith, nat_tests)
 
 -- one more at most, and a next number that is one higher

@@ -51,7 +51,7 @@ active_loud JobCompleted h = cc
 active_loud Deleting h = refl
 
 module _ (s : State) (job : JobRow) (node : NodeRow) (task : TaskRow) (test : JobRow → Bool) (task_test : TaskRow → Bool) (h : IsWithinLimits s)
-    (keys : AreDistinct same_job s.jobs) (there : find test s.jobs ≡ Some job) (active : places_tasks job ≡ true) (f : find task_test s.tasks ≡ Some task)
+    (keys : AreDistinct same_job s.jobs) (there : find test s.jobs ≡ Some job) (active : places_tasks s job ≡ true) (f : find task_test s.tasks ≡ Some task)
     (can : is_placeable job task ≡ true) where
   -- the tables after the step, and the new run
   abbrev after : State
@@ -147,7 +147,7 @@ module _ (s : State) (job : JobRow) (node : NodeRow) (task : TaskRow) (test : Jo
             (has_no_placed_if_quiet after) quiet_still s.jobs
             (each_with_key same_job same_job_equiv (λ (other : JobRow). not (is_quiet other.state)) job job s.jobs keys
             (found_first same_job same_job_equiv test job s.jobs keys there)
-            (active_loud job.state (and_first _ _ (and_first _ _ (and_first _ _ active)))))
+            (active_loud job.state (and_first _ _ (and_first _ _ active))))
             h.quiet;
         pools = record {
           deleting = h.pools.deleting;

@@ -2,13 +2,13 @@
 use Rattle.std.proofs.Common.{◌≡◌, ℕ, ◌+◌, ◌-◌, ◌≤◌, true, ◌&&◌, nat_le, Some, find, ◌∙◌, arith, Bool, is_some}
 use Rattle.std.proofs.lemmas.Bool.Decides.{nat_tests}
 use Rattle.bt_base.proofs.SameIds.{same_equiv}
-use Rattle.bt_rows.specs.Keys.{same_job, same_job_equiv, same_task, same_task_equiv}
+use Rattle.bt_rows.specs.Keys.{same_job, same_task, same_task_equiv}
 use Rattle.bt_rows.proofs.DistinctRows.{found_first}
 use Rattle.batch_model.specs.Rows.{is_job, pool_of, job_of}
 use Rattle.batch_model.specs.Tasks.{is_in_job}
 use Rattle.batch_model.specs.Nodes.{is_in_pool, is_usable}
 use Rattle.batch_model.specs.Slots.{held_slots}
-use Rattle.batch_model.specs.Placing.{is_ready, is_placeable, fits, choice, place, place_task, place_of_job}
+use Rattle.batch_model.specs.Placing.{is_ready, is_placeable, fits, choice, place, place_task}
 use Rattle.batch_model.specs.Laws.{PlacesTask}
 use Rattle.batch_model.specs.Sound.{IsConsistent}
 use Rattle.batch_model.specs.Variants.{State, PoolRow, NodeRow, JobRow, TaskRow}
@@ -16,10 +16,6 @@ use Rattle.model_lists.proofs.Tests.{and_first, and_second}
 use Rattle.model_lists.proofs.RowLists.{find_agree}
 use Rattle.model_rules.proofs.place.NodeChosen.{chosen_fits, chosen_first}
 use Rattle.model_rules.proofs.place.Consistent.{held_more}
-
--- a task of the job can be placed
-abbrev pub has_placing : State → JobRow → Bool
-has_placing s job = is_some (place_of_job s job)
 
 -- the task can be placed
 abbrev pub has_place : State → JobRow → PoolRow → TaskRow → Bool
@@ -38,7 +34,7 @@ is_taken_from : (held need slots later : ℕ) → held + need ≤ slots → late
 is_taken_from held need slots later h e = omega (arith, h, e)
 
 module _ (seats : ℕ) (s : State) (h : IsConsistent seats s) (job : JobRow) (pool : PoolRow) (node : NodeRow) (task : TaskRow)
-    (job_found : find (has_placing s) s.jobs ≡ Some job) (pool_found : pool_of s job.pool ≡ Some pool)
+    (job_found : find (λ (other : JobRow). same_job other job) s.jobs ≡ Some job) (pool_found : pool_of s job.pool ≡ Some pool)
     (task_found : find (has_place s job pool) s.tasks ≡ Some task) (can : is_placeable job task ≡ true) (chosen : choice s pool task.slots ≡ Some node) where
   -- the job is the one that the task names
   job_of_task : job_of s task.job ≡ Some job
@@ -47,7 +43,7 @@ module _ (seats : ℕ) (s : State) (h : IsConsistent seats s) (job : JobRow) (po
       (λ other. same_equiv.symm other.id task.job ∙ same_equiv.congr task.job job.id other.id (and_first (is_in_job job.id task) (is_ready task) can)
       ∙ same_equiv.symm job.id other.id)
       s.jobs
-      ∙ found_first same_job same_job_equiv (has_placing s) job s.jobs h.keys.jobs job_found
+      ∙ job_found
 
   -- the node fits
   fitting : fits s pool task.slots node ≡ true

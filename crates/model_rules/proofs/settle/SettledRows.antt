@@ -11,7 +11,7 @@ use Rattle.batch_model.specs.Finding.{names}
 use Rattle.batch_model.specs.Rows.{is_task, put_task}
 use Rattle.batch_model.specs.Runs.{is_unended, is_work, is_run_of_task, is_present, is_busy_for}
 use Rattle.batch_model.specs.Tasks.{is_placed, is_completed, is_busy, cleared}
-use Rattle.batch_model.specs.Settling.{is_over, is_to_requeue, is_to_complete, is_to_settle}
+use Rattle.batch_model.specs.Settling.{is_over, is_to_requeue, is_to_terminate, is_to_time_out, is_to_complete, is_to_settle}
 use Rattle.batch_model.specs.Slots.{owns}
 use Rattle.batch_model.specs.Sound.{IsConsistent, belongs, can_be_settled}
 use Rattle.batch_model.specs.WellFormed.{has_fitting_marks, is_closed_if_completed}
@@ -23,8 +23,16 @@ use Rattle.model_tables.proofs.TasksKept.{Marks, marked, consistent_marked}
 
 -- a task to be settled is over
 pub over_if_settled : (s : State) (task : TaskRow) → is_to_settle s task ≡ true → is_over s task ≡ true
-over_if_settled s task h = elim (or_cases (is_to_requeue s task) (is_to_complete s task) h) [
-  | inl e ↦ and_first (is_over s task) _ e
+over_if_settled s task h = elim (or_cases (is_to_requeue s task || is_to_terminate s task || is_to_time_out s task) (is_to_complete s task) h) [
+  | inl e ↦
+      elim (or_cases (is_to_requeue s task || is_to_terminate s task) (is_to_time_out s task) e) [
+        | inl k ↦
+            elim (or_cases (is_to_requeue s task) (is_to_terminate s task) k) [
+              | inl m ↦ and_first (is_over s task) _ m
+              | inr m ↦ and_first (is_over s task) _ m
+            ]
+        | inr k ↦ and_first _ _ (and_first _ _ (and_first _ _ k))
+      ]
   | inr e ↦ first_of_five _ _ _ _ _ e
 ]
   where
