@@ -1,5 +1,6 @@
 //! Durations of ISO 8601.
-ghost use Rattle.std.specs.Prelude.{◌≡◌, Some, option_map};
+ghost use Rattle.std.specs.Prelude.{◌≡◌, ◌≤◌, Some, option_map, IfOk, IfSome};
+ghost use Rattle.bt_times.specs.declared.durations.TheConstants.{MAX_DURATION_MS};
 ghost use Rattle.jiff_fmt.specs.Units.{signed_magnitudes};
 ghost use Rattle.bt_times.specs.Durations.{read_duration, duration_of, begins_with_p, span_shown, is_duration, span_nanos, within_longest};
 
@@ -19,7 +20,8 @@ pub const MAX_DURATION_MS: u128 = 3_153_600_000_000;
 /// Returns `BadText` for any other text, and `OutOfRange` for more than 36,500 days. It does not allocate.
 #[tactic(auto, unfolding(crate::specs::Durations::read_duration, crate::specs::Durations::no_limit))]
 pub fn duration_ms(text: &str) -> Result<Option<u64>, Fail<TimeFault>>
-    ensures { result ≡ read_duration text.now }
+    ensures value { result ≡ read_duration text.now }
+    ensures kept { IfOk result (λ duration. IfSome duration (λ ms. ms ≤ MAX_DURATION_MS)) }
 {
     if text == NO_LIMIT {
         return Ok(None);
@@ -31,7 +33,8 @@ pub fn duration_ms(text: &str) -> Result<Option<u64>, Fail<TimeFault>>
 }
 
 fn duration_of(span: Span) -> Result<Option<u64>, Fail<TimeFault>>
-    ensures { result ≡ duration_of (Some (signed_magnitudes span)) }
+    ensures value { result ≡ duration_of (Some (signed_magnitudes span)) }
+    ensures kept { IfOk result (λ duration. IfSome duration (λ ms. ms ≤ MAX_DURATION_MS)) }
 {
     if is_duration(span) {
         within_longest(span_nanos(span) / 1_000_000)
@@ -41,7 +44,8 @@ fn duration_of(span: Span) -> Result<Option<u64>, Fail<TimeFault>>
 }
 
 fn within_longest(ms: u128) -> Result<Option<u64>, Fail<TimeFault>>
-    ensures { result ≡ within_longest ms }
+    ensures value { result ≡ within_longest ms }
+    ensures kept { IfOk result (λ duration. IfSome duration (λ ms. ms ≤ MAX_DURATION_MS)) }
 {
     if MAX_DURATION_MS < ms {
         Err(Fail::Why(TimeFault::OutOfRange))

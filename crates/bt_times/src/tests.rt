@@ -6,6 +6,9 @@ use bt_base::Fail;
 fn durations_are_read(rt: HostRuntime) {
     let table = [
         ("PT15M", Ok(Some(900_000))),
+        ("PT0S", Ok(Some(0))),
+        ("PT1M30.5S", Ok(Some(90_500))),
+        ("P7D", Ok(Some(604_800_000))),
         ("P1W", Ok(Some(604_800_000))),
         ("P0Y1D", Ok(Some(86_400_000))),
         ("PT0.0019S", Ok(Some(1))),
@@ -18,6 +21,32 @@ fn durations_are_read(rt: HostRuntime) {
     ];
     for (text, wanted) in table {
         assert_eq!(rt; duration_ms(text), wanted, "of {text}");
+    }
+}
+
+#[test]
+fn other_texts_are_no_durations(rt: HostRuntime) {
+    let texts = [
+        "",
+        "P",
+        "PT",
+        "P1DT",
+        "P1Y",
+        "15M",
+        "PT1.M",
+        "PT1M1H",
+        "PT-1M",
+        " PT5M",
+        "PT5M ",
+        "xPT5M",
+        "P10675199DT2H48M5.4775808S",
+    ];
+    for text in texts {
+        assert_eq!(rt;
+            duration_ms(text),
+            Err(Fail::Why(TimeFault::BadText)),
+            "of {text}"
+        );
     }
 }
 

@@ -1,28 +1,34 @@
 -- The body of `add-job`.
-use Rattle.std.specs.Prelude.{ℕ, List, Some, None, Result, Ok, pos, negsuc, false}
+use Rattle.std.specs.Prelude.{ℕ, List, Option, Some, None, Result, Ok, pos, negsuc, false, unwrap_or}
 use Rattle.serde_json.specs.Data.{Data}
 use Rattle.bt_base.specs.Fails.{◌>>=◌}
 use Rattle.bt_rows.specs.declared.member.Member.TheVariants as names
 use Rattle.bt_rows.specs.declared.event.JobSpec.{JobSpec}
+use Rattle.bt_rows.specs.declared.event.Limits.{Limits}
 use Rattle.bt_rows.specs.declared.refusal.Refusal.{Refusal}
 use Rattle.wire_members.specs.Body.{object_of}
 use Rattle.wire_members.specs.Members.{id_member, object_member, unbuilt_member}
+use Rattle.wire_bodies.specs.JobMembers.{priority_if, parallel_if, limits_if, on_all_if}
 
--- the members in this order: the job's id, and a job of priority 0, without limits, retries and actions
+-- no wall time and no retries, if there are no limits
+abbrev pub limits_or_none : Option Limits → Limits
+limits_or_none limits = unwrap_or limits (record { retries = pos 0; wall = None })
+
+-- the members in this order: the job's id, and a job that by default has priority 0, no limits, no retries and no actions
 unfoldable pub job_in : Data → Result (List ℕ × JobSpec) Refusal
 job_in d = do
   id ← id_member (Some d) names.Id
-  _ ← unbuilt_member (Some d) names.Priority
-  _ ← unbuilt_member (Some d) names.MaxParallelTasks
-  _ ← unbuilt_member (Some d) names.Constraints
+  priority ← priority_if d
+  parallel ← parallel_if d
+  limits ← limits_if d
   _ ← unbuilt_member (Some d) names.UsesTaskDependencies
-  _ ← unbuilt_member (Some d) names.OnAllTasksComplete
+  on_all ← on_all_if d
   _ ← unbuilt_member (Some d) names.OnTaskFailure
   _ ← unbuilt_member (Some d) names.JobPreparationTask
   _ ← unbuilt_member (Some d) names.JobReleaseTask
   place ← object_member (Some d) names.PoolInfo
   pool ← id_member place names.PoolId
-  Ok (id, record { pool = pool; priority = pos 0; parallel = negsuc 0; retries = pos 0; wall = None; deps = false; on_all = false; on_fail = false; prep = None; release = None })
+  Ok (id, record { pool = pool; priority = unwrap_or priority (pos 0); parallel = unwrap_or parallel (negsuc 0); retries = (limits_or_none limits).retries; wall = (limits_or_none limits).wall; deps = false; on_all = unwrap_or on_all false; on_fail = false; prep = None; release = None })
 
 -- the job that the bytes of a body are, and its id
 unfoldable pub job_of : List ℕ → Result (List ℕ × JobSpec) Refusal

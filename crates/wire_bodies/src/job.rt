@@ -2,16 +2,30 @@
 ghost use Rattle.std.specs.Prelude.{◌≡◌, true, IfOk};
 ghost use Rattle.serde_json.specs.View.{view};
 ghost use Rattle.bt_base.specs.Fails.{Gives};
-ghost use Rattle.bt_rows.specs.Ranges.{is_job_spec_in_range};
-ghost use Rattle.wire_bodies.specs.Jobs.{job_in, job_of};
+ghost use Rattle.bt_rows.specs.Ranges.{is_job_spec_in_range, are_limits_in_range, is_retry_limit, is_duration, passes_if_some};
+ghost use Rattle.wire_bodies.specs.Jobs.{limits_or_none, job_in, job_of};
 
+use crate::job_member::{limits_if, on_all_if, parallel_if, priority_if};
 use bt_base::{Fail, Id};
-use bt_rows::event::JobSpec;
+use bt_rows::event::{JobSpec, Limits};
 use bt_rows::member::Member;
 use bt_rows::refusal::Refusal;
 use serde_json::Value;
 use std::alloc::Global;
 use wire_members::{id_member, object_member, read_object, unbuilt_member};
+
+/// The limits; no wall time and no retries if there are none.
+fn limits_or_none(limits: Option<Limits>) -> Limits
+    requires { passes_if_some are_limits_in_range limits ≡ true }
+    ensures value { result ≡ limits_or_none limits }
+    ensures retries { is_retry_limit result.retries ≡ true }
+    ensures wall { passes_if_some is_duration result.wall ≡ true }
+{
+    limits.unwrap_or(Limits {
+        retries: 0,
+        wall: None,
+    })
+}
 
 /// The job that the members of the body are, and its id.
 #[tactic(auto, unfolding(crate::specs::Jobs::job_in))]
@@ -20,26 +34,27 @@ fn job(alloc: Global, body: &Value) -> Result<(Id, JobSpec), Fail<Refusal>>
     ensures kept { IfOk result (λ job. is_job_spec_in_range job.1 ≡ true) }
 {
     let id = id_member(alloc, Some(body), Member::Id)?;
-    unbuilt_member(Some(body), Member::Priority)?;
-    unbuilt_member(Some(body), Member::MaxParallelTasks)?;
-    unbuilt_member(Some(body), Member::Constraints)?;
+    let priority = priority_if(body)?;
+    let parallel = parallel_if(body)?;
+    let limits = limits_if(body)?;
     unbuilt_member(Some(body), Member::UsesTaskDependencies)?;
-    unbuilt_member(Some(body), Member::OnAllTasksComplete)?;
+    let on_all = on_all_if(body)?;
     unbuilt_member(Some(body), Member::OnTaskFailure)?;
     unbuilt_member(Some(body), Member::JobPreparationTask)?;
     unbuilt_member(Some(body), Member::JobReleaseTask)?;
     let place = object_member(Some(body), Member::PoolInfo)?;
     let pool = id_member(alloc, place, Member::PoolId)?;
+    let limits = limits_or_none(limits);
     Ok((
         id,
         JobSpec {
             pool,
-            priority: 0,
-            parallel: -1,
-            retries: 0,
-            wall: None,
+            priority: priority.unwrap_or(0),
+            parallel: parallel.unwrap_or(-1),
+            retries: limits.retries,
+            wall: limits.wall,
             deps: false,
-            on_all: false,
+            on_all: on_all.unwrap_or(false),
             on_fail: false,
             prep: None,
             release: None,
@@ -47,11 +62,16 @@ fn job(alloc: Global, body: &Value) -> Result<(Id, JobSpec), Fail<Refusal>>
     ))
 }
 
-/// The body of `add-job` (Azure: Create Job): `id`, and `poolInfo` with `poolId`.
+/// The body of `add-job` (Azure: Create Job): `id`, the members below, with their defaults, and `poolInfo` with `poolId`.
 ///
-/// Bytes that are not a JSON object are `UnreadableBody`. A member that is of a wrong kind, an absent `id` or `poolId` and a
-/// member that the service does not support yet are `InvalidPropertyValue` with its name; an absent `poolInfo` is refused as
-/// `poolId`. It fails with `Memory` when out of memory.
+/// - `priority` from -1,000 to 1,000 (0);
+/// - `maxParallelTasks` from 1 to 2,147,483,647, or -1 for no limit (-1);
+/// - `constraints` with `maxWallClockTime`, a duration of at most 36,500 days (no limit);
+/// - `onAllTasksComplete`, which is `noaction` or `terminatejob` in upper or lower case (`noaction`).
+///
+/// Bytes that are not a JSON object are `UnreadableBody`. A member that is of a wrong kind or out of range, an absent `id` or
+/// `poolId` and a member that the service does not support yet are `InvalidPropertyValue` with its name; an absent `poolInfo` is
+/// refused as `poolId`. It fails with `Memory` when out of memory.
 #[tactic(auto, unfolding(crate::specs::Jobs::job_of))]
 pub fn read_job(alloc: Global, bytes: &[u8]) -> Result<(Id, JobSpec), Fail<Refusal>>
     ensures value { Gives result (job_of bytes.now) }

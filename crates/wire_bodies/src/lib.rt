@@ -4,12 +4,16 @@
 
 mod collection;
 mod job;
+mod job_change;
+mod job_member;
 mod list_item;
 mod pool;
+mod reason;
 mod start;
 mod task;
 
 pub use collection::read_collection;
 pub use job::read_job;
+pub use job_change::{read_disable_tasks, read_job_patch, read_terminate_reason};
 pub use pool::read_pool;
 pub use task::read_task;

@@ -12,7 +12,10 @@ use bt_rows::member::Member;
 use bt_rows::refusal::Refusal;
 use serde_json::Value;
 use std::alloc::Global;
-use wire_members::{command_member, count_member, id_member, read_object, unbuilt_member};
+use wire_members::{
+    command_member, count_member, duration_member, id_member, object_member, read_object,
+    unbuilt_member,
+};
 
 /// The task that the members of an object are.
 #[tactic(auto, unfolding(crate::specs::Tasks::task_in))]
@@ -29,7 +32,10 @@ pub fn task(alloc: Global, body: &Value) -> Result<TaskSpec, Fail<Refusal>>
         u64::from(SLOT_LIMIT),
         1,
     )?;
-    unbuilt_member(Some(body), Member::Constraints)?;
+    let part = object_member(Some(body), Member::Constraints)?;
+    unbuilt_member(part, Member::MaxTaskRetryCount)?;
+    let wall = duration_member(part, Member::MaxWallClockTime)?;
+    unbuilt_member(part, Member::RetentionTime)?;
     unbuilt_member(Some(body), Member::ExitConditions)?;
     unbuilt_member(Some(body), Member::DependsOn)?;
     unbuilt_member(Some(body), Member::MultiInstanceSettings)?;
@@ -38,7 +44,7 @@ pub fn task(alloc: Global, body: &Value) -> Result<TaskSpec, Fail<Refusal>>
         line,
         slots: slots as u8,
         retries: None,
-        wall: None,
+        wall,
         retention: Some(DEFAULT_RETENTION),
         codes: List::empty(alloc),
         ranges: List::empty(alloc),
@@ -50,7 +56,8 @@ pub fn task(alloc: Global, body: &Value) -> Result<TaskSpec, Fail<Refusal>>
     })
 }
 
-/// The body of `add-task` (Azure: Create Task): `id`, `commandLine`, and `requiredSlots` from 1 to 8 (default 1).
+/// The body of `add-task` (Azure: Create Task): `id`, `commandLine`, `requiredSlots` from 1 to 8 (default 1), and `constraints`
+/// with `maxWallClockTime`, a duration of at most 36,500 days (default no limit).
 ///
 /// Bytes that are not a JSON object are `UnreadableBody`. A member that is of a wrong kind or out of range, an absent `id` or
 /// `commandLine` and a member that the service does not support yet are `InvalidPropertyValue` with its name. It fails with

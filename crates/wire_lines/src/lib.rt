@@ -2,6 +2,7 @@
 #![tactic(auto)]
 
 mod ending;
+mod event;
 mod line;
 mod parts;
 mod script;

@@ -1,18 +1,20 @@
 //! Lines, and the requests that they are.
 ghost use Rattle.std.specs.Prelude.{◌≡◌, true, IfOk};
-ghost use Rattle.bt_base.specs.Fails.{Gives, GivesAs};
+ghost use Rattle.bt_base.specs.Fails.{Gives};
 ghost use Rattle.bt_rows.specs.Ranges.{is_event_in_range};
-ghost use Rattle.wire_lines.specs.Lines.{or_unreadable, id_argument, job_and_body, event_with, event_with_arguments, event_in, call_in, line_of, is_skipped, word_text, word_in};
+ghost use Rattle.wire_lines.specs.Lines.{event_with, event_with_arguments, event_in, call_in, line_of, is_skipped, word_text, word_in};
 
 use crate::ending::{read_ending, read_moment};
+use crate::event::{
+    UNREADABLE, add_job, add_task, add_tasks, delete_job, disable_job, enable_job, patch_job,
+    terminate_job,
+};
 use crate::parts::{split_just_two, split_two};
-use bt_base::{Fail, Id, Moment, text_of};
+use bt_base::{Fail, Moment};
 use bt_rows::event::{Event, EventKind};
-use bt_rows::member::Member;
 use bt_rows::refusal::Refusal;
 use std::alloc::Global;
-use wire_bodies::{read_collection, read_job, read_pool, read_task};
-use wire_members::invalid_property;
+use wire_bodies::read_pool;
 use wire_numbers::read_number;
 
 /// The word of a line, which names the kind of its event.
@@ -22,6 +24,16 @@ pub enum LineWord {
     AddPool,
     /// A job is added.
     AddJob,
+    /// A job is changed.
+    PatchJob,
+    /// A job is disabled.
+    DisableJob,
+    /// A job is enabled.
+    EnableJob,
+    /// A job is terminated.
+    TerminateJob,
+    /// A job is deleted.
+    DeleteJob,
     /// A task is added.
     AddTask,
     /// Tasks are added.
@@ -41,6 +53,11 @@ impl LineWord {
         match self {
             LineWord::AddPool => "add-pool",
             LineWord::AddJob => "add-job",
+            LineWord::PatchJob => "patch-job",
+            LineWord::DisableJob => "disable-job",
+            LineWord::EnableJob => "enable-job",
+            LineWord::TerminateJob => "terminate-job",
+            LineWord::DeleteJob => "delete-job",
             LineWord::AddTask => "add-task",
             LineWord::AddTasks => "add-tasks",
             LineWord::Take => "take",
@@ -56,6 +73,11 @@ impl LineWord {
         let all = [
             LineWord::AddPool,
             LineWord::AddJob,
+            LineWord::PatchJob,
+            LineWord::DisableJob,
+            LineWord::EnableJob,
+            LineWord::TerminateJob,
+            LineWord::DeleteJob,
             LineWord::AddTask,
             LineWord::AddTasks,
             LineWord::Take,
@@ -79,32 +101,6 @@ pub enum LineRequest {
 /// The greatest length of a line in bytes, without its line feed.
 pub const LINE_LIMIT: usize = 1_048_576;
 
-/// The failure of a line that is not a valid request.
-const UNREADABLE: Fail<Refusal> = Fail::Why(Refusal::UnreadableBody);
-
-/// An id among the arguments of a line.
-#[tactic(auto, unfolding(crate::specs::Lines::id_argument))]
-fn id_argument(alloc: Global, bytes: &[u8]) -> Result<Id, Fail<Refusal>>
-    ensures { Gives result (id_argument bytes.now) }
-{
-    let text = text_of(bytes).ok_or(UNREADABLE)?;
-    match Id::read(alloc, text) {
-        Ok(id) => Ok(id),
-        Err(Fail::Why(_)) => Err(invalid_property(Member::Id)),
-        Err(Fail::Memory) => Err(Fail::Memory),
-    }
-}
-
-/// The id of a job, and the body after it.
-#[tactic(auto, unfolding(crate::specs::Lines::job_and_body))]
-fn job_and_body(alloc: Global, text: &[u8]) -> Result<(Id, &[u8]), Fail<Refusal>>
-    ensures { GivesAs (λ parts. (parts.0, parts.1.now)) result (job_and_body text.now) }
-{
-    let (job, body) = split_two(text).ok_or(UNREADABLE)?;
-    let job = id_argument(alloc, job)?;
-    Ok((job, body))
-}
-
 /// The event of a word and its arguments.
 #[tactic(auto, unfolding(crate::specs::Lines::event_with))]
 fn event_with(alloc: Global, word: LineWord, text: &[u8]) -> Result<EventKind, Fail<Refusal>>
@@ -113,18 +109,14 @@ fn event_with(alloc: Global, word: LineWord, text: &[u8]) -> Result<EventKind, F
 {
     match word {
         LineWord::AddPool => Ok(EventKind::AddPool(read_pool(alloc, text)?)),
-        LineWord::AddJob => {
-            let (id, job) = read_job(alloc, text)?;
-            Ok(EventKind::AddJob(id, job))
-        }
-        LineWord::AddTask => {
-            let (job, task) = job_and_body(alloc, text)?;
-            Ok(EventKind::AddTask(job, read_task(alloc, task)?))
-        }
-        LineWord::AddTasks => {
-            let (job, tasks) = job_and_body(alloc, text)?;
-            Ok(EventKind::AddTasks(job, read_collection(alloc, tasks)?))
-        }
+        LineWord::AddJob => add_job(alloc, text),
+        LineWord::PatchJob => patch_job(alloc, text),
+        LineWord::DisableJob => disable_job(alloc, text),
+        LineWord::EnableJob => enable_job(alloc, text),
+        LineWord::TerminateJob => terminate_job(alloc, text),
+        LineWord::DeleteJob => delete_job(alloc, text),
+        LineWord::AddTask => add_task(alloc, text),
+        LineWord::AddTasks => add_tasks(alloc, text),
         LineWord::Take => Ok(EventKind::Take(read_number(text).ok_or(UNREADABLE)?)),
         LineWord::End => {
             let (run, ending) = split_just_two(text).ok_or(UNREADABLE)?;
@@ -184,8 +176,9 @@ fn is_skipped(line: &[u8]) -> bool
 /// An empty line and one that begins with `#` are skipped. Another line is a moment (the digits of milliseconds since 1970, up to
 /// the end of the year 9999), a space and one of
 ///
-/// - `add-pool BODY`, `add-job BODY`, `add-task JOB BODY` and `add-tasks JOB BODY`, with a JSON object up to the end of the line
-///   as the body;
+/// - `add-pool BODY`, `add-job BODY`, `patch-job JOB BODY`, `disable-job JOB BODY`, `terminate-job JOB BODY`, `add-task JOB BODY`
+///   and `add-tasks JOB BODY`, with a JSON object up to the end of the line as the body;
+/// - `terminate-job JOB`, `enable-job JOB` and `delete-job JOB`;
 /// - `take RUN` and `end RUN ENDING`, with an exit code of 32 bits, `none` or `notstarted` as the ending;
 /// - `tick`.
 ///

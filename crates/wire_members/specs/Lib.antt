@@ -1,3 +1,4 @@
 pub mod Body
+pub mod Durations
 pub mod Members
 pub mod Words

@@ -85,6 +85,10 @@ required_count part name low high = required (count_in low high) part name
 abbrev pub signed_member : Option Data → Member → ℤ → ℤ → ℤ → Result ℤ Refusal
 signed_member part name low high default = optional (signed_in low high) default part name
 
+-- a whole number, which may be below 0; None if it is absent
+abbrev pub signed_if : Option Data → Member → ℤ → ℤ → Result (Option ℤ) Refusal
+signed_if part name low high = optional (λ d. there (signed_in low high d)) None part name
+
 -- a whole number that is required and may be below 0
 abbrev pub required_signed : Option Data → Member → ℤ → ℤ → Result ℤ Refusal
 required_signed part name low high = required (signed_in low high) part name

@@ -1,10 +1,14 @@
 -- The words of bodies, in upper or lower case, as the Azure Batch REST reference has them.
-use Rattle.std.specs.Prelude.{ℕ, List, Option, Some, None, codes, if◌then◌else◌}
+use Rattle.std.specs.Prelude.{ℕ, Bool, true, false, List, Option, Some, None, codes, if◌then◌else◌}
 use Rattle.bt_base.specs.Ids.{same}
 use Rattle.bt_rows.specs.declared.pool.Fill.{Fill}
 use Rattle.bt_rows.specs.declared.pool.Fill.TheVariants.{Spread, Pack}
 use Rattle.bt_rows.specs.declared.task.JobAction.{JobAction}
 use Rattle.bt_rows.specs.declared.task.JobAction.TheVariants.{Nothing, Disable, Terminate}
+use Rattle.bt_rows.specs.declared.event.DisableTasks.{DisableTasks}
+use Rattle.bt_rows.specs.declared.event.DisableTasks.TheVariants as disables
+use Rattle.wire_members.specs.declared.words.AllTasksAction.{AllTasksAction}
+use Rattle.wire_members.specs.declared.words.AllTasksAction.TheVariants.{NoAction, TerminateJob}
 
 -- a `nodeFillType`
 unfoldable pub fill_word : List ℕ → Option Fill
@@ -19,4 +23,24 @@ job_action_word t =
     if same t (codes "none") then Some Nothing
     else if same t (codes "disable") then Some Disable
     else if same t (codes "terminate") then Some Terminate
+    else None
+
+-- an `onAllTasksComplete`
+unfoldable pub all_tasks_word : List ℕ → Option AllTasksAction
+all_tasks_word t =
+    if same t (codes "noaction") then Some NoAction
+    else if same t (codes "terminatejob") then Some TerminateJob
+    else None
+
+-- the job is terminated
+abbrev pub is_terminating : AllTasksAction → Bool
+is_terminating NoAction = false
+is_terminating TerminateJob = true
+
+-- a `disableTasks`
+unfoldable pub disable_word : List ℕ → Option DisableTasks
+disable_word t =
+    if same t (codes "requeue") then Some disables.Requeue
+    else if same t (codes "terminate") then Some disables.Terminate
+    else if same t (codes "wait") then Some disables.Wait
     else None

@@ -1,13 +1,13 @@
 //! Members of a part. If a member is of a wrong kind or out of range, or a required one is absent, the readers return
 //! `InvalidPropertyValue` with its name. Only those that take an allocator allocate, and fail with `Memory` when out of memory.
-ghost use Rattle.std.specs.Prelude.{◌≡◌, ◌≤◌, option_map, IfOk};
+ghost use Rattle.std.specs.Prelude.{◌≡◌, ◌≤◌, option_map, IfOk, IfSome};
 ghost use Rattle.std.specs.Prelude.{◌≤ℤ◌};
 ghost use Rattle.serde_json.specs.View.{view, items_view};
 ghost use Rattle.bt_base.specs.Fails.{Gives, GivesAs};
 ghost use Rattle.bt_base.specs.declared.fail.Fail.TheVariants.{Why};
 ghost use Rattle.bt_rows.specs.declared.refusal.Refusal.TheVariants.{InvalidPropertyValue};
 ghost use Rattle.wire_members.specs.Members.{member_of, or_invalid, count_in, signed_in, id_in, command_in};
-ghost use Rattle.wire_members.specs.Members.{count_member, required_count, signed_member, required_signed, flag_member, text_member, id_member, command_member, object_member, required_object, list_member, required_list, object_item, unbuilt_member};
+ghost use Rattle.wire_members.specs.Members.{count_member, required_count, signed_member, signed_if, required_signed, flag_member, text_member, id_member, command_member, object_member, required_object, list_member, required_list, object_item, unbuilt_member};
 
 use bt_base::{CommandLine, Fail, Id, Text};
 use bt_rows::member::Member;
@@ -108,6 +108,25 @@ pub fn signed_member(
     match member(part, name) {
         None => Ok(default),
         Some(value) => signed_of(value, low, high).ok_or(invalid_property(name)),
+    }
+}
+
+/// A whole number of 32 bits from `low` to `high`, which may be below 0; None if it is absent.
+pub fn signed_if(
+    part: Option<&Value>,
+    name: Member,
+    low: i32,
+    high: i32,
+) -> Result<Option<i32>, Fail<Refusal>>
+    ensures value { Gives result (signed_if (option_map (λ v. view v.now) part.entry) name low high) }
+    ensures bound { IfOk result (λ n. IfSome n (λ n. (low ≤ℤ n) × (n ≤ℤ high))) }
+{
+    match member(part, name) {
+        None => Ok(None),
+        Some(value) => match signed_of(value, i64::from(low), i64::from(high)) {
+            Some(n) => Ok(Some(n as i32)),
+            None => Err(invalid_property(name)),
+        },
     }
 }
 
