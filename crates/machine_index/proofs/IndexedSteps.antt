@@ -15,19 +15,22 @@ use Rattle.machine_index.specs.Held.{SumsView, HasHeld}
 use Rattle.machine_index.specs.Indexed.{IsIndexed}
 use Rattle.machine_index.specs.Over.{AreOver, IsRunStep, over_rank, place_named, place_of_run, with_rank}
 use Rattle.machine_index.specs.Ready.{AreItemsOf}
+use Rattle.machine_index.specs.Timed.{AreTimed}
 use Rattle.machine_index.proofs.OverRanks.{over_step}
 use Rattle.machine_index.proofs.ReadyItems.{items_length}
 use Rattle.machine_index.proofs.RunSteps.{found_at, step_put, step_clear}
+use Rattle.machine_index.proofs.TimedRanks.{timed_length}
 
 -- of the tasks and the runs that are these
-pub indexed_at : (tasks others : List (Option TaskRow)) (slots placed : List (Option RunRow)) (view : ChainsView) (groups : GroupsView) (ranks : Ranks) (sums : SumsView)
+pub indexed_at : (tasks others : List (Option TaskRow)) (slots placed : List (Option RunRow)) (view : ChainsView) (groups : GroupsView) (ranks : Ranks) (sums : SumsView) (times : Ranks)
     → others ≡ tasks → placed ≡ slots → HasRuns view slots → AreItemsOf tasks groups.items → AreOver (rows slots) tasks ranks.items
-    → HasHeld sums (rows tasks) slots → IsIndexed others placed view groups ranks sums
-indexed_at tasks others slots placed view groups ranks sums e f runs ready over held = record {
+    → HasHeld sums (rows tasks) slots → AreTimed tasks times.items → IsIndexed others placed view groups ranks sums times
+indexed_at tasks others slots placed view groups ranks sums times e f runs ready over held timed = record {
   runs = rw f runs;
   ready = rw e ready;
   over = rw (e, f) over;
   held = rw (e, f) held;
+  timed = rw e timed;
 }
 
 module _ {R : Type 0} where
@@ -122,12 +125,12 @@ over_after was is slots placed tasks others runs p q ranks first second apart st
     rw (j, i, g, h, f, e) (over_step was is slots placed tasks ranks apart step (run_within tasks was) (run_within tasks is) over)
 
 -- with other room
-pub indexed_kept : (tasks others : List (Option TaskRow)) (slots placed : List (Option RunRow)) (view changed : ChainsView) (groups grouped : GroupsView) (ranks ranked : Ranks) (sums summed : SumsView)
+pub indexed_kept : (tasks others : List (Option TaskRow)) (slots placed : List (Option RunRow)) (view changed : ChainsView) (groups grouped : GroupsView) (ranks ranked : Ranks) (sums summed : SumsView) (times timed : Ranks)
     → others ≡ tasks → placed ≡ slots → (HasRuns view slots → HasRuns changed slots) → grouped.items ≡ groups.items → ranked.items ≡ ranks.items
-    → (HasHeld sums (rows tasks) slots → HasHeld summed (rows tasks) slots) → IsIndexed tasks slots view groups ranks sums
-    → IsIndexed others placed changed grouped ranked summed
-indexed_kept tasks others slots placed view changed groups grouped ranks ranked sums summed e f runs ready over held indexed =
-    indexed_at tasks others slots placed changed grouped ranked summed e f (runs indexed.runs) (rw ready indexed.ready) (rw over indexed.over) (held indexed.held)
+    → (HasHeld sums (rows tasks) slots → HasHeld summed (rows tasks) slots) → timed.items ≡ times.items → IsIndexed tasks slots view groups ranks sums times
+    → IsIndexed others placed changed grouped ranked summed timed
+indexed_kept tasks others slots placed view changed groups grouped ranks ranked sums summed times timed e f runs ready over held later indexed =
+    indexed_at tasks others slots placed changed grouped ranked summed timed e f (runs indexed.runs) (rw ready indexed.ready) (rw over indexed.over) (held indexed.held) (rw later indexed.timed)
 
 -- a place that was found is one of the parts'
 pub within_ready : (test : TaskRow → Bool) (place : Option ℕ) (tasks : List (Option TaskRow)) (groups : GroupsView) → place ≡ place_of test tasks → AreItemsOf tasks groups.items
@@ -144,6 +147,10 @@ within_over test None tasks ranks e long = tt
 within_over test (Some at) tasks ranks e long =
     let within = place_of_within test tasks at (sym e) in
     omega (arith, within, long)
+
+pub within_timed : (test : TaskRow → Bool) (place : Option ℕ) (tasks : List (Option TaskRow)) (ranks : List ℕ) → place ≡ place_of test tasks → AreTimed tasks ranks
+    → IfSome place (λ at. at < length ranks)
+within_timed test place tasks ranks e timed = within_over test place tasks ranks e (timed_length tasks ranks timed)
 
 pub within_named : (run : Option RunRow) (place : Option ℕ) (tasks : List (Option TaskRow)) (ranks : List ℕ) → place ≡ place_of_run tasks run → length ranks ≡ length tasks
     → IfSome place (λ at. at < length ranks)

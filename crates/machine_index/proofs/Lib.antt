@@ -9,3 +9,4 @@ pub mod NextPlaces
 pub mod OverRanks
 pub mod ReadyItems
 pub mod RunSteps
+pub mod TimedRanks

@@ -3,3 +3,4 @@ pub mod Held
 pub mod Indexed
 pub mod Over
 pub mod Ready
+pub mod Timed

@@ -10,12 +10,14 @@ ghost use Rattle.batch_model.specs.Tasks.{is_busy, main_run};
 ghost use Rattle.batch_model.specs.Variants.{TaskRow, RunRow};
 ghost use Rattle.machine_index.specs.Over.{AreOver, place_of_run};
 ghost use Rattle.machine_index.specs.Ready.{AreItemsOf, is_ready_within};
+ghost use Rattle.machine_index.specs.Timed.{AreTimed, is_overdue};
 
 use crate::held_slots::HeldSlots;
 use crate::placed_tasks::{PlacedTasks, place_of_run};
 use crate::ready_tasks::ReadyTasks;
 use crate::runs_of_attempts::RunsOfAttempts;
-use bt_base::{Id, List, NoMemory};
+use crate::timed_tasks::TimedTasks;
+use bt_base::{Id, List, Moment, NoMemory};
 use bt_rows::run::RunRow;
 use bt_rows::tables::{Change, Tables};
 use bt_rows::task::{TaskKey, TaskRow};
@@ -32,6 +34,7 @@ pub struct IndexedTables {
     ready: ReadyTasks,
     over: PlacedTasks,
     held: HeldSlots,
+    timed: TimedTasks,
     room: usize,
 }
 
@@ -42,7 +45,7 @@ impl Model for IndexedTables {
 
     ghost view = { λ i. record { state = i.tables.state; room = i.room } };
 
-    ghost invariant = { λ i. IsIndexed i.tables.task_slots i.tables.run_slots i.runs i.ready i.over i.held × HasRoom i.room i.tables.room i.runs.room i.ready.room i.over.room i.held.room };
+    ghost invariant = { λ i. IsIndexed i.tables.task_slots i.tables.run_slots i.runs i.ready i.over i.held i.timed × HasRoom i.room i.tables.room i.runs.room i.ready.room i.over.room i.held.room i.timed.room };
 }
 
 /// The place of the task that the run at this place names.
@@ -79,6 +82,18 @@ fn clear_over(over: &mut PlacedTasks, place: Option<usize>)
     }
 }
 
+/// Follows a task that is removed from this place, if there is one.
+fn clear_timed(timed: &mut TimedTasks, place: Option<usize>)
+    requires { IfSome place (λ at. at < length timed.old.items) }
+    ensures ranks { (slots : List (Option TaskRow)) → AreTimed slots timed.old.items → AreTimed (clear_at place slots) timed.new.items }
+    ensures room { timed.new.room ≡ timed.old.room }
+{
+    match place {
+        None => {}
+        Some(place) => timed.clear(place),
+    }
+}
+
 impl IndexedTables {
     /// These tables, with what is kept beside them, and without room. The only error is out of memory.
     pub fn of_tables(alloc: Global, tables: Tables) -> Result<IndexedTables, NoMemory>
@@ -89,12 +104,14 @@ impl IndexedTables {
         let ready = ReadyTasks::of_tables(alloc, &tables)?;
         let over = PlacedTasks::of_tables(alloc, &tables, &runs)?;
         let held = HeldSlots::of_tables(alloc, &tables)?;
+        let timed = TimedTasks::of_tables(alloc, &tables)?;
         Ok(IndexedTables {
             tables,
             runs,
             ready,
             over,
             held,
+            timed,
             room: 0,
         })
     }
@@ -115,8 +132,9 @@ impl IndexedTables {
         }
     }
 
-    /// Closes up the free places of tasks and of runs, if there are many, and then leaves no room. It copies the tables, which costs no
-    /// more than the removals before it. It fails only when out of memory, and then they are as before.
+    /// Closes up the free places of tasks and of runs, if there are many, and then leaves no room. It copies the tables: of tasks and
+    /// runs fewer than three times the rows that were removed since it last did. It fails only when out of memory, and then they are
+    /// as before.
     pub fn close_up(&mut self, alloc: Global) -> Result<(), NoMemory>
         ensures { self.new.state ≡ self.old.state }
     {
@@ -140,6 +158,7 @@ impl IndexedTables {
         self.ready.reserve(additional)?;
         self.over.reserve(additional)?;
         self.held.reserve(additional)?;
+        self.timed.reserve(additional)?;
         self.room = additional;
         Ok(())
     }
@@ -157,6 +176,7 @@ impl IndexedTables {
         self.held.release_task(&self.tables, &self.runs, place);
         self.ready.put(before, &task);
         self.over.put(&self.tables, &self.runs, before, &task);
+        self.timed.put(before, &task);
         self.tables.apply_one(Change::PutTask(task));
         self.tables.keys_known();
         self.held.hold_task(&self.tables, &self.runs, place);
@@ -175,6 +195,7 @@ impl IndexedTables {
         self.held.release_task(&self.tables, &self.runs, place);
         clear_ready(&mut self.ready, before);
         clear_over(&mut self.over, before);
+        clear_timed(&mut self.timed, before);
         self.tables.apply_one(Change::DropTask(key));
         self.room -= 1;
     }
@@ -263,6 +284,13 @@ impl IndexedTables {
     {
         self.tables.places_known();
         self.over.first(&self.tables)
+    }
+
+    /// The first placed task, with no end wanted and no failed start, whose wall time is over at this moment. None if there is none.
+    pub fn first_out_of_time(&self, now: Moment) -> Option<&TaskRow>
+        ensures { option_copied result ≡ find (is_overdue now) self.now.state.tasks }
+    {
+        self.timed.first(&self.tables, now)
     }
 
     /// The first ready task of the job that asks for at most so many slots. None if there is none.

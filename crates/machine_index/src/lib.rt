@@ -10,9 +10,11 @@ mod placed_tasks;
 mod ready_tasks;
 mod row_tests;
 mod runs_of_attempts;
+mod timed_tasks;
 
 pub use held_slots::HeldSlots;
 pub use indexed_tables::IndexedTables;
 pub use placed_tasks::{PlacedTasks, place_of_run};
 pub use ready_tasks::ReadyTasks;
 pub use runs_of_attempts::RunsOfAttempts;
+pub use timed_tasks::TimedTasks;

@@ -2,7 +2,8 @@
 ghost use Rattle.std.specs.Prelude.{◌≡◌, ◌&&◌};
 ghost use Rattle.batch_model.specs.Finding.{names};
 ghost use Rattle.batch_model.specs.Runs.{is_present, is_busy_for, is_main, is_unended};
-ghost use Rattle.batch_model.specs.Tasks.{is_placed};
+ghost use Rattle.batch_model.specs.Tasks.{is_placed, is_undisturbed};
+ghost use Rattle.machine_index.specs.Timed.{is_timed};
 
 use bt_base::Id;
 use bt_rows::run::{RunKind, RunRow, RunState};
@@ -23,6 +24,20 @@ pub fn is_placed(task: &TaskRow) -> bool
     ensures { result ≡ is_placed task.now.stage }
 {
     task.stage == TaskStage::Placed
+}
+
+/// Whether no end of the task is wanted, and no start of it has failed.
+fn is_undisturbed(task: &TaskRow) -> bool
+    ensures { result ≡ is_undisturbed task.now }
+{
+    task.wanted.is_none() && task.fail.is_none()
+}
+
+/// Whether the task is placed, no end of it is wanted, and no start of it has failed.
+pub fn is_timed(task: &TaskRow) -> bool
+    ensures { result ≡ is_timed task.now }
+{
+    is_placed(task) && is_undisturbed(task)
 }
 
 /// Whether the run is of the task's present attempt.

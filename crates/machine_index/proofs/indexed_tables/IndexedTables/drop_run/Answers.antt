@@ -4,6 +4,7 @@ use Rattle.kept_table.specs.Slots.{slot_at, rows, clear_at}
 use Rattle.batch_model.specs.Variants.{TaskRow}
 use Rattle.machine_index.specs.Attempts.{HasRuns}
 use Rattle.machine_index.specs.Ready.{AreItemsOf}
+use Rattle.machine_index.specs.Timed.{AreTimed}
 use Rattle.machine_index.proofs.IndexedSteps.{within_named, over_after, clear_step, held_cleared}
 use Rattle.machine_index.proofs.RunPlaces.{runs_cleared}
 use Rattle.machine_index.proofs.indexed_tables.IndexedTables.drop_run.Goals as goal
@@ -43,6 +44,7 @@ invariant_of-self c =
         held =
             held_cleared c.release_run.new.self before t.state.tasks (rows new.task_slots) t.run_slots new.run_slots c.unwrap_or-place.result
             (ap rows c.apply_one.ensures.tasks ∙ c.places_known.ensures.tasks) placed place c.release_run.ensures.held;
+        timed = subst (λ (ts : List (Option TaskRow)). AreTimed ts s.timed.items) (sym c.apply_one.ensures.tasks) old.timed;
       },
       search rules,
     )

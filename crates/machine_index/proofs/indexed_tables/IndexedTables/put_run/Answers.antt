@@ -5,6 +5,7 @@ use Rattle.batch_model.specs.Variants.{TaskRow}
 use Rattle.machine_index.specs.Attempts.{HasRuns}
 use Rattle.machine_index.specs.Held.{HasHeld}
 use Rattle.machine_index.specs.Ready.{AreItemsOf}
+use Rattle.machine_index.specs.Timed.{AreTimed}
 use Rattle.machine_index.proofs.IndexedSteps.{within_named, within_again, over_after, put_step, held_beside_run}
 use Rattle.machine_index.proofs.indexed_tables.IndexedTables.put_run.Goals as goal
 
@@ -52,6 +53,7 @@ invariant_of-self c =
             c.task_of_run_at-old_task.ensures c.place_of_run-new_task.ensures c.refresh.ensures.items c.refresh-2.ensures.items old.over;
         held =
             subst (λ (ts : List TaskRow). HasHeld c.hold_run.new.self ts new.run_slots) (sym c.places_known-2.ensures.tasks) c.hold_run.ensures.held;
+        timed = subst (λ (ts : List (Option TaskRow)). AreTimed ts s.timed.items) (sym c.apply_one.ensures.tasks) old.timed;
       },
       search rules,
     )
