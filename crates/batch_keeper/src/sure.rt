@@ -4,7 +4,7 @@ ghost use Rattle.batch_model.specs.WellFormed.{IsWellFormed};
 
 use crate::error::KeepError;
 use crate::keeper::Keeper;
-use bt_base::{List, duplicates};
+use bt_base::{List, NoMemory, duplicates};
 use bt_rows::tables::{Change, Tables};
 use std::alloc::Global;
 use std::marker::Model;
@@ -34,6 +34,20 @@ impl SureKeeper {
     {
         SureKeeper { tables }
     }
+
+    /// Closes up the places of removed tasks and runs, where more than half of the places are free. It fails only when out of
+    /// memory.
+    fn close_up(&mut self) -> Result<(), NoMemory>
+        ensures { self.new ≡ self.old }
+    {
+        if self.tables.has_sparse_tasks() {
+            self.tables.close_up_tasks()?;
+        }
+        if self.tables.has_sparse_runs() {
+            self.tables.close_up_runs()?;
+        }
+        Ok(())
+    }
 }
 
 impl Keeper for SureKeeper {
@@ -49,6 +63,7 @@ impl Keeper for SureKeeper {
 
     fn save(&mut self, alloc: Global, changes: &[Change]) -> Result<(), KeepError> {
         let copies = duplicates(alloc, changes)?;
+        self.close_up()?;
         self.tables.reserve(changes)?;
         self.tables.apply(List::of_vec(copies));
         Ok(())

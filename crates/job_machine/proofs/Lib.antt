@@ -1,3 +1,4 @@
+pub mod FoundJobs
 pub mod AnsweredTasks
 pub mod OtherEndings
 pub mod FirstToSettle

@@ -7,7 +7,7 @@ ghost use Rattle.batch_model.specs.Rows.{job_of};
 ghost use Rattle.machine_plans.specs.Plans.{IsAnswer, IsPlanOf, with_moment};
 ghost use Rattle.job_machine.specs.Collections.{IsAnswered, added_by, refusal_beside};
 
-use crate::task::{is_past, new_task, task_refusal};
+use crate::task::{new_task, task_refusal};
 use bt_base::{Duplicate, Fail, Id, List, NoMemory};
 use bt_rows::event::TaskSpec;
 use bt_rows::job::JobRow;
@@ -17,6 +17,7 @@ use bt_rows::refusal::Refusal;
 use bt_rows::reply::{Element, Reply};
 use bt_rows::tables::{Change, Tables};
 use bt_rows::task::TaskRow;
+use job_rules::is_past;
 use machine_plans::reply_listed;
 use std::alloc::Global;
 

@@ -1,7 +1,9 @@
-//! The machine of jobs and tasks: their events, the endings of runs that are not start runs, and the due steps that settle tasks.
+//! The machine of jobs and tasks: their events, the endings of runs that are not start runs, the due step that settles a task, and the
+//! order of the due steps of jobs and tasks.
 //! What it answers is defined in `batch_model`.
 #![tactic(auto)]
 
+mod change;
 mod collection;
 mod ending;
 mod job;

@@ -1,12 +1,13 @@
 //! The calls of the machine.
 ghost use Rattle.std.specs.Prelude.{◌≡◌, true, IfOk};
-ghost use Rattle.batch_model.specs.Dues.{settle_first};
+ghost use Rattle.batch_model.specs.Dues.{job_step};
 ghost use Rattle.batch_model.specs.Events.{event_now};
 ghost use Rattle.batch_model.specs.Sound.{IsSound};
 ghost use Rattle.batch_model.specs.WellFormed.{KeysAreDistinct};
 ghost use Rattle.machine_plans.specs.Plans.{IsAnswer, IsRule, with_moment};
 ghost use Rattle.job_machine.specs.Owners.{is_of_jobs};
 
+use crate::change::{delete_job, disable_job, enable_job, patch_job, terminate_job};
 use crate::collection::add_tasks;
 use crate::ending::end_run;
 use crate::job::add_job;
@@ -16,6 +17,10 @@ use bt_base::{Fail, NoMemory};
 use bt_rows::event::{Event, EventKind};
 use bt_rows::plan::{Plan, View};
 use bt_rows::refusal::Refusal;
+use job_rules::{
+    disable_first, enable_first, end_first, terminate_first, time_out_job_first,
+    time_out_task_first,
+};
 use machine_index::IndexedTables;
 use std::alloc::Global;
 
@@ -23,6 +28,12 @@ use std::alloc::Global;
 /// come in the order in which they are listed here:
 ///
 /// - `add-job`: `JobExists`, `PoolNotFound`, `PoolBeingDeleted`, and `TableFull` if there are as many jobs as the limit;
+/// - `patch-job`: `JobNotFound`, `JobStateRefuses` if the job is terminating, completed or deleting, and `TerminationEngaged` if it
+///   would take back that the job is terminated with its tasks;
+/// - `disable-job`: `JobNotFound`, `JobStateRefuses` if the job is not active, disabling or disabled;
+/// - `enable-job`: `JobNotFound`, `JobStateRefuses` if the job is not disabled;
+/// - `terminate-job`: `JobNotFound`, `JobStateRefuses` if the job is terminating, completed or deleting;
+/// - `delete-job`: `JobNotFound`, `JobStateRefuses` if the job is deleting;
 /// - `add-task`: `JobNotFound`, `JobStateRefuses` if the job is terminating, completed or deleting, `TaskExists`,
 ///   `DependencyListTooLong`, and `TableFull` if there are as many tasks as the limit;
 /// - `add-tasks`: `JobNotFound`, `JobStateRefuses`, `CollectionTooLong`; then each element is answered as `add-task` answers it,
@@ -38,6 +49,15 @@ pub fn plan_event(alloc: Global, view: &View, event: &Event) -> Result<Plan, Fai
 {
     match event.kind() {
         EventKind::AddJob(id, spec) => add_job(alloc, view.tables, view.now, id, spec),
+        EventKind::PatchJob(id, patch) => patch_job(alloc, view.tables, view.now, id, patch),
+        EventKind::DisableJob(id, option) => {
+            disable_job(alloc, view.tables, view.now, id, *option)
+        }
+        EventKind::EnableJob(id) => enable_job(alloc, view.tables, view.now, id),
+        EventKind::TerminateJob(id, reason) => {
+            terminate_job(alloc, view.tables, view.now, id, reason.as_ref())
+        }
+        EventKind::DeleteJob(id) => delete_job(alloc, view.tables, view.now, id),
         EventKind::AddTask(job, spec) => add_task(alloc, view.tables, view.now, job, spec),
         EventKind::AddTasks(job, specs) => {
             add_tasks(alloc, view.tables, view.now, job, specs.as_slice())
@@ -45,23 +65,40 @@ pub fn plan_event(alloc: Global, view: &View, event: &Event) -> Result<Plan, Fai
         EventKind::End(number, ending) => {
             end_run(alloc, view.tables, view.now, *number, *ending)
         }
-        EventKind::PatchJob(_, _)
-        | EventKind::DisableJob(_, _)
-        | EventKind::EnableJob(_)
-        | EventKind::TerminateJob(_, _)
-        | EventKind::DeleteJob(_)
-        | EventKind::DeleteTask(_, _)
+        EventKind::DeleteTask(_, _)
         | EventKind::TerminateTask(_, _)
         | EventKind::ReactivateTask(_, _) => Err(Fail::Why(Refusal::UnreadableBody)),
         _ => unreachable!(),
     }
 }
 
-/// The plan of the first due step of tasks; None exactly if no rule of theirs applies. A placed task without an unended run in its
-/// present attempt is settled (U5). The only error is out of memory.
+/// The plan of the first due step of jobs and tasks; None exactly if no rule of theirs applies. In this order: a task whose wall time is
+/// over is stopped (U2), and a job whose wall time is over is terminated (U4); a placed task without an unended run in its present
+/// attempt is settled (U5); an enabling job is active (U6); an active job that is to be terminated with its
+/// tasks is terminated once these are completed (U7); a disabling job without placed tasks is disabled (U8); a terminating or deleting
+/// job without placed tasks and unended runs is completed, or removed (U10). The only error is out of memory.
 pub fn next_due(alloc: Global, indexed: &IndexedTables) -> Result<Option<Plan>, NoMemory>
     requires keys { KeysAreDistinct indexed.now.state }
-    ensures { IfOk result (IsRule (settle_first indexed.now.state) indexed.now.state) }
+    ensures { IfOk result (IsRule (job_step indexed.now.state) indexed.now.state) }
 {
-    settle_first(alloc, indexed)
+    let tables = indexed.tables();
+    if let Some(plan) = time_out_task_first(alloc, indexed)? {
+        return Ok(Some(plan));
+    }
+    if let Some(plan) = time_out_job_first(alloc, tables)? {
+        return Ok(Some(plan));
+    }
+    if let Some(plan) = settle_first(alloc, indexed)? {
+        return Ok(Some(plan));
+    }
+    if let Some(plan) = enable_first(alloc, tables)? {
+        return Ok(Some(plan));
+    }
+    if let Some(plan) = terminate_first(alloc, tables)? {
+        return Ok(Some(plan));
+    }
+    if let Some(plan) = disable_first(alloc, tables)? {
+        return Ok(Some(plan));
+    }
+    end_first(alloc, tables)
 }

@@ -1,12 +1,13 @@
 //! U5, the due step that settles a placed task whose present attempt has no unended run: it is active again if its requeue is
-//! wanted, and else completed.
+//! wanted, completed as terminated if its termination is, completed as one whose wall time is over if that end is, and else completed
+//! as its main run ended.
 ghost use Rattle.std.specs.Prelude.{◌≡◌, IfOk, Some, find};
 ghost use Rattle.std.specs.Option.{option_copied};
 ghost use Rattle.bt_rows.specs.declared.due.Due.TheVariants.{TaskSettled};
-ghost use Rattle.batch_model.specs.Tasks.{is_undisturbed, main_ending, cleared, completed, retry_limit};
+ghost use Rattle.batch_model.specs.Tasks.{main_ending, cleared, completed, terminated, timed_out, retry_limit};
 ghost use Rattle.batch_model.specs.Rows.{job_of};
 ghost use Rattle.batch_model.specs.Endings.{closed_by};
-ghost use Rattle.batch_model.specs.Settling.{is_over, has_no_conditions, is_zero_limit, is_tried_once, has_plain_job, is_to_complete, outcome_of, complete, wants_requeue, is_to_requeue, active_again, requeue, is_to_settle, complete_as_ended, settle};
+ghost use Rattle.batch_model.specs.Settling.{is_over, has_no_conditions, is_zero_limit, is_tried_once, has_plain_job, is_to_complete, outcome_of, complete, wants_requeue, is_to_requeue, active_again, requeue, wants_termination, is_to_terminate, terminate_task, wants_wall_end, has_job_without_actions, is_to_time_out, time_out_task, is_to_settle, complete_as_ended, settle};
 ghost use Rattle.batch_model.specs.Dues.{settle_first};
 ghost use Rattle.batch_model.specs.WellFormed.{KeysAreDistinct};
 ghost use Rattle.machine_plans.specs.Plans.{IsPlanOf, IsRule, answer_of_step};
@@ -18,6 +19,7 @@ use bt_rows::plan::Plan;
 use bt_rows::run::Ending;
 use bt_rows::tables::{Change, Tables};
 use bt_rows::task::{Closed, How, TaskRow, TaskStage, Want};
+use job_rules::is_undisturbed;
 use machine_index::IndexedTables;
 use machine_plans::step_one;
 use std::alloc::Global;
@@ -38,13 +40,6 @@ fn main_ending(indexed: &IndexedTables, task: &TaskRow) -> Option<Ending>
         None => None,
         Some(run) => ending_of(run.state),
     }
-}
-
-/// Whether no end of the task is wanted, and no start of it has failed.
-fn is_undisturbed(task: &TaskRow) -> bool
-    ensures { result ≡ is_undisturbed task.now }
-{
-    task.wanted.is_none() && task.fail.is_none()
 }
 
 /// Whether the task lists no exit conditions.
@@ -113,11 +108,55 @@ fn is_to_requeue(indexed: &IndexedTables, task: &TaskRow) -> bool
     is_over(indexed, task) && wants_requeue(task.wanted)
 }
 
-/// Whether the task is to be requeued or completed.
+/// Whether a termination of the task is wanted.
+fn wants_termination(wanted: Option<Want>) -> bool
+    ensures { result ≡ wants_termination wanted }
+{
+    wanted == Some(Want::Terminate)
+}
+
+/// Whether the task is over, and is to be completed as terminated.
+fn is_to_terminate(indexed: &IndexedTables, task: &TaskRow) -> bool
+    ensures { result ≡ is_to_terminate indexed.now.state task.now }
+{
+    is_over(indexed, task) && wants_termination(task.wanted)
+}
+
+/// Whether the end of the task at its wall time is wanted.
+fn wants_wall_end(wanted: Option<Want>) -> bool
+    ensures { result ≡ wants_wall_end wanted }
+{
+    wanted == Some(Want::Wall)
+}
+
+/// Whether the task's job takes no actions when tasks fail.
+fn has_job_without_actions(tables: &Tables, task: &TaskRow) -> bool
+    ensures { result ≡ has_job_without_actions tables.now.state task.now }
+{
+    match tables.find_job(&task.job) {
+        None => false,
+        Some(job) => !job.on_fail,
+    }
+}
+
+/// Whether the task is over, and is to be completed as one whose wall time is over.
+fn is_to_time_out(indexed: &IndexedTables, task: &TaskRow) -> bool
+    ensures { result ≡ is_to_time_out indexed.now.state task.now }
+{
+    is_over(indexed, task)
+        && wants_wall_end(task.wanted)
+        && has_no_conditions(task)
+        && has_job_without_actions(indexed.tables(), task)
+}
+
+/// Whether the task is to be requeued, terminated, timed out or completed.
 fn is_to_settle(indexed: &IndexedTables, task: &TaskRow) -> bool
     ensures { result ≡ is_to_settle indexed.now.state task.now }
 {
-    is_to_requeue(indexed, task) || is_to_complete(indexed, task)
+    is_to_requeue(indexed, task)
+        || is_to_terminate(indexed, task)
+        || is_to_time_out(indexed, task)
+        || is_to_complete(indexed, task)
 }
 
 /// The first task that is to be settled, by a look at all tasks.
@@ -246,7 +285,55 @@ fn requeue(alloc: Global, tables: &Tables, task: &TaskRow) -> Result<Plan, NoMem
     step_one(alloc, due, Change::PutTask(active_again(task)?))
 }
 
-/// The plan that settles the task: a wanted requeue goes before the ending of the main run.
+/// The task, completed as terminated at `now`, in milliseconds since 1970.
+fn terminated(now: u64, task: &TaskRow) -> Result<TaskRow, NoMemory>
+    ensures { IfOk result (λ row. row ≡ terminated now task.now) }
+{
+    let closed = Closed {
+        how: How::Terminated,
+        success: false,
+        satisfies: false,
+        at: now,
+    };
+    completed(closed, task)
+}
+
+/// The plan that completes the task as terminated.
+fn terminate_task(alloc: Global, tables: &Tables, task: &TaskRow) -> Result<Plan, NoMemory>
+    requires keys { KeysAreDistinct tables.now.state }
+    requires found { find (is_to_settle tables.now.state) tables.now.state.tasks ≡ Some task.now }
+    ensures { IfOk result (IsPlanOf (answer_of_step (terminate_task tables.now.state task.now)) tables.now.state) }
+{
+    let due = settled(task, Outcome::Failure)?;
+    let row = terminated(tables.moment(), task)?;
+    step_one(alloc, due, Change::PutTask(row))
+}
+
+/// The task, completed as one whose wall time is over at `now`, in milliseconds since 1970.
+fn timed_out(now: u64, task: &TaskRow) -> Result<TaskRow, NoMemory>
+    ensures { IfOk result (λ row. row ≡ timed_out now task.now) }
+{
+    let closed = Closed {
+        how: How::Wall,
+        success: false,
+        satisfies: false,
+        at: now,
+    };
+    completed(closed, task)
+}
+
+/// The plan that completes the task as one whose wall time is over.
+fn time_out_task(alloc: Global, tables: &Tables, task: &TaskRow) -> Result<Plan, NoMemory>
+    requires keys { KeysAreDistinct tables.now.state }
+    requires found { find (is_to_settle tables.now.state) tables.now.state.tasks ≡ Some task.now }
+    ensures { IfOk result (IsPlanOf (answer_of_step (time_out_task tables.now.state task.now)) tables.now.state) }
+{
+    let due = settled(task, Outcome::Failure)?;
+    let row = timed_out(tables.moment(), task)?;
+    step_one(alloc, due, Change::PutTask(row))
+}
+
+/// The plan that settles the task: a wanted end goes before the ending of the main run.
 fn settle(alloc: Global, indexed: &IndexedTables, task: &TaskRow) -> Result<Option<Plan>, NoMemory>
     requires keys { KeysAreDistinct indexed.now.state }
     requires found { find (is_to_settle indexed.now.state) indexed.now.state.tasks ≡ Some task.now }
@@ -254,6 +341,10 @@ fn settle(alloc: Global, indexed: &IndexedTables, task: &TaskRow) -> Result<Opti
 {
     if is_to_requeue(indexed, task) {
         Ok(Some(requeue(alloc, indexed.tables(), task)?))
+    } else if is_to_terminate(indexed, task) {
+        Ok(Some(terminate_task(alloc, indexed.tables(), task)?))
+    } else if is_to_time_out(indexed, task) {
+        Ok(Some(time_out_task(alloc, indexed.tables(), task)?))
     } else {
         complete_as_ended(alloc, indexed, task)
     }

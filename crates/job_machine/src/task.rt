@@ -4,7 +4,6 @@ ghost use Rattle.std.specs.List.{list_any};
 ghost use Rattle.bt_rows.specs.declared.refusal.Refusal.TheVariants.{JobNotFound};
 ghost use Rattle.batch_model.specs.Events.{accept, add_task, for_row, has_long_needs, task_refusals};
 ghost use Rattle.batch_model.specs.Finding.{first_of};
-ghost use Rattle.batch_model.specs.Jobs.{is_past};
 ghost use Rattle.batch_model.specs.Limits.{needs_limit, task_limit};
 ghost use Rattle.batch_model.specs.Rows.{is_task, job_of, task_of, add_task_row};
 ghost use Rattle.batch_model.specs.Tasks.{new_task};
@@ -14,12 +13,13 @@ ghost use Rattle.job_machine.specs.Collections.{with_tasks};
 
 use bt_base::{Duplicate, Fail, Id, NoMemory};
 use bt_rows::event::TaskSpec;
-use bt_rows::job::{JobRow, JobState};
+use bt_rows::job::JobRow;
 use bt_rows::limits::{DEPENDENCY_ID_LIMIT, TASK_LIMIT};
 use bt_rows::plan::Plan;
 use bt_rows::refusal::{Refusal, Table};
 use bt_rows::tables::{Change, Tables};
 use bt_rows::task::{TaskRow, TaskStage};
+use job_rules::is_past;
 use machine_plans::accept_one;
 use std::alloc::Global;
 
@@ -75,16 +75,6 @@ pub fn task_refusal(
         return Some(Refusal::TableFull(Table::Tasks, TASK_LIMIT));
     }
     None
-}
-
-/// Whether the job is terminating, completed or deleting.
-pub fn is_past(state: JobState) -> bool
-    ensures { result ≡ is_past state }
-{
-    matches!(
-        state,
-        JobState::Terminating | JobState::Completed | JobState::Deleting
-    )
 }
 
 /// Whether the ids have more characters together than the limit.

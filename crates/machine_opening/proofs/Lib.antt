@@ -1,2 +1,1 @@
 pub mod OpeningMade
-pub mod PutsInPlace

@@ -14,13 +14,11 @@ use Rattle.batch_model.specs.Opening.{opening, is_refilled, refilled, is_emptied
 use Rattle.batch_model.specs.WellFormed.{KeysAreDistinct}
 use Rattle.batch_model.specs.Variants.{State, PoolRow, Alloc, Steady, Resizing, Stopping, ResizeError, NodeRow, TaskRow, Want, RunRow, RunState, PrepRow}
 use Rattle.model_lists.proofs.Tests.{and_first, and_second}
-use Rattle.machine_opening.specs.Openings.{puts_of, put_if_some, is_fresh, opened_pool, opened_task, opened_run, pool_puts, task_puts, run_puts, node_drops, drop_of_node, prep_drops, drop_of_prep, key_of_prep, with_opening}
-use Rattle.machine_opening.proofs.PutsInPlace.{put_if_some as put_row_if_some, put_each, put_in_place, put_is_change_where, drop_each, drop_all}
-
--- changes after others
-apply_append : (changes later : List Change) (s : State) → apply_changes (changes ++ later) s ≡ apply_changes later (apply_changes changes s)
-apply_append [] later s = refl
-apply_append (change ∷ changes) later s = apply_append changes later (apply_change change s)
+use Rattle.row_changes.specs.Puts.{puts_of}
+use Rattle.row_changes.specs.Puts.{prep_drop, key_of_prep}
+use Rattle.machine_opening.specs.Openings.{is_fresh, opened_pool, opened_task, opened_run, pool_puts, task_puts, run_puts, node_drops, drop_of_node, prep_drops, with_opening}
+use Rattle.row_changes.proofs.PutsInPlace.{put_in_place, put_is_change_where, drop_each, drop_all}
+use Rattle.row_changes.proofs.ListPuts.{apply_append, pools_put, tasks_put, runs_put}
 
 -- pools
 
@@ -130,39 +128,15 @@ unchanged_run_by now run false i same = refl
 unchanged_run : (now : ℕ) (run : RunRow) → cond (is_unended run.state) (withdrawn now run) run ≡ run → opened_run now run ≡ None
 unchanged_run now run same = unchanged_run_by now run (is_unended run.state) refl same
 
--- puts and drops change one list of the tables
-
-pools_cons : (give : PoolRow → Option PoolRow) (o : Option PoolRow) (rest : List PoolRow) (s : State) → ((t : State) → apply_changes (puts_of PutPool give rest) t ≡ record t { pools = put_each same_pool give rest t.pools }) → apply_changes (put_if_some PutPool o ++ puts_of PutPool give rest) s ≡ record s { pools = put_each same_pool give rest (put_row_if_some same_pool o s.pools) }
-pools_cons give None rest s ih = ih s
-pools_cons give (Some row) rest s ih = ih (apply_change (PutPool row) s)
-
-pools_put : (give : PoolRow → Option PoolRow) (pools : List PoolRow) (s : State) → apply_changes (puts_of PutPool give pools) s ≡ record s { pools = put_each same_pool give pools s.pools }
-pools_put give [] s = refl
-pools_put give (pool ∷ pools) s = pools_cons give (give pool) pools s (pools_put give pools)
-
-tasks_cons : (give : TaskRow → Option TaskRow) (o : Option TaskRow) (rest : List TaskRow) (s : State) → ((t : State) → apply_changes (puts_of PutTask give rest) t ≡ record t { tasks = put_each same_task give rest t.tasks }) → apply_changes (put_if_some PutTask o ++ puts_of PutTask give rest) s ≡ record s { tasks = put_each same_task give rest (put_row_if_some same_task o s.tasks) }
-tasks_cons give None rest s ih = ih s
-tasks_cons give (Some row) rest s ih = ih (apply_change (PutTask row) s)
-
-tasks_put : (give : TaskRow → Option TaskRow) (tasks : List TaskRow) (s : State) → apply_changes (puts_of PutTask give tasks) s ≡ record s { tasks = put_each same_task give tasks s.tasks }
-tasks_put give [] s = refl
-tasks_put give (task ∷ tasks) s = tasks_cons give (give task) tasks s (tasks_put give tasks)
-
-runs_cons : (give : RunRow → Option RunRow) (o : Option RunRow) (rest : List RunRow) (s : State) → ((t : State) → apply_changes (puts_of PutRun give rest) t ≡ record t { runs = put_each same_run give rest t.runs }) → apply_changes (put_if_some PutRun o ++ puts_of PutRun give rest) s ≡ record s { runs = put_each same_run give rest (put_row_if_some same_run o s.runs) }
-runs_cons give None rest s ih = ih s
-runs_cons give (Some row) rest s ih = ih (apply_change (PutRun row) s)
-
-runs_put : (give : RunRow → Option RunRow) (runs : List RunRow) (s : State) → apply_changes (puts_of PutRun give runs) s ≡ record s { runs = put_each same_run give runs s.runs }
-runs_put give [] s = refl
-runs_put give (run ∷ runs) s = runs_cons give (give run) runs s (runs_put give runs)
+-- drops change one list of the tables
 
 nodes_dropped : (nodes : List NodeRow) (s : State) → apply_changes (map drop_of_node nodes) s ≡ record s { nodes = drop_each (λ node. node_has_number node.number) nodes s.nodes }
 nodes_dropped [] s = refl
 nodes_dropped (node ∷ nodes) s = nodes_dropped nodes (apply_change (drop_of_node node) s)
 
-preps_dropped : (preps : List PrepRow) (s : State) → apply_changes (map drop_of_prep preps) s ≡ record s { preps = drop_each (λ prep. prep_has_key (key_of_prep prep)) preps s.preps }
+preps_dropped : (preps : List PrepRow) (s : State) → apply_changes (map prep_drop preps) s ≡ record s { preps = drop_each (λ prep. prep_has_key (key_of_prep prep)) preps s.preps }
 preps_dropped [] s = refl
-preps_dropped (prep ∷ preps) s = preps_dropped preps (apply_change (drop_of_prep prep) s)
+preps_dropped (prep ∷ preps) s = preps_dropped preps (apply_change (prep_drop prep) s)
 
 module _ (s : State) (keys : KeysAreDistinct s) where
   -- the tables with so many lists opened
@@ -246,7 +220,7 @@ module _ (s : State) (keys : KeysAreDistinct s) where
   no_node_drops same = ap (map drop_of_node) (sym (ap (λ (t : State). t.nodes) same))
 
   no_prep_drops : opening s ≡ s → prep_drops s ≡ []
-  no_prep_drops same = ap (map drop_of_prep) (sym (ap (λ (t : State). t.preps) same))
+  no_prep_drops same = ap (map prep_drop) (sym (ap (λ (t : State). t.preps) same))
 
   pub opening_none : opening s ≡ s → with_opening s [] ≡ []
   opening_none same =

@@ -2,24 +2,13 @@
 use Rattle.std.specs.Prelude.{ℕ, Bool, not, ◌&&◌, nat_eq, List, [], ◌∷◌, ◌++◌, map, Option, Some, None, is_none, if◌then◌else◌}
 use Rattle.bt_rows.specs.State.{State}
 use Rattle.bt_rows.specs.declared.tables.Change.{Change}
-use Rattle.bt_rows.specs.declared.tables.Change.TheVariants.{PutPool, PutTask, PutRun, DropNode, DropPrep}
-use Rattle.bt_rows.specs.declared.prep.PrepKey.{PrepKey}
+use Rattle.bt_rows.specs.declared.tables.Change.TheVariants.{PutPool, PutTask, PutRun, DropNode}
 use Rattle.batch_model.specs.Finding.{only_if}
 use Rattle.batch_model.specs.Runs.{is_unended}
 use Rattle.batch_model.specs.Pools.{is_resizing}
 use Rattle.batch_model.specs.Opening.{is_refilled, refilled, is_emptied, emptied, is_cut_short, requeued, withdrawn}
-use Rattle.batch_model.specs.Variants.{PoolRow, NodeRow, TaskRow, RunRow, PrepRow}
-
-module _ {R : Type 0} (put : R → Change) where
-  -- the put of a row, if there is one
-  abbrev pub put_if_some : Option R → List Change
-  put_if_some None = []
-  put_if_some (Some row) = put row ∷ []
-
-  -- the puts that the rows give, in their order
-  abbrev pub puts_of : (R → Option R) → List R → List Change
-  puts_of give [] = []
-  puts_of give (row ∷ rows) = put_if_some (give row) ++ puts_of give rows
+use Rattle.batch_model.specs.Variants.{PoolRow, NodeRow, TaskRow, RunRow}
+use Rattle.row_changes.specs.Puts.{puts_of, prep_drop}
 
 -- the pool resizes from now already, with its usual timeout and no error
 abbrev pub is_fresh : ℕ → PoolRow → Bool
@@ -56,14 +45,8 @@ drop_of_node node = DropNode node.number
 abbrev pub node_drops : State → List Change
 node_drops s = map drop_of_node s.nodes
 
-abbrev pub key_of_prep : PrepRow → PrepKey
-key_of_prep prep = record { job = prep.job; node = prep.node }
-
-abbrev pub drop_of_prep : PrepRow → Change
-drop_of_prep prep = DropPrep (key_of_prep prep)
-
 abbrev pub prep_drops : State → List Change
-prep_drops s = map drop_of_prep s.preps
+prep_drops s = map prep_drop s.preps
 
 -- all of them after others
 abbrev pub with_opening : State → List Change → List Change

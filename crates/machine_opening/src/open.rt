@@ -3,7 +3,8 @@ ghost use Rattle.std.specs.Prelude.{◌≡◌, [], ◌++◌, IfOk, OnOk};
 ghost use Rattle.bt_rows.specs.Changes.{apply_changes};
 ghost use Rattle.batch_model.specs.Opening.{opening, is_refilled, refilled, is_emptied, emptied, is_cut_short, requeued, withdrawn};
 ghost use Rattle.batch_model.specs.WellFormed.{IsWellFormed};
-ghost use Rattle.machine_opening.specs.Openings.{is_fresh, opened_pool, opened_task, opened_run, pool_puts, task_puts, run_puts, node_drops, prep_drops, key_of_prep, with_opening};
+ghost use Rattle.row_changes.specs.Puts.{key_of_prep};
+ghost use Rattle.machine_opening.specs.Openings.{is_fresh, opened_pool, opened_task, opened_run, pool_puts, task_puts, run_puts, node_drops, prep_drops, with_opening};
 
 use bt_base::{Duplicate, List, NoMemory};
 use bt_rows::pool::{Alloc, PoolRow};

@@ -2,15 +2,15 @@
 use Rattle.std.proofs.Common.{◌≡◌, ℕ, ◌+◌, Bool, false, not, nat_eq, nat_lt, List, [], ◌∷◌, ◌++◌, Some, refl, ap}
 use Rattle.std.specs.List.{list_any, find}
 use Rattle.bt_rows.specs.Changes.{apply_change, apply_changes}
-use Rattle.bt_rows.specs.Keys.{same_pool, same_pool_equiv, same_node, same_task, same_task_equiv, same_run}
+use Rattle.bt_rows.specs.Keys.{same_pool, same_pool_equiv, same_node, same_job, same_job_equiv, same_task, same_task_equiv, same_run}
 use Rattle.bt_rows.specs.Lists.{put_row}
-use Rattle.bt_rows.specs.declared.tables.Change.TheVariants.{PutPool, PutNode, PutTask, PutRun, Counters}
+use Rattle.bt_rows.specs.declared.tables.Change.TheVariants.{PutPool, PutNode, PutJob, PutTask, PutRun, Counters}
 use Rattle.bt_rows.proofs.DistinctRows.{found_first}
 use Rattle.batch_model.specs.Finding.{Each}
-use Rattle.batch_model.specs.Rows.{put_pool, put_task, add_node_row, add_run_row}
+use Rattle.batch_model.specs.Rows.{put_pool, put_job, put_task, add_node_row, add_run_row}
 use Rattle.batch_model.specs.Sound.{NumbersAreNew}
 use Rattle.batch_model.specs.WellFormed.{KeysAreDistinct}
-use Rattle.batch_model.specs.Variants.{State, PoolRow, NodeRow, TaskRow, RunRow}
+use Rattle.batch_model.specs.Variants.{State, PoolRow, NodeRow, JobRow, TaskRow, RunRow}
 use Rattle.model_lists.proofs.Putting.{put_row-found, put_row-new}
 use Rattle.model_lists.proofs.NextNumbers.{below_other}
 use Rattle.model_lists.proofs.RowLists.{each_weaker, none_any}
@@ -28,6 +28,19 @@ pool_changed test pool row s keys found id =
 
     first : find (λ (other : PoolRow). same_pool other row) s.pools ≡ Some pool
     first = rw id (found_first same_pool same_pool_equiv test pool s.pools keys.pools found)
+
+-- a job in the place of one that a search finds
+pub job_changed : (test : JobRow → Bool) (job row : JobRow) (s : State) → KeysAreDistinct s → find test s.jobs ≡ Some job → row.id ≡ job.id → apply_change (PutJob row) s ≡ put_job row s
+job_changed test job row s keys found id =
+    ap (λ jobs. record s { jobs = jobs })
+    (put_row-found same_job same_job_equiv (λ (other : JobRow). same_job other row) (λ (old : JobRow). row) job same_key same_key s.jobs keys.jobs
+    first)
+  where
+    same_key : (x : JobRow) → same_job x row ≡ same_job x job
+    same_key x = rw id refl
+
+    first : find (λ (other : JobRow). same_job other row) s.jobs ≡ Some job
+    first = rw id (found_first same_job same_job_equiv test job s.jobs keys.jobs found)
 
 -- a task in the place of one that a search finds
 pub task_changed : (test : TaskRow → Bool) (task row : TaskRow) (s : State) → KeysAreDistinct s → find test s.tasks ≡ Some task → row.job ≡ task.job → row.id ≡ task.id → apply_change (PutTask row) s ≡ put_task row s

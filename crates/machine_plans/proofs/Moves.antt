@@ -9,6 +9,7 @@ use Rattle.bt_rows.specs.declared.refusal.Refusal.{Refusal}
 use Rattle.bt_rows.specs.declared.reply.Reply.TheVariants.{Refused}
 use Rattle.bt_rows.specs.declared.tables.Change.{Change}
 use Rattle.batch_model.specs.Steps.{Answered}
+use Rattle.batch_model.specs.WellFormed.{KeysAreDistinct}
 use Rattle.batch_model.specs.Variants.{State}
 use Rattle.machine_plans.specs.Plans.{IsPlanOf, moved_to, with_moment}
 
@@ -38,3 +39,8 @@ moved_plan (Ok plan) now answered s more alone reply made leads = record {
       made ∙ (ap (λ these. moved_to now s ++ these) no_more ∙ ap (λ these. these ++ []) (none_moved now s still));
 }
 moved_plan (Err error) now answered s more alone reply made leads = tt
+
+-- keys stay distinct at another moment
+pub keys_moved : (now : ℕ) (s : State) → KeysAreDistinct s → KeysAreDistinct (with_moment now s)
+keys_moved now s k =
+    record { pools = k.pools; nodes = k.nodes; jobs = k.jobs; tasks = k.tasks; runs = k.runs; preps = k.preps; samples = k.samples; scales = k.scales }

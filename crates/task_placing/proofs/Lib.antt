@@ -1,4 +1,6 @@
 pub mod Choices
+pub mod JobTurns
 pub mod NodeEntries
 pub mod NotPlaced
+pub mod OpenPools
 pub mod Placements

@@ -1,8 +1,7 @@
 -- The entries of nodes, added one by one.
-use Rattle.std.proofs.Common.{◌≡◌, ℕ, ◌≤◌, Some, subst, find, Bool, true, false, not, ◌||◌, List, [], ◌∷◌, ◌++◌, cond, map, refl, sym, ◌∙◌, ap, append_assoc}
+use Rattle.std.proofs.Common.{◌≡◌, Some, subst, find, Bool, true, false, not, ◌||◌, List, [], ◌∷◌, ◌++◌, cond, map, refl, sym, ◌∙◌, ap, append_assoc}
 use Rattle.std.specs.Prelude.{nat_eq, nat_le}
 use Rattle.std.specs.Option.{option_map_or}
-use Rattle.std.proofs.lemmas.Bool.{leb-true}
 use Rattle.std.specs.List.{list_any}
 use Rattle.bt_rows.specs.Keys.{same_node}
 use Rattle.bt_rows.specs.Lists.{AreDistinct}
@@ -15,7 +14,7 @@ use Rattle.batch_model.specs.Slots.{held_slots}
 use Rattle.batch_model.specs.Sound.{SlotsSuffice, has_slots_for}
 use Rattle.batch_model.specs.WellFormed.{has_pool_row}
 use Rattle.batch_model.specs.Variants.{State, PoolRow, NodeRow}
-use Rattle.model_lists.proofs.RowLists.{each_tail, each_head, each_of_two, each_any, each_found, find_any, find_test, any_none}
+use Rattle.model_lists.proofs.RowLists.{each_tail, each_of_two, each_any, each_found, find_any, find_test, any_none}
 use Rattle.model_lists.proofs.Tests.{asked, not_true, true_not, or_false}
 use Rattle.task_placing.specs.Entries.{slots_of, entries_of, entry_of, only_usable}
 
@@ -53,13 +52,6 @@ none_added s distinct slots pools = record {
       each_of_two (has_slots_for s) (λ node. has_pool_row s node.pool) (λ node. nat_le (held_slots s node.number) (slots_of s node))
       (λ node h k. slots_there s node h (find_any (is_pool node.pool) s.pools k)) s.nodes slots pools;
 }
-
-pub first_few : (s : State) (all : List NodeRow) (ledger : List Entry) (node : NodeRow) (left : List NodeRow) → AreAdded s all ledger (node ∷ left) → held_slots s node.number ≤ slots_of s node
-first_few s all ledger node left h =
-    leb-true (held_slots s node.number) (slots_of s node) (each_head (λ node. nat_le (held_slots s node.number) (slots_of s node)) node left h.few)
-
-pub first_apart : (s : State) (all : List NodeRow) (ledger : List Entry) (node : NodeRow) (left : List NodeRow) → AreAdded s all ledger (node ∷ left) → has_node ledger node.number ≡ false
-first_apart s all ledger node left h = not_true (has_node ledger node.number) (each_head (λ node. not (has_node ledger node.number)) node left h.apart)
 
 joined : (s : State) (node : NodeRow) (left : List NodeRow) (b : Bool) → map (entry_of s) (cond b (node ∷ only_usable left) (only_usable left)) ≡ map (entry_of s) (cond b (node ∷ []) []) ++ entries_of s left
 joined s node left true = refl

@@ -14,10 +14,9 @@ use Rattle.slot_ledger.specs.Ledgers.{chosen, is_within}
 use Rattle.bt_rows.specs.declared.pool.Fill.{Fill}
 use Rattle.batch_model.specs.Finding.{Each, best, find_map, only_if, or_else}
 use Rattle.batch_model.specs.Nodes.{is_in_pool, is_usable}
-use Rattle.batch_model.specs.Placing.{is_ready, is_placeable, fits, precedes, choice, places_tasks, place, place_task, place_in, place_of_job}
+use Rattle.batch_model.specs.Placing.{is_placeable, fits, precedes, choice, places_tasks, place, place_task, place_in, place_of_job}
 use Rattle.batch_model.specs.Rows.{is_pool, pool_of}
 use Rattle.batch_model.specs.Slots.{held_slots}
-use Rattle.batch_model.specs.Tasks.{is_in_job}
 use Rattle.batch_model.specs.WellFormed.{needs_length, is_task_valid, is_task_in_range, is_task_past, has_fitting_failures}
 use Rattle.batch_model.specs.Variants.{State, PoolRow, NodeRow, JobRow, TaskRow}
 use Rattle.model_lists.proofs.RowLists.{find_test, each_head, each_tail, each_found, each_any, none_weaker, any_none, find_agree}
@@ -48,7 +47,7 @@ module _ {Q R : Type 0} where
   none_of_all a give none (row ∷ rows) h =
       ap (λ one. or_else one (find_map give rows)) (none row (each_head a row rows h)) ∙ none_of_all a give none rows (each_tail a row rows h)
 
-  only_some : (p : Bool) (f : Q → R) (o : Option Q) → (p && is_some o) ≡ is_some (only_if p (option_map f o))
+  pub only_some : (p : Bool) (f : Q → R) (o : Option Q) → (p && is_some o) ≡ is_some (only_if p (option_map f o))
   only_some true f None = refl
   only_some true f (Some x) = refl
   only_some false f o = refl
@@ -175,7 +174,7 @@ none_in_pool s entries job (Some pool) found e d valid h =
 pub none_free : (s : State) (entries : List Entry) → entries ≡ ledger_of s → AreDistinct same_pool s.pools → Each (is_task_valid s.moment) s.tasks → list_any (λ pool. is_some (chosen entries pool.id pool.fill 1)) s.pools ≡ false → find_map (place_of_job s) s.jobs ≡ None
 none_free s entries e d valid h =
     none_of_all (λ job. true) (place_of_job s)
-    (λ job k. only_none (places_tasks job) (option_and_then (place_in s job) (pool_of s job.pool)) (none_in_pool s entries job (pool_of s job.pool) refl e d valid h))
+    (λ job k. only_none (places_tasks s job) (option_and_then (place_in s job) (pool_of s job.pool)) (none_in_pool s entries job (pool_of s job.pool) refl e d valid h))
     s.jobs (each_any (λ job. true) (λ job. refl) s.jobs)
 
 -- the first task that fits by a ledger is the first ready one for which enough slots are free

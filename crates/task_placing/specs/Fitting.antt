@@ -1,5 +1,8 @@
 -- Tasks that fit, by the tables and by the ledger.
-use Rattle.std.specs.Prelude.{◌≡◌, Bool, ◌&&◌, List, Some, is_some}
+use Rattle.std.specs.Prelude.{◌≡◌, Bool, ◌&&◌, not, List, Option, Some, is_some}
+use Rattle.std.specs.Option.{option_and_then}
+use Rattle.batch_model.specs.Finding.{only_if}
+use Rattle.batch_model.specs.Rows.{pool_of}
 use Rattle.std.specs.List.{find}
 use Rattle.bt_rows.specs.Keys.{same_pool}
 use Rattle.slot_ledger.specs.declared.ledger.Entry.{Entry}
@@ -10,6 +13,10 @@ use Rattle.batch_model.specs.Variants.{State, PoolRow, JobRow, TaskRow}
 -- the pool is the row with its id
 abbrev pub IsPoolRow : State → PoolRow → Type 0
 IsPoolRow s pool = find (λ row. same_pool row pool) s.pools ≡ Some pool
+
+-- the job's pool, if it is not being deleted
+abbrev pub open_pool : State → JobRow → Option PoolRow
+open_pool s job = option_and_then (λ pool. only_if (not pool.deleting) (Some pool)) (pool_of s job.pool)
 
 -- a ready task of the job for which a node is chosen
 abbrev pub fits_in : State → JobRow → PoolRow → TaskRow → Bool

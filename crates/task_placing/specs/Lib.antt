@@ -1,3 +1,4 @@
 pub mod Conditions
 pub mod Entries
 pub mod Fitting
+pub mod Turns

@@ -1,9 +1,11 @@
-//! Placing of tasks: the first task in the order of placing that fits is placed, on the node that its pool's fill type
-//! prefers.
+//! Placing of tasks: of the jobs of which a task can be placed the one of the highest priority comes first, and its first task that
+//! fits is placed on the node that its pool's fill type prefers.
 #![tactic(auto)]
 
 mod entries;
 mod first;
+mod fitting;
 mod place;
+mod turns;
 
 pub use first::place_first;

@@ -1,6 +1,7 @@
 use Rattle.std.proofs.Common.{◌≡◌, ◌++◌}
 use Rattle.bt_rows.specs.declared.tables.Change.TheVariants.{PutTask}
-use Rattle.machine_opening.specs.Openings.{puts_of, opened_task, task_puts}
+use Rattle.row_changes.specs.Puts.{puts_of}
+use Rattle.machine_opening.specs.Openings.{opened_task, task_puts}
 use Rattle.machine_opening.proofs.open.put_tasks.Given as goal
 
 -- what there is and what is left give what all rows give

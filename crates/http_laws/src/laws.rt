@@ -1,0 +1,27 @@
+//! Laws, each the contract of a function.
+ghost use Rattle.http_laws.specs.Ends.{EndsAgree};
+ghost use Rattle.http_laws.specs.Messages.{OneMessage, OnlyFaultsBeforeMessage, MessagesAreAnswered};
+
+use http_serving::Service;
+
+/// Bytes begin with one message at most: its head, its body and what follows it are determined.
+pub fn one_message()
+    ensures { OneMessage }
+{}
+
+/// Bytes that begin with a message allow no end before it but a fault of the link and running out of memory.
+pub fn only_faults_before_a_message()
+    ensures { OnlyFaultsBeforeMessage }
+{}
+
+/// At the position where a connection ends no message is left, unless the last request asked that it end, as many requests as
+/// the limit were answered, the link failed, or memory ran out.
+pub fn every_message_is_answered<S: Service>(_service: &S)
+    ensures { MessagesAreAnswered S }
+{}
+
+/// Two ends that the same bytes allow are the same, or one is a fault of the link or running out of memory, or the bytes that
+/// are looked at end inside a target, or cannot become a head and have the lines of more fields than the limit.
+pub fn ends_agree()
+    ensures { EndsAgree }
+{}

@@ -1,0 +1,3 @@
+pub mod FirstWeaker
+mod JobRemoved
+mod FirstTimedOut

@@ -1,0 +1,2 @@
+pub mod ListPuts
+pub mod PutsInPlace

@@ -1,0 +1,3 @@
+pub mod JobStops
+pub mod RunOfStopped
+pub mod StopMade

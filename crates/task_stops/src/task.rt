@@ -1,0 +1,39 @@
+//! The changes that stop one task.
+ghost use Rattle.std.specs.Prelude.{◌≡◌, IfOk};
+ghost use Rattle.bt_rows.specs.Changes.{apply_changes};
+ghost use Rattle.batch_model.specs.Rows.{is_task};
+ghost use Rattle.batch_model.specs.Stops.{stop};
+ghost use Rattle.batch_model.specs.WellFormed.{KeysAreDistinct};
+ghost use Rattle.task_stops.specs.declared.stop.Stopped.TheVariants.{One};
+
+use crate::stop::{Stopped, push_stop};
+use bt_base::{Duplicate, NoMemory};
+use bt_rows::tables::{Change, Tables};
+use bt_rows::task::{TaskKey, TaskRow, Want};
+use std::alloc::Global;
+
+/// This task alone.
+fn only(task: &TaskRow) -> Result<Stopped, NoMemory>
+    ensures { IfOk result (λ which. which ≡ One (record { job = task.now.job; id = task.now.id })) }
+{
+    let job = task.job.copy()?;
+    let id = task.id.copy()?;
+    Ok(Stopped::One(TaskKey { job, id }))
+}
+
+/// The changes that stop the task at the tables' moment, if it is placed: the end is wanted of it, and the runs of its present
+/// attempt are halted. The only error is out of memory.
+pub fn stop_task(
+    alloc: Global,
+    tables: &Tables,
+    task: &TaskRow,
+    want: Want,
+) -> Result<Vec<Change>, NoMemory>
+    requires { KeysAreDistinct tables.now.state }
+    ensures { IfOk result (λ changes. apply_changes changes.items tables.now.state ≡ stop (is_task task.now.job task.now.id) want tables.now.state) }
+{
+    let which = only(task)?;
+    let mut changes = Vec::new(alloc);
+    push_stop(&mut changes, tables, tables.moment(), &which, want)?;
+    Ok(changes)
+}
