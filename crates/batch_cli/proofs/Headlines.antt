@@ -7,7 +7,7 @@ use Rattle.batch_model.specs.Sound.{IsSound}
 use Rattle.batch_model.specs.Variants.{State}
 use Rattle.batch_desk.specs.declared.entry.Entry.{Entry}
 use Rattle.batch_desk.specs.Kept.{Desk, Tells}
-use Rattle.batch_desk.specs.Laws.{KeepsSlots}
+use Rattle.batch_desk.specs.Laws.{KeepsLaws}
 use Rattle.batch_desk.specs.History.{IsLegal, after_all, asked_of, fault_count}
 use Rattle.batch_desk.specs.Answers.{IsInOrder, Begins, HasSameOpening}
 use Rattle.batch_cli.specs.Shown.{outputs, outputs_before, calls_of}
@@ -63,10 +63,10 @@ module _ {K : Type 0} {told : K → Option State} {faults : K → ℕ} {options 
       subst (λ seats. IsLegal seats start.opened now.entries) (seats_from r same)
       (subst (λ s. IsLegal now.seats s now.entries) same.opened r.in_order.legal)
 
-  slots_from : Runs told faults options loaded count start now → HasSameOpening start now → KeepsSlots options.seats start.opened now.entries
-  slots_from r same =
-      subst (λ seats. KeepsSlots seats start.opened now.entries) (seats_from r same)
-      (subst (λ s. KeepsSlots now.seats s now.entries) same.opened r.in_order.slots)
+  laws_from : Runs told faults options loaded count start now → HasSameOpening start now → KeepsLaws options.seats start.opened now.entries
+  laws_from r same =
+      subst (λ seats. KeepsLaws seats start.opened now.entries) (seats_from r same)
+      (subst (λ s. KeepsLaws now.seats s now.entries) same.opened r.in_order.laws)
 
   kept_from : Runs told faults options loaded count start now → HasSameOpening start now →
       Tells (told now.keeper) (after_all options.seats start.opened now.entries)
@@ -92,7 +92,7 @@ module _ {K : Type 0} {told : K → Option State} {faults : K → ℕ} {options 
     begins = begins_from r p.same;
     history = now.entries;
     legal = legal_from r p.same;
-    slots = slots_from r p.same;
+    laws = laws_from r p.same;
     within = within_from r p.same;
     calls = p.calls;
     settled = p.settled;
@@ -115,7 +115,7 @@ module _ {K : Type 0} {told : K → Option State} {faults : K → ℕ} {options 
         begins = begins_from r p.same;
         history = now.entries;
         legal = legal_from r p.same;
-        slots = slots_from r p.same;
+        laws = laws_from r p.same;
         calls = subst (λ limit. map asked_of now.entries ≡ take limit (calls_of (lines script))) r.begins.limit_is p.calls;
         settled = p.settled;
         written = subst (λ w. Gains before taken w) (shown_from (lines script) now.entries r) p.written;

@@ -10,7 +10,7 @@ use Rattle.batch_keeper.specs.declared.error.KeepError.TheVariants.{Failed, Memo
 use Rattle.batch_desk.specs.declared.entry.Entry.{Entry}
 use Rattle.batch_desk.specs.Kept.{Tells}
 use Rattle.batch_desk.specs.Answers.{FailsToOpen}
-use Rattle.batch_desk.specs.Laws.{KeepsSlots}
+use Rattle.batch_desk.specs.Laws.{KeepsLaws}
 use Rattle.batch_desk.specs.History.{IsLegal, after_all, asked_of, fault_count}
 use Rattle.batch_cli.specs.Shown.{outputs, calls_of, memory_stops, but_last, outputs_before}
 use Rattle.batch_cli.specs.Written.{GainsBetween}
@@ -49,8 +49,9 @@ pub record IsDone (options : Options) (script : List ℕ) (seen : Observed) (sta
   pub begins : BeginsFrom options.seats seen.loaded opened
   pub history : List Entry
   pub legal : IsLegal options.seats opened history
-  -- at no moment of the history a node holds more slots than its pool has, and each task is placed in free slots of its node
-  pub slots : KeepsSlots options.seats opened history
+  -- at each moment of the history no node holds more slots than its pool has, each task is placed in free slots of its node, and
+  -- a job is completed only where it has no placed task and no unended run, and has none while it is completed
+  pub laws : KeepsLaws options.seats opened history
   pub calls : map asked_of history ≡ take options.limit (calls_of (lines script))
   -- no due steps stopped because memory ran out
   pub settled : memory_stops history ≡ 0
@@ -68,8 +69,9 @@ pub record IsBegun (options : Options) (script : List ℕ) (seen : Observed) : T
   pub begins : BeginsFrom options.seats seen.loaded opened
   pub history : List Entry
   pub legal : IsLegal options.seats opened history
-  -- at no moment of the history a node holds more slots than its pool has, and each task is placed in free slots of its node
-  pub slots : KeepsSlots options.seats opened history
+  -- at each moment of the history no node holds more slots than its pool has, each task is placed in free slots of its node, and
+  -- a job is completed only where it has no placed task and no unended run, and has none while it is completed
+  pub laws : KeepsLaws options.seats opened history
   pub within : length history ≤ options.limit
   pub calls : map asked_of history ≡ take (length history) (calls_of (lines script))
   -- no due steps but those of the last call stopped because memory ran out

@@ -7,6 +7,8 @@ mod call;
 mod formula;
 #[cfg(test)]
 mod formula_tests;
+#[cfg(test)]
+mod job_tests;
 mod line;
 mod message;
 mod replay;

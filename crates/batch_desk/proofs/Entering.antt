@@ -16,7 +16,7 @@ use Rattle.batch_desk.specs.declared.entry.Stop.{Stop}
 use Rattle.batch_desk.specs.declared.entry.Stop.TheVariants.{Rest, KeeperFault, Memory}
 use Rattle.batch_desk.specs.declared.answer.Answer.{Answer}
 use Rattle.batch_desk.specs.declared.answer.Answer.TheVariants.{Done, KeeperFault as Undone, JournalFull, Memory as OutOfMemory}
-use Rattle.batch_desk.proofs.LawsHold.{slots_kept}
+use Rattle.batch_desk.proofs.LawsHold.{laws_kept}
 use Rattle.batch_desk.specs.Kept.{Desk, SavedMachine, Tells}
 use Rattle.batch_desk.specs.Calls.{Finishes, Makes, IsFailed, IsFull, IsCalled, IsCalledWithin}
 use Rattle.batch_desk.specs.History.{IsAskable, IsCall, IsLegal, after_call, after_all, faults_of, fault_count, fault_entry, done_entry, due_state, due_list}
@@ -68,7 +68,7 @@ entered {K} {told} {faults} old new e ordered room same pushed call made kept co
     record {
       begun = begun;
       legal = legal;
-      slots = slots_kept new.seats new.opened new.entries begun legal;
+      laws = laws_kept new.seats new.opened new.entries begun legal;
       state = rw (same.seats, same.opened, pushed) after;
       kept = kept;
       counted = omega (
@@ -92,7 +92,7 @@ left : {K : Type 0} {told : K → Option State} {faults : K → ℕ} (old new : 
 left {K} {told} {faults} old new ordered same state entries kept later = record {
   begun = rw (same.seats, same.opened) ordered.begun;
   legal = rw (same.seats, same.opened, entries) ordered.legal;
-  slots = rw (same.seats, same.opened, entries) ordered.slots;
+  laws = rw (same.seats, same.opened, entries) ordered.laws;
   state = rw (same.seats, same.opened, entries) (state ∙ ordered.state);
   kept = kept;
   counted = rw entries (omega (arith, ordered.counted, later));

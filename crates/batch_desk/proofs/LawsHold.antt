@@ -4,16 +4,15 @@ use Rattle.std.specs.Option.{option_map_or}
 use Rattle.bt_rows.specs.declared.refusal.Refusal.{Refusal}
 use Rattle.batch_model.specs.Steps.{DueStep}
 use Rattle.batch_model.specs.Dues.{due_step}
-use Rattle.batch_model.specs.Laws.{HoldsWithinSlots}
 use Rattle.batch_model.specs.Sound.{IsSound}
 use Rattle.batch_model.specs.Variants.{State}
-use Rattle.model_rules.proofs.DueSound.{sound_by_due, within_slots}
+use Rattle.model_rules.proofs.DueSound.{sound_by_due, within_slots, jobs_end_at_rest}
 use Rattle.model_events.proofs.EventSound.{sound_by_event}
 use Rattle.batch_desk.specs.declared.entry.Entry.{Entry}
 use Rattle.batch_desk.specs.declared.entry.Mark.{Mark}
 use Rattle.batch_desk.specs.declared.entry.Mark.TheVariants.{Done, KeeperFault as NotKept}
 use Rattle.batch_desk.specs.History.{due_state, after_event, after_call, after_all, IsCall, IsLegal}
-use Rattle.batch_desk.specs.Laws.{IsReached, at_opening, in_call, KeepsSlots}
+use Rattle.batch_desk.specs.Laws.{IsReached, at_opening, in_call, HoldsLaws, KeepsLaws}
 
 -- due steps keep tables sound
 
@@ -47,16 +46,19 @@ module _ (seats : ℕ) where
   before_call s [] e rest h l = record { sound = h; call = l.0 }
   before_call s (first ∷ before) e rest h l = before_call (after_call seats s first) before e rest (by_mark s first first.mark refl h l.0) l.1
 
--- slots
+-- laws
+
+laws_of_sound : (seats : ℕ) (s : State) → IsSound seats s → HoldsLaws seats s
+laws_of_sound seats s h = record { slots = within_slots seats s h; ends = jobs_end_at_rest seats s h }
 
 -- at each moment of a legal history from sound tables
-reached_within : (seats : ℕ) (opened : State) (entries : List Entry) (s : State) → IsSound seats opened → IsLegal seats opened entries →
-    IsReached seats opened entries s → HoldsWithinSlots seats s
-reached_within seats opened entries s h l at_opening = within_slots seats opened h
-reached_within seats opened entries s h l (in_call before e rest refusal n is made few) =
+laws_reached : (seats : ℕ) (opened : State) (entries : List Entry) (s : State) → IsSound seats opened → IsLegal seats opened entries →
+    IsReached seats opened entries s → HoldsLaws seats s
+laws_reached seats opened entries s h l at_opening = laws_of_sound seats opened h
+laws_reached seats opened entries s h l (in_call before e rest refusal n is made few) =
     let at = before_call seats opened before e rest h (subst (IsLegal seats opened) is l) in
-    within_slots seats (due_state seats n (after_event (after_all seats opened before) e))
+    laws_of_sound seats (due_state seats n (after_event (after_all seats opened before) e))
     (sound_after_dues seats n (after_event (after_all seats opened before) e) (sound_after_event seats (after_all seats opened before) e at.sound at.call))
 
-pub slots_kept : (seats : ℕ) (opened : State) (entries : List Entry) → IsSound seats opened → IsLegal seats opened entries → KeepsSlots seats opened entries
-slots_kept seats opened entries h l s reached = reached_within seats opened entries s h l reached
+pub laws_kept : (seats : ℕ) (opened : State) (entries : List Entry) → IsSound seats opened → IsLegal seats opened entries → KeepsLaws seats opened entries
+laws_kept seats opened entries h l s reached = laws_reached seats opened entries s h l reached

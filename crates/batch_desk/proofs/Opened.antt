@@ -6,7 +6,7 @@ use Rattle.batch_desk.specs.declared.entry.Entry.{Entry}
 use Rattle.batch_desk.specs.Answers.{IsInOrder}
 use Rattle.batch_desk.specs.History.{IsLegal}
 use Rattle.batch_desk.specs.Kept.{SavedMachine, Tells}
-use Rattle.batch_desk.proofs.LawsHold.{slots_kept}
+use Rattle.batch_desk.proofs.LawsHold.{laws_kept}
 
 -- without entries, over sound tables that its keeper tells
 pub in_order_opened : {K : Type 0} (told : K → Option State) (faults : K → ℕ) (saved : SavedMachine K) (start : State) (count most : ℕ)
@@ -26,7 +26,7 @@ in_order_opened told faults saved start count most journal seats_are state_is no
     record {
       begun = begun;
       legal = legal;
-      slots = slots_kept saved.seats start journal begun legal;
+      laws = laws_kept saved.seats start journal begun legal;
       state = rw none state_is;
       kept = rw state_is kept;
       counted = rw none (omega arith);

@@ -13,7 +13,7 @@ use Rattle.batch_desk.specs.declared.entry.Stop.TheVariants.{KeeperFault as Faul
 use Rattle.batch_desk.specs.declared.answer.Answer.{Answer}
 use Rattle.batch_desk.specs.declared.answer.Answer.TheVariants.{Done, KeeperFault, JournalFull, Memory}
 use Rattle.batch_desk.specs.Kept.{Desk, Tells}
-use Rattle.batch_desk.specs.Laws.{KeepsSlots}
+use Rattle.batch_desk.specs.Laws.{KeepsLaws}
 use Rattle.batch_desk.specs.History.{IsLegal, after_all, after_call, fault_count, reply_to, dues_of, fault_entry, done_entry}
 
 -- what a call that stands in the journal was answered, from the tables before it
@@ -50,8 +50,8 @@ AnswersCall faults old new moment event (Done reply dues stop) =
 pub record IsInOrder {K : Type 0} (told : K → Option State) (faults : K → ℕ) (d : Desk K) : Type 0 where
   pub begun : IsSound d.seats d.opened
   pub legal : IsLegal d.seats d.opened d.entries
-  -- at no moment a node holds more slots than its pool has
-  pub slots : KeepsSlots d.seats d.opened d.entries
+  -- at each moment no node holds more slots than its pool has, and a completed job is at rest
+  pub laws : KeepsLaws d.seats d.opened d.entries
   pub state : d.state ≡ after_all d.seats d.opened d.entries
   pub kept : Tells (told d.keeper) d.state
   -- each keeper fault in the journal was counted

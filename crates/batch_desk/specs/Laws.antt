@@ -1,7 +1,7 @@
 -- Laws that hold at every moment of a legal history.
 use Rattle.std.specs.Prelude.{◌≡◌, ◌≤◌, ℕ, List, ◌∷◌, ◌++◌, Option}
 use Rattle.bt_rows.specs.declared.refusal.Refusal.{Refusal}
-use Rattle.batch_model.specs.Laws.{HoldsWithinSlots}
+use Rattle.batch_model.specs.Laws.{HoldsWithinSlots, JobsEndAtRest}
 use Rattle.batch_model.specs.Variants.{State}
 use Rattle.batch_desk.specs.declared.entry.Entry.{Entry}
 use Rattle.batch_desk.specs.declared.entry.Mark.TheVariants.{Done}
@@ -14,7 +14,13 @@ pub data IsReached (seats : ℕ) (opened : State) (entries : List Entry) : State
   in_call : (before : List Entry) (e : Entry) (rest : List Entry) (refusal : Option Refusal) (n : ℕ) → entries ≡ before ++ e ∷ rest → e.mark ≡ Done refusal →
       n ≤ e.dues → IsReached seats opened entries (due_state seats n (after_event (after_all seats opened before) e))
 
--- at no moment a node holds more slots than its pool has, and each due step that places a task takes the slots that it
--- requires from those that are free on a usable node of its job's pool
-abbrev pub KeepsSlots : ℕ → State → List Entry → Type 0
-KeepsSlots seats opened entries = (s : State) → IsReached seats opened entries s → HoldsWithinSlots seats s
+-- What holds of the tables at each moment: no node holds more slots than its pool has, and the next due step that places a task
+-- takes the slots that it requires from those that are free on a usable node of its job's pool; a completed job has no placed
+-- task and no unended run, and the next due step that ends a job ends one without both.
+pub record HoldsLaws (seats : ℕ) (s : State) : Type 0 where
+  pub slots : HoldsWithinSlots seats s
+  pub ends : JobsEndAtRest seats s
+
+-- the laws hold at every moment of the history
+abbrev pub KeepsLaws : ℕ → State → List Entry → Type 0
+KeepsLaws seats opened entries = (s : State) → IsReached seats opened entries s → HoldsLaws seats s

@@ -5,7 +5,7 @@ ghost use Rattle.batch_model.specs.Opening.{opening};
 ghost use Rattle.batch_model.specs.Sound.{IsSound};
 ghost use Rattle.batch_keeper.specs.Told.{FailsWithCause};
 ghost use Rattle.batch_desk.specs.Kept.{Tells};
-ghost use Rattle.batch_desk.specs.Laws.{KeepsSlots};
+ghost use Rattle.batch_desk.specs.Laws.{KeepsLaws};
 ghost use Rattle.batch_desk.specs.History.{IsLegal, after_all, fault_count, faults_of};
 ghost use Rattle.batch_desk.specs.Answers.{AnswersCall, IsInOrder, HasSameOpening, FailsToOpen, Begins};
 
@@ -186,7 +186,8 @@ impl<K: Keeper + Drop> Desk<K> {
     }
 
     /// Returns the keeper and the journal. The journal is a legal history, the keeper tells the tables after it, and
-    /// counted each keeper fault in it. At no moment of it a node holds more slots than its pool has.
+    /// counted each keeper fault in it. At each moment of it the laws hold: no node holds more slots than its pool has, and a
+    /// completed job has no placed task and no unended run.
     pub fn close(self) -> (K, Journal)
         ensures keeper { result.0 ≡ self.keeper }
         ensures opened { result.1.opened.state ≡ self.opened }
@@ -194,7 +195,7 @@ impl<K: Keeper + Drop> Desk<K> {
         ensures limit { result.1.limit ≡ self.limit }
         ensures entries { result.1.entries ≡ self.entries }
         ensures legal { IsLegal result.1.seats result.1.opened.state result.1.entries }
-        ensures slots { KeepsSlots result.1.seats result.1.opened.state result.1.entries }
+        ensures laws { KeepsLaws result.1.seats result.1.opened.state result.1.entries }
         ensures kept { Tells (K.told result.0) (after_all result.1.seats result.1.opened.state result.1.entries) }
         ensures counted { fault_count result.1.entries ≤ K.faults result.0 }
     {
@@ -215,12 +216,13 @@ impl<K: Keeper + Drop> Desk<K> {
     }
 
     /// Makes a call: the event, and then due steps until no rule applies or until one can't be made. Each is saved before
-    /// it is made. A full journal takes no call. At no moment of the history a node holds more slots than its pool has.
+    /// it is made. A full journal takes no call. At each moment of the history the laws hold: no node holds more slots than its
+    /// pool has, and a completed job has no placed task and no unended run.
     pub fn call(&mut self, alloc: Global, moment: Moment, event: Event) -> Answer
         ensures answers { AnswersCall K.faults self.old self.new moment event result }
         ensures same { HasSameOpening self.old self.new }
         ensures in_order { IsInOrder K.told K.faults self.new }
-        ensures slots { KeepsSlots self.new.seats self.new.opened self.new.entries }
+        ensures laws { KeepsLaws self.new.seats self.new.opened self.new.entries }
         ensures later { K.faults self.old.keeper ≤ K.faults self.new.keeper }
     {
         know_ranges(moment, &event);

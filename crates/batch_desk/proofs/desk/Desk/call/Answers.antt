@@ -13,8 +13,8 @@ returns-clause-in_order g c =
     c.call_within.result c.know_ranges.ensures c.self.invariant c.call_within.ensures.seats c.call_within.ensures.kept c.call_within.ensures.later
     c.call_within.ensures.called
 
-pub returns-clause-slots : goal.returns-clause-slots
-returns-clause-slots g c =
+pub returns-clause-laws : goal.returns-clause-laws
+returns-clause-laws g c =
     (in_order_within g.K.Keeper.told g.K.Keeper.faults _ c.call_within.new.saved c.call_within.new.entries.items c.args.moment c.args.event
     c.call_within.result c.know_ranges.ensures c.self.invariant c.call_within.ensures.seats c.call_within.ensures.kept c.call_within.ensures.later
-    c.call_within.ensures.called).slots
+    c.call_within.ensures.called).laws

@@ -1,10 +1,10 @@
 use Rattle.std.proofs.Common.{ℕ, List, sym, subst}
 use Rattle.batch_desk.specs.declared.entry.Entry.{Entry}
-use Rattle.batch_desk.specs.Laws.{KeepsSlots}
+use Rattle.batch_desk.specs.Laws.{KeepsLaws}
 use Rattle.batch_desk.proofs.desk.Desk.close.Goals as goal
 
-pub returns-clause-slots : goal.returns-clause-slots
-returns-clause-slots g c =
+pub returns-clause-laws : goal.returns-clause-laws
+returns-clause-laws g c =
     let desk = c.self.inside in
-    subst (λ (seats : ℕ). KeepsSlots seats desk.opened.state c.of_vec.result) (sym c.seats-seats.ensures)
-    (subst (λ (entries : List Entry). KeepsSlots desk.saved.seats desk.opened.state entries) (sym c.of_vec.ensures) c.self.invariant.slots)
+    subst (λ (seats : ℕ). KeepsLaws seats desk.opened.state c.of_vec.result) (sym c.seats-seats.ensures)
+    (subst (λ (entries : List Entry). KeepsLaws desk.saved.seats desk.opened.state entries) (sym c.of_vec.ensures) c.self.invariant.laws)
