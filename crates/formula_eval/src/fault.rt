@@ -10,7 +10,9 @@ use formula_values::ValueFault;
 /// of the function, method or metric, or of the name that is set.
 #[derive(Clone, Copy, Debug, PartialEq, Eq)]
 pub struct EvalFault {
+    /// What is wrong.
     pub fault: ValueFault,
+    /// Where, in bytes from the beginning of the text.
     pub place: usize,
 }
 

@@ -13,14 +13,18 @@ use std::marker::Model;
 /// The number of nodes that a pool is to have: dedicated ones, from 0 to 1,000, and low-priority ones, always 0.
 #[derive(Clone, Copy, Debug, PartialEq, Eq)]
 pub struct Targets {
+    /// Dedicated nodes, 0 to 1,000 (Azure: $TargetDedicatedNodes).
     pub dedicated: u32,
+    /// Nodes of low priority, 0 (Azure: $TargetLowPriorityNodes).
     pub low: u32,
 }
 
 /// A variable of the formula's own, and its value.
 #[derive(Debug, Drop)]
 pub struct Variable {
+    /// The name, as the formula writes it.
     pub name: Text,
+    /// The last value that was set.
     pub value: Value,
 }
 
@@ -49,8 +53,11 @@ impl Model for Variables {
 /// What a formula has set: the targets, the node deallocation option, and its own variables.
 #[derive(Debug, Drop)]
 pub struct Outcome {
+    /// How many nodes the pool is to have.
     pub targets: Targets,
+    /// What becomes of the tasks of nodes that go (Azure: $NodeDeallocationOption).
     pub option: Dealloc,
+    /// The formula's own variables, in the order of their first settings.
     pub variables: Variables,
 }
 
