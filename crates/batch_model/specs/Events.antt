@@ -18,18 +18,19 @@ use Rattle.bt_rows.specs.declared.reply.Element.{Element}
 use Rattle.bt_rows.specs.declared.reply.Element.TheVariants.{Added, NotAdded}
 use Rattle.bt_rows.specs.declared.reply.Reply.TheVariants.{Status, Refused, Elements}
 use Rattle.batch_model.specs.Finding.{first_of, at_row, names}
-use Rattle.batch_model.specs.Rows.{is_run, pool_of, job_of, task_of, run_of, add_pool_row, add_job_row, add_task_row, put_job, change_tasks, change_runs}
-use Rattle.batch_model.specs.Runs.{is_waiting, is_taken, is_ended, is_withdrawn}
+use Rattle.batch_model.specs.Rows.{is_run, pool_of, job_of, task_of, run_of, add_pool_row, add_job_row, add_task_row, put_job, change_tasks, change_runs, change_preps}
+use Rattle.batch_model.specs.Runs.{is_waiting, is_taken, is_ended, is_withdrawn, is_work, is_at_prep}
 use Rattle.batch_model.specs.Tasks.{new_task}
 use Rattle.batch_model.specs.Jobs.{is_past, is_disabled, is_job_deleting, can_disable, job_in, new_job}
 use Rattle.batch_model.specs.Stops.{disable, close, terminate}
 use Rattle.batch_model.specs.Pools.{new_pool}
 use Rattle.batch_model.specs.Starts.{start_ended}
+use Rattle.batch_model.specs.Preparing.{preparation_ended, release_ended}
 use Rattle.batch_model.specs.Limits.{pool_limit, job_limit, task_limit, collection_limit, needs_limit}
 use Rattle.batch_model.specs.WellFormed.{needs_length}
 use Rattle.batch_model.specs.NotBuilt.{not_built}
 use Rattle.batch_model.specs.Steps.{Answered, refuse_if}
-use Rattle.batch_model.specs.Variants.{State, PoolRow, JobRow, Enabling, Deleting, TaskRow, Ending, RunRow, RunKind, StartRun, PrepRun, TaskRun, CoordinationRun, ReleaseRun, Taken}
+use Rattle.batch_model.specs.Variants.{State, PoolRow, JobRow, Enabling, Deleting, TaskRow, Ending, RunRow, RunKind, StartRun, PrepRun, TaskRun, CoordinationRun, ReleaseRun, Taken, PrepRow}
 use Rattle.batch_model.specs.Variants.{Ended}
 
 -- answers
@@ -218,11 +219,20 @@ started_task now task = record task { started = Some (unwrap_or task.started now
 abbrev pub is_task_of_run : RunRow → TaskRow → Bool
 is_task_of_run run task = names run.job task.job && names run.task task.id
 
--- the run is taken, and its task has started
+-- a task of the preparation's job was started on its node
+abbrev pub served : PrepRow → PrepRow
+served prep = record prep { ran = true }
+
+-- the run is a task's, and its job's preparation on its node is this one
+abbrev pub is_prep_of_work : RunRow → PrepRow → Bool
+is_prep_of_work run prep = is_work run.kind && is_at_prep prep run
+
+-- the run is taken, its task has started, and the preparation of its job on its node has served
 abbrev pub run_taken : State → RunRow → State
 run_taken s run =
-    change_tasks (is_task_of_run run) (started_task s.moment)
-    (change_runs (is_run run.number) (taken_run s.moment) s)
+    change_preps (is_prep_of_work run) served
+    (change_tasks (is_task_of_run run) (started_task s.moment)
+    (change_runs (is_run run.number) (taken_run s.moment) s))
 
 -- why a run is not taken, in order
 abbrev pub take_refusals : RunRow → List (Option Refusal)
@@ -241,13 +251,14 @@ take_run s run = answer s (take_refusals run) 200 (run_taken s run)
 abbrev pub ended_run : ℕ → Ending → RunRow → RunRow
 ended_run now ending run = record run { state = Ended ending; ended = Some now }
 
--- what else the ending of a run of this kind does: a start run's changes its node, and a task is settled by a due step
+-- what else the ending of a run of this kind does: that of a start run changes its node, that of a preparation or release run
+-- its preparation, and a task is settled by a due step
 abbrev pub ended_by : RunKind → RunRow → Ending → State → State
 ended_by StartRun run ending s = start_ended run ending s
-ended_by PrepRun run ending s = s
+ended_by PrepRun run ending s = preparation_ended run ending s
 ended_by TaskRun run ending s = s
 ended_by CoordinationRun run ending s = s
-ended_by ReleaseRun run ending s = s
+ended_by ReleaseRun run ending s = release_ended run s
 
 -- the run has ended, and then its kind decides
 abbrev pub run_ended : State → Ending → RunRow → State

@@ -1,18 +1,20 @@
 -- The due rules of jobs. Each takes its first job in list order.
 use Rattle.std.specs.Prelude.{ℕ, Bool, not, ◌&&◌, ◌||◌, List, codes, filter, find, Option, if◌then◌else◌}
-use Rattle.std.specs.Option.{option_map}
+use Rattle.std.specs.Option.{option_map, option_and_then}
 use Rattle.std.specs.List.{list_any, list_all}
 use Rattle.bt_base.specs.Ids.{same}
-use Rattle.bt_rows.specs.declared.due.Due.TheVariants.{JobEnabled, TasksDone, JobDisabled, JobEnded}
+use Rattle.bt_rows.specs.declared.due.Due.TheVariants.{JobEnabled, TasksDone, JobDisabled, ReleaseMade, JobEnded}
 use Rattle.bt_rows.specs.declared.due.JobEnd.TheVariants.{Kept, Removed}
-use Rattle.batch_model.specs.Finding.{names}
-use Rattle.batch_model.specs.Rows.{is_job, put_job}
-use Rattle.batch_model.specs.Runs.{is_unended}
+use Rattle.batch_model.specs.Finding.{find_map, only_if, names, has_number_left}
+use Rattle.batch_model.specs.Rows.{is_job, job_of, node_of, put_job, add_run_row}
+use Rattle.batch_model.specs.Runs.{is_unended, prepares, job_run}
 use Rattle.batch_model.specs.Tasks.{is_completed, is_in_job, has_placed_task}
 use Rattle.batch_model.specs.Jobs.{is_job_active, is_disabling, is_enabling, is_closing, is_job_deleting, job_in}
+use Rattle.batch_model.specs.Preps.{is_prepared, is_unreleased, change_prep}
 use Rattle.batch_model.specs.Stops.{terminate}
 use Rattle.batch_model.specs.Steps.{DueStep}
-use Rattle.batch_model.specs.Variants.{State, JobRow, JobActive, Disabled, JobCompleted, TaskRow, RunRow}
+use Rattle.batch_model.specs.Variants.{State, NodeRow, JobRow, JobActive, Disabled, JobCompleted, ReleaseTask, TaskRow, RunRow, ReleaseRun, PrepRow}
+use Rattle.batch_model.specs.Variants.{ReleaseRunning}
 
 -- U6: an enabling job is active
 
@@ -67,6 +69,45 @@ job_disabled s job = record { due = JobDisabled job.id; state = put_job (job_in 
 -- the first such job
 abbrev pub disable_first : State → Option DueStep
 disable_first s = option_map (job_disabled s) (find (is_to_disable s) s.jobs)
+
+-- U9: a terminating or deleting job runs its release task on each node on which it was prepared and a task of it was started
+
+-- the preparation is completed, it has served a task, and no release run was made
+abbrev pub wants_release : PrepRow → Bool
+wants_release prep = is_prepared prep.state && prep.ran && is_unreleased prep.release
+
+-- an unended preparation run of the job
+abbrev pub is_being_prepared : State → List ℕ → Bool
+is_being_prepared s job = list_any (prepares job) s.runs
+
+-- terminating or deleting, without placed tasks and unended preparation runs
+abbrev pub is_releasing : State → JobRow → Bool
+is_releasing s job = is_closing job.state && not (has_placed_task s job.id) && not (is_being_prepared s job.id)
+
+-- the preparation whose release run was made
+abbrev pub releasing : PrepRow → PrepRow
+releasing prep = record prep { release = ReleaseRunning }
+
+-- a release run is queued on the node; the line names the job, the node and the run
+abbrev pub release_made : State → PrepRow → NodeRow → JobRow → ReleaseTask → DueStep
+release_made s prep node job release = record {
+  due = ReleaseMade job.id node.number s.next_run;
+  state = add_run_row (job_run s node.number node.pool ReleaseRun release.line job.id) (change_prep prep releasing s);
+}
+
+-- for a job that is releasing and has a release task
+abbrev pub release_for : State → PrepRow → NodeRow → JobRow → Option DueStep
+release_for s prep node job = only_if (is_releasing s job) (option_map (release_made s prep node job) job.release)
+
+-- for the preparation's job, on its node
+abbrev pub release_on : State → PrepRow → Option DueStep
+release_on s prep =
+    only_if (wants_release prep)
+    (option_and_then (λ node. option_and_then (release_for s prep node) (job_of s prep.job)) (node_of s prep.node))
+
+-- the first such preparation among those of all jobs, while run numbers last
+abbrev pub release_first : State → Option DueStep
+release_first s = only_if (has_number_left s.next_run) (find_map (release_on s) s.preps)
 
 -- U10: a terminating or deleting job without placed tasks and unended runs is completed, or removed
 

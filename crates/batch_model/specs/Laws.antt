@@ -1,8 +1,12 @@
 -- Laws: what holds at every moment of a history.
-use Rattle.std.specs.Prelude.{◌≡◌, ℕ, ◌+◌, ◌-◌, ◌≤◌, true, false, ◌||◌, List, Some}
+use Rattle.std.specs.Prelude.{◌≡◌, ℕ, ◌+◌, ◌-◌, ◌≤◌, Bool, true, false, ◌&&◌, ◌||◌, nat_eq, List, Some}
+use Rattle.std.specs.List.{list_any}
 use Rattle.bt_rows.specs.declared.due.Due.{Due}
-use Rattle.bt_rows.specs.declared.due.Due.TheVariants.{TaskPlaced, JobEnded}
-use Rattle.batch_model.specs.Rows.{pool_of, node_of, job_of, task_of}
+use Rattle.bt_rows.specs.declared.due.Due.TheVariants.{TaskPlaced, ReleaseMade, JobEnded}
+use Rattle.batch_model.specs.Finding.{names}
+use Rattle.batch_model.specs.Rows.{pool_of, node_of, job_of, task_of, prep_of}
+use Rattle.batch_model.specs.Runs.{is_release}
+use Rattle.batch_model.specs.Preps.{is_prepared}
 use Rattle.batch_model.specs.Tasks.{has_placed_task}
 use Rattle.batch_model.specs.Nodes.{is_in_pool, is_usable}
 use Rattle.batch_model.specs.Slots.{held_slots}
@@ -11,7 +15,7 @@ use Rattle.batch_model.specs.Dues.{due_step}
 use Rattle.batch_model.specs.WellFormed.{QuietJobsPlaceNothing}
 use Rattle.batch_model.specs.Sound.{SlotsSuffice, CompletedJobsRest}
 use Rattle.batch_model.specs.Steps.{DueStep}
-use Rattle.batch_model.specs.Variants.{State, PoolRow, NodeRow, JobRow, TaskRow}
+use Rattle.batch_model.specs.Variants.{State, PoolRow, NodeRow, JobRow, TaskRow, RunRow, PrepRow}
 
 -- the slots of the node that are free: those of its pool but for the held ones
 abbrev pub free_slots : State → PoolRow → NodeRow → ℕ
@@ -53,3 +57,23 @@ pub record JobsEndAtRest (seats : ℕ) (s : State) : Type 0 where
   pub placing : QuietJobsPlaceNothing s
   pub resting : CompletedJobsRest s
   pub ending : (step : DueStep) → due_step seats s ≡ Some step → EndsAtRest s step.due
+
+-- a release run of the job on the node
+abbrev pub is_release_of : List ℕ → ℕ → RunRow → Bool
+is_release_of job node run = is_release run.kind && names run.job job && nat_eq run.node node
+
+-- the job's preparation is completed on the node, and no release run of the job was made there; runs of a job go with its row
+pub record ReleasesFirst (before : State) (job : List ℕ) (node : ℕ) : Type 0 where
+  pub prep : PrepRow
+  pub there : prep_of before job node ≡ Some prep
+  pub completed : is_prepared prep.state ≡ true
+  pub first : list_any (is_release_of job node) before.runs ≡ false
+
+-- a due step with this line leads from these tables: if it makes a release run, then so
+abbrev pub ReleasesOnce : State → Due → Type 0
+ReleasesOnce before (ReleaseMade job node run) = ReleasesFirst before job node
+ReleasesOnce before _ = Unit {0}
+
+-- the next due step makes a release run only after a completed preparation, and only the first one of the job on the node
+pub record JobsReleaseOnce (seats : ℕ) (s : State) : Type 0 where
+  pub making : (step : DueStep) → due_step seats s ≡ Some step → ReleasesOnce s step.due

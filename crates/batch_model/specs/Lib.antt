@@ -12,6 +12,8 @@ pub mod NotBuilt
 pub mod Opening
 pub mod Placing
 pub mod Pools
+pub mod Preparing
+pub mod Preps
 pub mod Rows
 pub mod Runs
 pub mod Samples

@@ -1,6 +1,8 @@
 -- The numbers that due steps lower, compared from the first one on.
 use Rattle.std.specs.Prelude.{ℕ, ◌+◌, ◌-◌, Bool, true, false, not, ◌&&◌, List, [], ◌∷◌, count_by, sum_by, is_some, is_none, if◌then◌else◌}
 use Rattle.batch_model.specs.Tasks.{is_active, is_placed, is_completed, is_busy}
+use Rattle.batch_model.specs.JobRules.{wants_release}
+use Rattle.batch_model.specs.WallTimes.{can_be_asked}
 use Rattle.batch_model.specs.Pools.{is_steady, staying_count}
 use Rattle.batch_model.specs.Variants.{State, PoolRow, JobRow, JobState, JobActive, Disabling, Disabled, Enabling, Terminating, JobCompleted, Deleting, TaskRow}
 
@@ -36,8 +38,16 @@ abbrev pub can_time_out : TaskRow → Bool
 can_time_out task = is_placed task.stage && is_some task.started && is_none task.wanted
 
 -- tasks that are not completed, and tasks that can be stopped yet
+abbrev pub tasks_to_end : State → ℕ
+tasks_to_end s = count_by (λ (task : TaskRow). not (is_completed task.stage)) s.tasks + count_by can_time_out s.tasks
+
+-- release runs to be made, and release runs that can be asked to stop yet
+abbrev pub releases_left : State → ℕ
+releases_left s = count_by wants_release s.preps + count_by can_be_asked s.runs
+
+-- all of these
 abbrev pub ends_left : State → ℕ
-ends_left s = count_by (λ (task : TaskRow). not (is_completed task.stage)) s.tasks + count_by can_time_out s.tasks
+ends_left s = tasks_to_end s + releases_left s
 
 -- a task to place counts one, and one to settle two
 abbrev pub steps_of_task : State → TaskRow → ℕ

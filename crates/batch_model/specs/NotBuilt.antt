@@ -1,9 +1,9 @@
 -- What stands only until the rest of the profile is built: each definition says what takes its place.
-use Rattle.std.specs.Prelude.{◌≡◌, not, ◌||◌, []}
+use Rattle.std.specs.Prelude.{not, ◌&&◌}
 use Rattle.bt_rows.specs.declared.refusal.Refusal.{Refusal}
 use Rattle.bt_rows.specs.declared.refusal.Refusal.TheVariants.{UnreadableBody}
 use Rattle.batch_model.specs.Finding.{Each}
-use Rattle.batch_model.specs.Runs.{is_unended, is_start, is_main}
+use Rattle.batch_model.specs.Runs.{is_unended, is_coordination}
 use Rattle.batch_model.specs.Nodes.{is_leaving}
 use Rattle.batch_model.specs.Variants.{State}
 
@@ -12,14 +12,8 @@ use Rattle.batch_model.specs.Variants.{State}
 abbrev pub not_built : Refusal
 not_built = UnreadableBody
 
--- unended runs are start runs and main runs of tasks, and no node leaves. The rows of preparation, coordination and release
--- runs come with preparation tasks and with tasks of several instances, and leaving nodes with resizes and deletions; the
--- lemmas that use this then say what these rows keep. With preparation tasks a job that is terminated halts its unended
--- preparation runs, and sound tables say that completed jobs rest, which follows from this until then.
+-- no coordination run is unended, and no node leaves. The rows of coordination runs come with tasks of several instances, and
+-- leaving nodes with resizes and deletions; the lemmas that use this then say what these rows keep.
 pub record OnlyBuiltRows (s : State) : Type 0 where
-  pub runs : Each (λ run. is_start run.kind || is_main run.kind || not (is_unended run.state)) s.runs
+  pub runs : Each (λ run. not (is_coordination run.kind && is_unended run.state)) s.runs
   pub nodes : Each (λ node. not (is_leaving node.stage)) s.nodes
-
--- nothing is prepared. With preparation tasks this becomes the part of well-formed tables that speaks of preparations.
-pub record NothingIsPrepared (s : State) : Type 0 where
-  pub preps : s.preps ≡ []

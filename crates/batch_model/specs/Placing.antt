@@ -1,17 +1,18 @@
--- Placing of tasks, as far as it is built: tasks without dependencies and instances, in jobs without preparation.
-use Rattle.std.specs.Prelude.{◌+◌, ℕ, Bool, true, false, not, ◌&&◌, List, [], ◌∷◌, filter, int_lt, Option, is_none, is_some}
+-- Placing of tasks, as far as it is built: tasks without dependencies and instances.
+use Rattle.std.specs.Prelude.{◌+◌, ℕ, Bool, true, false, not, ◌&&◌, List, [], ◌∷◌, filter, int_lt, Option, Some, None, is_none, is_some, if◌then◌else◌}
 use Rattle.std.specs.Option.{option_map, option_and_then}
 use Rattle.bt_rows.specs.declared.due.Due.TheVariants.{TaskPlaced}
 use Rattle.bt_rows.specs.Choice.{best, prefers}
 use Rattle.batch_model.specs.Finding.{find_map, only_if, is_below, has_number_left}
-use Rattle.batch_model.specs.Rows.{pool_of, put_task, add_run_row}
-use Rattle.batch_model.specs.Runs.{work_run}
+use Rattle.batch_model.specs.Rows.{pool_of, put_task, add_run_row, add_prep_row}
+use Rattle.batch_model.specs.Runs.{job_run, work_run}
 use Rattle.batch_model.specs.Tasks.{is_active, is_in_job, placed_count}
 use Rattle.batch_model.specs.Jobs.{is_job_active}
+use Rattle.batch_model.specs.Preps.{new_prep, waits_for_preparation, has_preparation, has_failed_preparation, is_prepared_on}
 use Rattle.batch_model.specs.Nodes.{is_in_pool, is_usable}
 use Rattle.batch_model.specs.Slots.{held_slots, has_free}
 use Rattle.batch_model.specs.Steps.{DueStep}
-use Rattle.batch_model.specs.Variants.{State, PoolRow, Fill, NodeRow, JobRow, TaskRow, Placed, TaskRun, Queued}
+use Rattle.batch_model.specs.Variants.{State, PoolRow, Fill, NodeRow, JobRow, StartTask, TaskRow, Placed, PrepRun, TaskRun, RunState, Waiting, Queued}
 
 -- no items
 abbrev pub is_empty : {A : Type 0} → List A → Bool
@@ -24,7 +25,7 @@ has_turn s job = is_below (placed_count s job.id) job.parallel
 
 -- an active job that may have one more placed task
 abbrev pub places_tasks : State → JobRow → Bool
-places_tasks s job = is_job_active job.state && has_turn s job && is_none job.prep
+places_tasks s job = is_job_active job.state && has_turn s job
 
 -- a ready task: active, and depending on nothing
 abbrev pub is_ready : TaskRow → Bool
@@ -34,36 +35,64 @@ is_ready task = is_active task.stage && is_empty task.needs && is_empty task.spa
 abbrev pub is_placeable : JobRow → TaskRow → Bool
 is_placeable job task = is_in_job job.id task && is_ready task
 
--- a usable node of the pool with the needed slots free
-abbrev pub fits : State → PoolRow → ℕ → NodeRow → Bool
-fits s pool need node = is_usable node.stage && is_in_pool pool.id node && has_free s pool need node
+-- a preparation of the job that is waited for has failed on the node
+abbrev pub is_unprepared : State → JobRow → ℕ → Bool
+is_unprepared s job node = waits_for_preparation job && has_failed_preparation s job.id node
+
+-- a usable node of the pool with the needed slots free, on which no preparation of the job that is waited for has failed
+abbrev pub fits : State → JobRow → PoolRow → ℕ → NodeRow → Bool
+fits s job pool need node =
+    is_usable node.stage && is_in_pool pool.id node && has_free s pool need node && not (is_unprepared s job node.number)
 
 -- the fill type prefers the node to the other, by the slots that are held on them and by their numbers
 abbrev pub precedes : State → Fill → NodeRow → NodeRow → Bool
 precedes s fill node other = prefers fill (held_slots s node.number) node.number (held_slots s other.number) other.number
 
--- the node of the pool on which the needed slots are to be held
-abbrev pub choice : State → PoolRow → ℕ → Option NodeRow
-choice s pool need = best (precedes s pool.fill) (filter (fits s pool need) s.nodes)
+-- the node of the job's pool on which the needed slots are to be held
+abbrev pub choice : State → JobRow → PoolRow → ℕ → Option NodeRow
+choice s job pool need = best (precedes s pool.fill) (filter (fits s job pool need) s.nodes)
 
 -- placed, in a new attempt
 abbrev pub placed : TaskRow → TaskRow
 placed task = record task { stage = Placed; attempt = task.attempt + 1 }
 
--- the task's run on the node is queued
-abbrev pub placed_run : State → NodeRow → TaskRow → State
-placed_run s node task = add_run_row (work_run s node task TaskRun task.line task.slots Queued) s
+-- the job's preparation begins on the node: its run is queued
+abbrev pub begin_preparation : JobRow → NodeRow → StartTask → State → State
+begin_preparation job node preparation s =
+    add_run_row (job_run s node.number node.pool PrepRun preparation.line job.id) (add_prep_row (new_prep job.id node.number) s)
 
--- the line names the node and the run
-abbrev pub place : State → TaskRow → NodeRow → DueStep
-place s task node = record {
-  due = TaskPlaced task.job task.id node.number s.next_run;
-  state = placed_run (put_task (placed task) s) node (placed task);
+-- unless the job has no preparation, or it has begun there
+abbrev pub prepare_with : Option StartTask → JobRow → NodeRow → State → State
+prepare_with None job node s = s
+prepare_with (Some preparation) job node s =
+    if has_preparation s job.id node.number then s else begin_preparation job node preparation s
+
+-- the job's preparation on the node comes before the task's run
+abbrev pub prepare : JobRow → NodeRow → State → State
+prepare job node s = prepare_with job.prep job node s
+
+-- a run waits for a preparation that is waited for and not completed
+abbrev pub first_state : State → JobRow → NodeRow → RunState
+first_state s job node = if is_prepared_on s job node.number then Queued else Waiting
+
+-- the task's run on the node
+abbrev pub placed_run : State → JobRow → NodeRow → TaskRow → State
+placed_run s job node task = add_run_row (work_run s node task TaskRun task.line task.slots (first_state s job node)) s
+
+-- the node is prepared for the task, and then the task's run is made
+abbrev pub place_on : JobRow → NodeRow → TaskRow → State → State
+place_on job node task s = placed_run (prepare job node s) job node task
+
+-- the line names the node and the task's run, whose number comes after that of a preparation that begins there
+abbrev pub place : State → JobRow → TaskRow → NodeRow → DueStep
+place s job task node = record {
+  due = TaskPlaced task.job task.id node.number (prepare job node s).next_run;
+  state = place_on job node (placed task) (put_task (placed task) s);
 }
 
 -- a ready task of the job, on the node that is chosen for its slots
 abbrev pub place_task : State → JobRow → PoolRow → TaskRow → Option DueStep
-place_task s job pool task = only_if (is_placeable job task) (option_map (place s task) (choice s pool task.slots))
+place_task s job pool task = only_if (is_placeable job task) (option_map (place s job task) (choice s job pool task.slots))
 
 -- the first task of the job that fits
 abbrev pub place_in : State → JobRow → PoolRow → Option DueStep

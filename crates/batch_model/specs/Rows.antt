@@ -3,7 +3,7 @@ use Rattle.std.specs.Prelude.{ℕ, ◌+◌, Bool, ◌&&◌, nat_eq, List, [], �
 use Rattle.std.specs.List.{find}
 use Rattle.bt_base.specs.Ids.{same}
 use Rattle.batch_model.specs.Finding.{change_where}
-use Rattle.batch_model.specs.Variants.{State, PoolRow, NodeRow, JobRow, TaskRow, RunRow}
+use Rattle.batch_model.specs.Variants.{State, PoolRow, NodeRow, JobRow, TaskRow, RunRow, PrepRow}
 
 -- whether a row has the key
 
@@ -22,6 +22,9 @@ is_task job id task = same task.job job && same task.id id
 abbrev pub is_run : ℕ → RunRow → Bool
 is_run number run = nat_eq run.number number
 
+abbrev pub is_prep : List ℕ → ℕ → PrepRow → Bool
+is_prep job node prep = same prep.job job && nat_eq prep.node node
+
 -- the row with the key
 
 abbrev pub pool_of : State → List ℕ → Option PoolRow
@@ -39,6 +42,9 @@ task_of s job id = find (is_task job id) s.tasks
 abbrev pub run_of : State → ℕ → Option RunRow
 run_of s number = find (is_run number) s.runs
 
+abbrev pub prep_of : State → List ℕ → ℕ → Option PrepRow
+prep_of s job node = find (is_prep job node) s.preps
+
 -- rows that pass a test, changed in place
 
 abbrev pub change_pools : (PoolRow → Bool) → (PoolRow → PoolRow) → State → State
@@ -55,6 +61,9 @@ change_tasks test change s = record s { tasks = change_where test change s.tasks
 
 abbrev pub change_runs : (RunRow → Bool) → (RunRow → RunRow) → State → State
 change_runs test change s = record s { runs = change_where test change s.runs }
+
+abbrev pub change_preps : (PrepRow → Bool) → (PrepRow → PrepRow) → State → State
+change_preps test change s = record s { preps = change_where test change s.preps }
 
 -- the row in place of the one with its key
 
@@ -80,6 +89,9 @@ add_job_row job s = record s { jobs = s.jobs ++ job ∷ [] }
 
 abbrev pub add_task_row : TaskRow → State → State
 add_task_row task s = record s { tasks = s.tasks ++ task ∷ [] }
+
+abbrev pub add_prep_row : PrepRow → State → State
+add_prep_row prep s = record s { preps = s.preps ++ prep ∷ [] }
 
 -- a new run has the number `next_run`, which rises by one
 abbrev pub add_run_row : RunRow → State → State

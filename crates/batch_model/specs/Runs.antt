@@ -2,7 +2,7 @@
 use Rattle.std.specs.Prelude.{ℕ, Bool, true, false, ◌&&◌, nat_eq, List, Option, Some, None}
 use Rattle.batch_model.specs.Finding.{names}
 use Rattle.batch_model.specs.Variants.{State, NodeRow, StartTask, TaskRow, Ending, RunRow, RunKind, RunState, StartRun, PrepRun, TaskRun, CoordinationRun}
-use Rattle.batch_model.specs.Variants.{ReleaseRun, Waiting, Queued, Taken, Ended, Withdrawn}
+use Rattle.batch_model.specs.Variants.{ReleaseRun, Waiting, Queued, Taken, Ended, Withdrawn, PrepRow}
 
 abbrev pub is_waiting : RunState → Bool
 is_waiting Waiting = true
@@ -74,6 +74,18 @@ is_present task run = is_run_of_task task.job task.id run && nat_eq run.attempt 
 abbrev pub is_busy_for : TaskRow → RunRow → Bool
 is_busy_for task run = is_present task run && is_unended run.state
 
+-- a preparation run that has not ended
+abbrev pub is_open_preparation : RunRow → Bool
+is_open_preparation run = is_preparation run.kind && is_unended run.state
+
+-- an unended preparation run of the job
+abbrev pub prepares : List ℕ → RunRow → Bool
+prepares job run = is_open_preparation run && names run.job job
+
+-- the run is of the preparation's job, and on its node
+abbrev pub is_at_prep : PrepRow → RunRow → Bool
+is_at_prep prep run = names run.job prep.job && nat_eq run.node prep.node
+
 -- withdrawn now
 abbrev pub withdrawn : ℕ → RunRow → RunRow
 withdrawn now run = record run { state = Withdrawn; ended = Some now }
@@ -115,6 +127,10 @@ new_run s on_node of_pool what text = record {
 -- a run of the pool's start task on the node
 abbrev pub start_run : State → NodeRow → StartTask → RunRow
 start_run s node start = new_run s node.number node.pool StartRun start.line
+
+-- a run of the job's preparation or release task
+abbrev pub job_run : State → ℕ → List ℕ → RunKind → List ℕ → List ℕ → RunRow
+job_run s on_node of_pool what text of_job = record (new_run s on_node of_pool what text) { job = Some of_job }
 
 -- a run of the task's present attempt
 abbrev pub work_run : State → NodeRow → TaskRow → RunKind → List ℕ → ℕ → RunState → RunRow

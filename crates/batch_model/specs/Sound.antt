@@ -2,23 +2,26 @@
 -- own.
 use Rattle.std.specs.Prelude.{ℕ, ◌<◌, List, Bool, false, not, ◌&&◌, ◌||◌, nat_eq, nat_lt, nat_le, is_some, is_none}
 use Rattle.std.specs.List.{list_any, list_all}
+use Rattle.std.specs.Option.{option_map_or}
 use Rattle.bt_base.specs.Ids.{same}
 use Rattle.bt_rows.specs.Lists.{AreDistinct}
 use Rattle.bt_rows.specs.Ranges.{is_from_to}
-use Rattle.batch_model.specs.Finding.{Each}
+use Rattle.batch_model.specs.Finding.{Each, names}
 use Rattle.batch_model.specs.Rows.{is_pool, is_node}
 use Rattle.batch_model.specs.Jobs.{is_job_completed}
 use Rattle.batch_model.specs.JobRules.{has_unended_run}
-use Rattle.batch_model.specs.Runs.{is_unended, is_start, is_preparation, is_release, is_work}
+use Rattle.batch_model.specs.Runs.{is_unended, is_waiting, is_start, is_preparation, is_release, is_work, is_open_preparation, is_at_prep}
 use Rattle.batch_model.specs.Tasks.{is_placed, is_undisturbed, is_busy, main_ending}
 use Rattle.batch_model.specs.Nodes.{is_usable}
 use Rattle.batch_model.specs.Pools.{waits_for_start}
-use Rattle.batch_model.specs.NotBuilt.{OnlyBuiltRows, NothingIsPrepared}
+use Rattle.batch_model.specs.Preps.{is_prep_running, is_prepared, is_unreleased, waits_for_preparation}
+use Rattle.batch_model.specs.NotBuilt.{OnlyBuiltRows}
 use Rattle.batch_model.specs.Endings.{is_success}
 use Rattle.batch_model.specs.Slots.{owns, held_slots}
-use Rattle.batch_model.specs.WellFormed.{KeysAreDistinct, RowsAreValid, CountsAreInRange, TasksAreFitting, has_few_tries, has_pool_row, NamedRowsAreThere}
+use Rattle.batch_model.specs.WellFormed.{KeysAreDistinct, RowsAreValid, CountsAreInRange, TasksAreFitting, has_few_tries, has_few_preparations}
+use Rattle.batch_model.specs.WellFormed.{has_pool_row, has_job_row, NamedRowsAreThere}
 use Rattle.batch_model.specs.WellFormed.{QuietJobsPlaceNothing, PoolsAreFitting}
-use Rattle.batch_model.specs.Variants.{State, NodeRow, JobRow, TaskRow, RunRow, RunState, Ended}
+use Rattle.batch_model.specs.Variants.{State, NodeRow, JobRow, TaskRow, RunRow, RunState, Ended, PrepRow}
 
 -- the later node has no higher number
 abbrev pub are_out_of_order : NodeRow → NodeRow → Bool
@@ -111,7 +114,6 @@ pub record IsWithinLimits (s : State) : Type 0 where
   pub counts : CountsAreInRange s
   pub quiet : QuietJobsPlaceNothing s
   pub pools : PoolsAreFitting s
-  pub built : NothingIsPrepared s
 
 -- no end, if the run has not ended
 abbrev pub has_no_end_yet : RunRow → Bool
@@ -150,9 +152,63 @@ pub record StartsAreSound (s : State) : Type 0 where
 abbrev pub is_at_rest : State → JobRow → Bool
 is_at_rest s job = not (is_job_completed job.state && has_unended_run s job.id)
 
--- a completed job has no unended run; sound tables are such
+-- a completed job has no unended run
 abbrev pub CompletedJobsRest : State → Type 0
 CompletedJobsRest s = Each (is_at_rest s) s.jobs
+
+-- preparations
+
+-- the run's job has a preparation on its node that passes the test
+abbrev pub has_prep_where : (PrepRow → Bool) → State → RunRow → Bool
+has_prep_where test s run = list_any (λ prep. is_at_prep prep run && test prep) s.preps
+
+-- the preparation has a run, or is to have one again
+abbrev pub runs_yet : PrepRow → Bool
+runs_yet prep = is_prep_running prep.state
+
+-- the preparation is completed
+abbrev pub is_completed_prep : PrepRow → Bool
+is_completed_prep prep = is_prepared prep.state
+
+-- the release run of the preparation was made
+abbrev pub is_released : PrepRow → Bool
+is_released prep = not (is_unreleased prep.release)
+
+-- the preparation runs, if the run is an unended preparation run
+abbrev pub has_running_prep : State → RunRow → Bool
+has_running_prep s run = not (is_open_preparation run) || has_prep_where runs_yet s run
+
+-- two unended preparation runs of one job and node
+abbrev pub prepare_the_same : RunRow → RunRow → Bool
+prepare_the_same run other =
+    is_open_preparation run && is_open_preparation other && nat_eq run.node other.node && option_map_or (names run.job) other.job false
+
+-- the run's job has a preparation that is waited for
+abbrev pub waits_in : State → RunRow → Bool
+waits_in s run = list_any (λ job. names run.job job.id && waits_for_preparation job) s.jobs
+
+-- a run of a task that may be taken or was taken
+abbrev pub is_work_begun : RunRow → Bool
+is_work_begun run = is_work run.kind && is_unended run.state && not (is_waiting run.state)
+
+-- the preparation of its job on its node is completed, if the run is such and the preparation is waited for
+abbrev pub is_prepared_run : State → RunRow → Bool
+is_prepared_run s run = not (is_work_begun run && waits_in s run) || has_prep_where is_completed_prep s run
+
+-- the release run of a job on a node that is there was made for the preparation there
+abbrev pub has_known_release : State → RunRow → Bool
+has_known_release s run = not (is_release run.kind && has_node_row s run.node) || has_prep_where is_released s run
+
+-- preparations are of jobs and on nodes that are there, an unended run of one is its only one, runs of tasks are prepared, and
+-- release runs are made once; failures of a preparation and its unended runs are together fewer than the runs that were made
+pub record PreparationsAreSound (s : State) : Type 0 where
+  pub jobs_of_preps : Each (λ prep. has_job_row s prep.job) s.preps
+  pub nodes_of_preps : Each (λ prep. has_node_row s prep.node) s.preps
+  pub running : Each (has_running_prep s) s.runs
+  pub single : AreDistinct prepare_the_same s.runs
+  pub prepared : Each (is_prepared_run s) s.runs
+  pub released : Each (has_known_release s) s.runs
+  pub tries : Each (has_few_preparations s) s.preps
 
 -- all of these, for this number of seats; such tables are also well formed
 pub record IsSound (seats : ℕ) (s : State) : Type 0 where
@@ -160,3 +216,5 @@ pub record IsSound (seats : ℕ) (s : State) : Type 0 where
   pub limited : IsWithinLimits s
   pub unended : UnendedRunsHaveNoEnd s
   pub starts : StartsAreSound s
+  pub preparing : PreparationsAreSound s
+  pub resting : CompletedJobsRest s

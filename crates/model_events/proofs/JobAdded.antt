@@ -1,5 +1,5 @@
 -- The event `add-job` keeps sound tables.
-use Rattle.std.proofs.Common.{◌≡◌, ℕ, true, false, List, Option, Some, None, refl, nat_le}
+use Rattle.std.proofs.Common.{◌≡◌, ℕ, Bool, true, false, ◌&&◌, ◌||◌, List, Option, Some, None, refl, sym, ◌∙◌, nat_le}
 use Rattle.std.proofs.Common.{length, is_some, inl, inr}
 use Rattle.std.specs.Option.{option_map_or}
 use Rattle.bt_rows.specs.Keys.{same_job}
@@ -9,19 +9,23 @@ use Rattle.bt_rows.specs.declared.refusal.Refusal.TheVariants.{PoolNotFound}
 use Rattle.bt_rows.specs.declared.refusal.Refusal.TheVariants.{TableFull}
 use Rattle.bt_rows.specs.declared.refusal.Table.TheVariants.{Jobs}
 use Rattle.batch_model.specs.Rows.{is_job, add_job_row, pool_of, job_of}
-use Rattle.batch_model.specs.Sound.{IsConsistent, IsWithinLimits, IsSound}
+use Rattle.bt_base.proofs.SameIds.{same_equiv}
+use Rattle.batch_model.specs.Finding.{names}
+use Rattle.batch_model.specs.Preps.{waits_for_preparation}
+use Rattle.batch_model.specs.Sound.{IsConsistent, IsWithinLimits, IsSound, is_at_rest, waits_in}
 use Rattle.batch_model.specs.WellFormed.{has_job_row, has_named_job, is_job_valid}
 use Rattle.batch_model.specs.WellFormed.{has_no_placed_if_quiet}
-use Rattle.batch_model.specs.Variants.{State, JobRow, TaskRow, PoolRow}
+use Rattle.batch_model.specs.Variants.{State, JobRow, TaskRow, PoolRow, RunRow}
 use Rattle.batch_model.specs.Jobs.{new_job}
 use Rattle.batch_model.specs.Limits.{job_limit}
 use Rattle.batch_model.specs.Events.{add_job, add_job_in}
 use Rattle.batch_model.specs.Events.{add_job_refusals}
-use Rattle.model_lists.proofs.RowLists.{each_weaker, any_append_old, each_append, none_found}
+use Rattle.model_lists.proofs.RowLists.{each_weaker, any_append, any_agree, any_append_old, each_append, none_found}
 use Rattle.model_lists.proofs.DistinctLists.{distinct_append}
 use Rattle.model_lists.proofs.Tests.{and_true, passes_or_not}
 use Rattle.model_lists.proofs.NextNumbers.{is_not_after_itself}
 use Rattle.model_lists.proofs.Lengths.{takes_one}
+use Rattle.model_tables.proofs.PrepsKept.{preps_with_jobs}
 use Rattle.model_events.proofs.Keeping.{passed, answer_keeps, for_row_keeps}
 
 -- a job that is named still has a row
@@ -108,8 +112,22 @@ limited_job_added s id in_pool spec h in_range room = record {
     covered = h.pools.covered;
     kept = h.pools.kept;
   };
-  built = record { preps = h.built.preps };
 }
+
+-- no run waits for the preparation of a new job
+waits_before : (s : State) (job : JobRow) (run : RunRow) → has_job_row s job.id ≡ false → has_named_job s run ≡ true → waits_in (add_job_row job s) run ≡ true
+    → waits_in s run ≡ true
+waits_before s job run new named h =
+    of_both (waits_in s run) (names run.job job.id) refl (sym (any_append (λ other. names run.job other.id && waits_for_preparation other) s.jobs job) ∙ h)
+  where
+    not_named : (name : Option (List ℕ)) → names name job.id ≡ true → option_map_or (has_job_row s) name true ≡ false
+    not_named None k = cc
+    not_named (Some id) k = any_agree (is_job id) (is_job job.id) (λ other. same_equiv.symm other.id id ∙ same_equiv.congr id job.id other.id k ∙ same_equiv.symm job.id other.id) s.jobs ∙ new
+
+    of_both : (a b : Bool) → names run.job job.id ≡ b → (a || (b && waits_for_preparation job)) ≡ true → a ≡ true
+    of_both true b e k = refl
+    of_both false false e k = cc
+    of_both false true e k = let n : has_named_job s run ≡ false = not_named run.job e in cc
 
 -- a job with a new id, whose values are in their ranges
 sound_job_added : (seats : ℕ) (s : State) (id in_pool : List ℕ) (spec : JobSpec) → IsSound seats s → is_job_spec_in_range spec ≡ true → has_job_row s id ≡ false
@@ -119,6 +137,11 @@ sound_job_added seats s id in_pool spec h in_range new room = record {
   limited = limited_job_added s id in_pool spec h.limited in_range room;
   unended = h.unended;
   starts = record { usable = h.starts.usable; tries = h.starts.tries };
+  preparing =
+      preps_with_jobs s (add_job_row (new_job s.moment id in_pool spec) s).jobs (has_named_job s)
+      (λ name. any_append_old (is_job name) s.jobs (new_job s.moment id in_pool spec))
+      (λ run. waits_before s (new_job s.moment id in_pool spec) run new) h.consistent.named.jobs_of_runs h.preparing;
+  resting = each_append (is_at_rest s) s.jobs (new_job s.moment id in_pool spec) h.resting refl;
 }
 
 -- in the pool that was found

@@ -14,12 +14,13 @@ use Rattle.batch_model.specs.Jobs.{is_quiet, is_disabled, job_in}
 use Rattle.batch_model.specs.Stops.{disable, close, terminate}
 use Rattle.batch_model.specs.Events.{limited, patched, patch_refusals, patch_job, disable_refusals, disable_job, enable_refusals, enable_job, user_terminate}
 use Rattle.batch_model.specs.Events.{terminate_refusals, terminate_job, delete_refusals, delete_job}
-use Rattle.batch_model.specs.Sound.{IsSound}
+use Rattle.batch_model.specs.Preps.{waits_for_preparation}
+use Rattle.batch_model.specs.Sound.{IsSound, is_at_rest}
 use Rattle.batch_model.specs.WellFormed.{is_job_valid, has_no_placed_if_quiet}
 use Rattle.batch_model.specs.Variants.{State, JobRow, JobState, JobActive, Disabling, Disabled, Enabling, Terminating, JobCompleted, Deleting}
 use Rattle.model_lists.proofs.Tests.{and_first, and_second, not_false}
 use Rattle.model_lists.proofs.RowLists.{each_found}
-use Rattle.model_tables.proofs.JobPut.{sound_job_put}
+use Rattle.model_tables.proofs.JobPut.{sound_job_put, found_waits}
 use Rattle.model_tables.proofs.JobsStopped.{sound_disabled, sound_closed}
 use Rattle.model_events.proofs.Keeping.{passed, answer_keeps}
 
@@ -134,16 +135,28 @@ module _ (seats : ℕ) (s : State) (id : List ℕ) (job : JobRow) (found : job_o
   job_quiet : has_no_placed_if_quiet s job ≡ true
   job_quiet = each_found (has_no_placed_if_quiet s) (is_job id) job s.jobs found h.limited.quiet
 
+  -- a patched job waits for its preparation as it did
+  patched_waits : (limits : Option Limits) → waits_for_preparation (at_row limited limits job) ≡ true
+      → list_any (λ other. is_job (at_row limited limits job).id other && waits_for_preparation other) s.jobs ≡ true
+  patched_waits None w = found_waits s (is_job id) job found w
+  patched_waits (Some limits) w = found_waits s (is_job id) job found w
+
+  -- it rests if it did
+  patched_rests : (limits : Option Limits) → is_at_rest s (at_row limited limits job) ≡ true
+  patched_rests None = each_found (is_at_rest s) (is_job id) job s.jobs found h.resting
+  patched_rests (Some limits) = each_found (is_at_rest s) (is_job id) job s.jobs found h.resting
+
   -- `patch-job`
   pub patch_job_kept : (patch : JobPatch) → is_patch_in_range patch ≡ true → IsSound seats (patch_job s patch job).state
   patch_job_kept patch k =
       answer_keeps (IsSound seats) s h (patch_refusals patch job) 200 (put_job (patched patch job) s)
-      (λ absent. sound_job_put s (patched patch job) seats h (patched_valid s.moment job job_valid patch k) (patched_quiet s patch job job_quiet))
+      (λ absent. sound_job_put s (patched patch job) seats h (patched_valid s.moment job job_valid patch k) (patched_quiet s patch job job_quiet)
+      (patched_waits patch.limits) (patched_rests patch.limits))
 
   -- `disable-job`
   pub disable_job_kept : (option : DisableTasks) → IsSound seats (disable_job s option job).state
   disable_job_kept option =
-      answer_keeps (IsSound seats) s h (disable_refusals job) 202 (disable job option s) (λ absent. sound_disabled seats s job option h job_valid)
+      answer_keeps (IsSound seats) s h (disable_refusals job) 202 (disable job option s) (λ absent. sound_disabled seats s job option h job_valid (found_waits s (is_job id) job found))
 
   -- `enable-job`
   pub enable_job_kept : IsSound seats (enable_job s job).state
@@ -151,17 +164,19 @@ module _ (seats : ℕ) (s : State) (id : List ℕ) (job : JobRow) (found : job_o
       answer_keeps (IsSound seats) s h (enable_refusals job) 202 (put_job (job_in Enabling job) s)
       (λ absent.
       sound_job_put s (job_in Enabling job) seats h job_valid
-      (enabling_quiet s job (not_false (is_disabled job.state) (passed (not (is_disabled job.state)) (JobStateRefuses job.state) absent.0)) job_quiet))
+      (enabling_quiet s job (not_false (is_disabled job.state) (passed (not (is_disabled job.state)) (JobStateRefuses job.state) absent.0)) job_quiet)
+      (found_waits s (is_job id) job found) refl)
 
   -- `terminate-job`
   pub terminate_job_kept : (reason : Option (List ℕ)) → passes_if_some is_reason reason ≡ true → IsSound seats (terminate_job s reason job).state
   terminate_job_kept reason k =
       answer_keeps (IsSound seats) s h (terminate_refusals job) 202 (terminate (unwrap_or reason user_terminate) job s)
       (λ absent.
-      sound_closed seats s Terminating (unwrap_or reason user_terminate) job h job_valid (given_passes is_reason reason user_terminate k user_reason) refl)
+      sound_closed seats s Terminating (unwrap_or reason user_terminate) job h job_valid (given_passes is_reason reason user_terminate k user_reason) refl
+      (found_waits s (is_job id) job found))
 
   -- `delete-job`
   pub delete_job_kept : IsSound seats (delete_job s job).state
   delete_job_kept =
       answer_keeps (IsSound seats) s h (delete_refusals job) 202 (close Deleting user_terminate job s)
-      (λ absent. sound_closed seats s Deleting user_terminate job h job_valid user_reason refl)
+      (λ absent. sound_closed seats s Deleting user_terminate job h job_valid user_reason refl (found_waits s (is_job id) job found))

@@ -9,6 +9,7 @@ use Rattle.batch_model.specs.Variants.{State, empty_state, PoolRow, JobRow, Task
 use Rattle.batch_model.specs.WellFormed.{is_past_if_some, is_closed_past, is_pool_valid, is_job_valid, is_task_valid, is_run_valid, is_sample_valid}
 use Rattle.model_lists.proofs.Tests.{and_true, and_first, and_second}
 use Rattle.model_lists.proofs.RowLists.{each_weaker}
+use Rattle.model_tables.proofs.PrepsKept.{preps_with_others}
 
 -- empty tables are sound
 consistent_empty : (seats : ℕ) → IsConsistent seats empty_state
@@ -80,7 +81,6 @@ limited_empty = record {
   };
   quiet = refl;
   pools = record { deleting = refl; pools_of_scales = refl; pools_of_samples = refl; labels = refl; order = tt; covered = refl; kept = refl };
-  built = record { preps = refl };
 }
 
 module _ (now later : ℕ) (h : now ≤ later) where
@@ -166,7 +166,6 @@ limited_moment now s last h =
         covered = h.pools.covered;
         kept = h.pools.kept;
       };
-      built = record { preps = h.built.preps };
     }
 
 -- sound tables are sound at a later moment
@@ -176,4 +175,6 @@ sound_at_moment seats now s last h = record {
   limited = limited_moment now s last h.limited;
   unended = h.unended;
   starts = record { usable = h.starts.usable; tries = h.starts.tries };
+  preparing = preps_with_others s s.pools s.tasks (max s.moment now) h.preparing;
+  resting = h.resting;
 }

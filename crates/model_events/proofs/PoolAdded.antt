@@ -24,6 +24,7 @@ use Rattle.model_lists.proofs.DistinctLists.{distinct_append}
 use Rattle.model_lists.proofs.NextNumbers.{is_not_after_itself}
 use Rattle.model_lists.proofs.Lengths.{takes_one}
 use Rattle.model_tables.proofs.StartsKept.{none_awaited, starts_with_pools}
+use Rattle.model_tables.proofs.PrepsKept.{preps_with_others}
 use Rattle.model_events.proofs.Keeping.{passed, answer_keeps}
 
 -- a pool whose id no pool has is not the pool of a node, which has a row
@@ -139,7 +140,6 @@ limited_pool_added s spec h in_range room = record {
     covered = h.pools.covered;
     kept = h.pools.kept;
   };
-  built = record { preps = h.built.preps };
 }
 
 -- a pool with a new id is no node's
@@ -163,6 +163,8 @@ sound_pool_added seats s spec h in_range new room = record {
   limited = limited_pool_added s spec h.limited in_range room;
   unended = h.unended;
   starts = starts_pool_added s (new_pool s.moment spec) new h.consistent.seated.pools_of_nodes h.starts;
+  preparing = preps_with_others s (add_pool_row (new_pool s.moment spec) s).pools s.tasks s.moment h.preparing;
+  resting = h.resting;
 }
 
 -- `add-pool`

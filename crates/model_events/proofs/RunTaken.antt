@@ -7,25 +7,28 @@ use Rattle.bt_rows.specs.Lists.{AreDistinct}
 use Rattle.bt_rows.specs.Ranges.{passes_if_some}
 use Rattle.bt_rows.specs.declared.refusal.Refusal.TheVariants.{RunAlreadyEnded, RunWithdrawn, RunAlreadyTaken, RunWaiting}
 use Rattle.batch_model.specs.Finding.{Each}
-use Rattle.batch_model.specs.Rows.{is_run, run_of}
+use Rattle.batch_model.specs.Rows.{is_run, run_of, change_runs, change_preps}
+use Rattle.batch_model.specs.Preps.{is_prepared}
 use Rattle.batch_model.specs.Tasks.{is_placed_in}
 use Rattle.batch_model.specs.Jobs.{is_quiet}
-use Rattle.batch_model.specs.Events.{taken_run, started_task, is_task_of_run, run_taken, take_run, take_refusals}
+use Rattle.batch_model.specs.Events.{taken_run, started_task, is_task_of_run, served, is_prep_of_work, run_taken, take_run, take_refusals}
 use Rattle.batch_model.specs.Limits.{task_limit}
-use Rattle.batch_model.specs.Sound.{IsWithinLimits, has_no_end_yet, UnendedRunsHaveNoEnd, IsSound}
-use Rattle.batch_model.specs.WellFormed.{is_past_if_some, is_ended_in_order, is_task_valid, is_run_valid, has_no_placed_if_quiet}
-use Rattle.batch_model.specs.Variants.{State, TaskRow, RunRow}
+use Rattle.batch_model.specs.Sound.{IsWithinLimits, has_no_end_yet, UnendedRunsHaveNoEnd, StartsAreSound, IsSound}
+use Rattle.batch_model.specs.WellFormed.{is_past_if_some, is_ended_in_order, is_task_valid, is_run_valid, has_no_placed_if_quiet, has_few_preparations}
+use Rattle.batch_model.specs.Variants.{State, TaskRow, RunRow, PrepRow}
 use Rattle.batch_model.specs.Variants.{Queued, RunState, Waiting, Taken, Ended, Withdrawn}
 use Rattle.batch_model.specs.Runs.{is_unended, is_waiting, is_queued, is_taken, is_ended, is_withdrawn}
 use Rattle.model_lists.proofs.Tests.{and_true, and_first, and_second, asked}
-use Rattle.model_lists.proofs.RowLists.{each_weaker, each_and, each_found}
+use Rattle.model_lists.proofs.RowLists.{each_any, each_weaker, each_and, each_found}
 use Rattle.model_lists.proofs.ChangedRows.{each_change, each_change_same, any_change_same}
 use Rattle.model_lists.proofs.DistinctLists.{each_with_key}
 use Rattle.model_lists.proofs.NextNumbers.{is_not_after_itself}
 use Rattle.model_lists.proofs.Lengths.{change_keeps_length}
 use Rattle.model_tables.proofs.FoundRows.{own_number}
+use Rattle.model_tables.proofs.PrepsKept.{preps_with_tasks}
+use Rattle.model_tables.proofs.PrepsChanged.{running_still, preps_changed, sound_preps_changed}
 use Rattle.model_events.proofs.Keeping.{passed, answer_keeps}
-use Rattle.model_events.proofs.take.Consistent.{consistent_taken}
+use Rattle.model_events.proofs.take.Consistent.{run_started, preps_taken, rest_taken, consistent_taken}
 use Rattle.model_events.proofs.take.Starts.{starts_taken}
 
 -- within the limits
@@ -62,7 +65,7 @@ each_without_end runs run = each_with_key same_run same_run_equiv (λ (row : Run
 
 -- a run without an end is taken now, and its task starts
 limited_taken : (s : State) (run : RunRow) → IsWithinLimits s → AreDistinct same_run s.runs → find (is_run run.number) s.runs ≡ Some run
-    → is_none run.ended ≡ true → IsWithinLimits (run_taken s run)
+    → is_none run.ended ≡ true → IsWithinLimits (run_started s run)
 limited_taken s run h keys found running = record {
   rows = record {
     moment = h.rows.moment;
@@ -90,7 +93,7 @@ limited_taken s run h keys found running = record {
     next_run = h.counts.next_run;
   };
   quiet =
-      each_weaker (has_no_placed_if_quiet s) (has_no_placed_if_quiet (run_taken s run))
+      each_weaker (has_no_placed_if_quiet s) (has_no_placed_if_quiet (run_started s run))
       (λ job k. ap (λ b. not (is_quiet job.state && b))
       (any_change_same (is_task_of_run run) (started_task s.moment) (is_placed_in job.id) (λ task t. refl) s.tasks) ∙ k)
       s.jobs h.quiet;
@@ -103,7 +106,6 @@ limited_taken s run h keys found running = record {
     covered = h.pools.covered;
     kept = h.pools.kept;
   };
-  built = record { preps = h.built.preps };
 }
 
 -- a run that is found and has not ended
@@ -138,17 +140,44 @@ queued_unended Taken h = refl
 queued_unended (Ended ending) h = cc
 queued_unended Withdrawn h = cc
 
--- a queued run is taken
-sound_taken : (seats : ℕ) (s : State) (run : RunRow) → IsSound seats s → find (is_run run.number) s.runs ≡ Some run → is_queued run.state ≡ true
-    → IsSound seats (run_taken s run)
-sound_taken seats s run h found queued =
+-- a queued run is taken, and its task starts
+sound_started : (seats : ℕ) (s : State) (run : RunRow) → IsSound seats s → find (is_run run.number) s.runs ≡ Some run → is_queued run.state ≡ true
+    → IsSound seats (run_started s run)
+sound_started seats s run h found queued =
     let running : is_none run.ended ≡ true = found_without_end s (is_run run.number) run h.unended found (queued_unended run.state queued) in
+    let begun : StartsAreSound (run_taken s run) = starts_taken s run h.consistent.keys.runs found queued h.starts in
     record {
       consistent = consistent_taken seats s run h.consistent found queued;
       limited = limited_taken s run h.limited h.consistent.keys.runs found running;
       unended = unended_taken s run h.unended h.consistent.keys.runs found running;
-      starts = starts_taken s run h.consistent.keys.runs found queued h.starts;
+      starts = record { usable = begun.usable; tries = begun.tries };
+      preparing =
+          preps_with_tasks (change_runs (is_run run.number) (taken_run s.moment) s) (run_started s run).tasks
+          (preps_taken s run h.consistent.keys.runs found queued h.preparing);
+      resting = rest_taken s run h.consistent.keys.runs found queued h.resting;
     }
+
+-- what is left of a test
+keeps_test : (a b : Bool) → (not (a && b) || b) ≡ true
+keeps_test true true = refl
+keeps_test true false = refl
+keeps_test false true = refl
+keeps_test false false = refl
+
+-- a preparation that has served
+sound_served : (seats : ℕ) (s : State) (test : PrepRow → Bool) → IsSound seats s → IsSound seats (change_preps test served s)
+sound_served seats s test h =
+    sound_preps_changed test (λ prep. prep.state) (λ prep. prep.tries) (λ prep. true) (λ prep. prep.release) s seats h
+    (preps_changed test (λ prep. prep.state) (λ prep. prep.tries) (λ prep. true) (λ prep. prep.release) s
+    (running_still test (λ prep. prep.state) (λ prep. prep.tries) (λ prep. true) (λ prep. prep.release) s (λ prep t k. k) h.preparing.running)
+    (each_any (λ (prep : PrepRow). not (test prep && is_prepared prep.state) || is_prepared prep.state) (λ prep. keeps_test (test prep) (is_prepared prep.state)) s.preps)
+    (λ prep t k. k) (each_change_same test served (has_few_preparations s) (λ prep t k. k) s.preps h.preparing.tries) h.preparing)
+
+-- a queued run is taken
+sound_taken : (seats : ℕ) (s : State) (run : RunRow) → IsSound seats s → find (is_run run.number) s.runs ≡ Some run → is_queued run.state ≡ true
+    → IsSound seats (run_taken s run)
+sound_taken seats s run h found queued =
+    sound_served seats (run_started s run) (is_prep_of_work run) (sound_started seats s run h found queued)
 
 -- `take`
 pub take_kept : (seats : ℕ) (s : State) (number : ℕ) (run : RunRow) → IsSound seats s → run_of s number ≡ Some run → IsSound seats (take_run s run).state

@@ -30,6 +30,7 @@ use Rattle.model_lists.proofs.RowLists.{each_append, each_weaker, any_append_old
 use Rattle.model_lists.proofs.RowLists.{none_found, any_found}
 use Rattle.model_lists.proofs.DistinctLists.{distinct_append}
 use Rattle.model_lists.proofs.Lengths.{takes_one}
+use Rattle.model_tables.proofs.PrepsKept.{preps_with_tasks}
 use Rattle.model_events.proofs.Keeping.{AreAbsent, passed, through, given_keeps, answer_keeps}
 
 module _ (s : State) (in_job : List ℕ) (spec : TaskSpec) where
@@ -159,7 +160,6 @@ limited_task_added s in_job spec h in_range short room = record {
     covered = h.pools.covered;
     kept = h.pools.kept;
   };
-  built = record { preps = h.built.preps };
 }
 
 -- sound tables in which a job has a row
@@ -181,6 +181,8 @@ has_with_task seats s job spec h in_range absent = record {
         (passed (nat_le task_limit (length s.tasks)) (TableFull Tasks task_limit) absent.1.1.0);
     unended = h.sound.unended;
     starts = record { usable = h.sound.starts.usable; tries = h.sound.starts.tries };
+    preparing = preps_with_tasks s (task_added s job spec).tasks h.sound.preparing;
+    resting = h.sound.resting;
   };
   there = h.there;
 }

@@ -2,3 +2,5 @@
 pub mod StartCases
 pub mod Consistent
 pub mod Starts
+pub mod PrepRuns
+pub mod Preps

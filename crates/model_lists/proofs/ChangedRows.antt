@@ -86,3 +86,11 @@ module _ {R : Type 0} (test : R → Bool) (change : R → R) where
   find_change p keep (x ∷ xs) =
       rw (same_changed p x (keep x))
       (found_changed p x (find p (change_where test change xs)) (find p xs) (p x) (find_change p keep xs))
+
+module _ {R : Type 0} where
+  -- tests that are alike on each row of the list change the same rows
+  pub change_agree_where : (a p q : R → Bool) (change : R → R) → ((x : R) → a x ≡ true → p x ≡ q x) → (xs : List R) → Each a xs
+      → change_where p change xs ≡ change_where q change xs
+  change_agree_where a p q change agree [] h = refl
+  change_agree_where a p q change agree (x ∷ xs) h =
+      rw (agree x (each_head a x xs h), change_agree_where a p q change agree xs (each_tail a x xs h)) refl

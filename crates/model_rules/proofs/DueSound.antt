@@ -2,19 +2,19 @@
 use Rattle.std.proofs.Common.{◌≡◌, ℕ, true, [], ◌∷◌, Some}
 use Rattle.bt_base.proofs.Turns.{lex_lt}
 use Rattle.batch_model.specs.Placing.{place_first}
-use Rattle.batch_model.specs.JobRules.{enable_first, terminate_first, disable_first, end_first}
-use Rattle.batch_model.specs.WallTimes.{time_out_task_first, time_out_job_first}
+use Rattle.batch_model.specs.JobRules.{enable_first, terminate_first, disable_first, release_first, end_first}
+use Rattle.batch_model.specs.WallTimes.{time_out_task_first, time_out_release_first, time_out_job_first}
 use Rattle.batch_model.specs.Dues.{settle_first, job_step, end_resize, node_step, due_step}
-use Rattle.batch_model.specs.Laws.{HoldsWithinSlots, JobsEndAtRest}
+use Rattle.batch_model.specs.Laws.{HoldsWithinSlots, JobsEndAtRest, JobsReleaseOnce}
 use Rattle.batch_model.specs.Measure.{rank}
 use Rattle.batch_model.specs.Sound.{IsSound}
 use Rattle.batch_model.specs.Steps.{DueStep}
 use Rattle.batch_model.specs.Variants.{State}
-use Rattle.model_tables.proofs.JobsRest.{completed_rest}
 use Rattle.model_rules.proofs.Rules.{IsDueKept, first_gives}
 use Rattle.model_rules.proofs.TaskSettled.{settle_kept}
 use Rattle.model_rules.proofs.JobsMoved.{enable_kept, terminate_kept, disable_kept, end_kept}
 use Rattle.model_rules.proofs.WallTimes.{time_out_task_kept, time_out_job_kept}
+use Rattle.model_rules.proofs.Releases.{time_out_release_kept, release_kept}
 use Rattle.model_rules.proofs.PoolResized.{end_resize_kept}
 use Rattle.model_rules.proofs.NodeAdded.{add_node_kept}
 use Rattle.model_rules.proofs.TaskPlaced.{place_first_kept}
@@ -23,15 +23,27 @@ use Rattle.model_rules.proofs.TaskPlaced.{place_first_kept}
 job_step_kept : (seats : ℕ) (s : State) → IsSound seats s → (step : DueStep) → job_step s ≡ Some step → IsDueKept seats s step
 job_step_kept seats s h step e =
     first_gives (IsDueKept seats s)
-    (time_out_task_first s ∷ time_out_job_first s ∷ settle_first s ∷ enable_first s ∷ terminate_first s ∷ disable_first s ∷ end_first s ∷ []) (
+    (time_out_task_first s
+    ∷ time_out_release_first s
+    ∷ time_out_job_first s
+    ∷ settle_first s
+    ∷ enable_first s
+    ∷ terminate_first s
+    ∷ disable_first s
+    ∷ release_first s
+    ∷ end_first s
+    ∷ []) (
       time_out_task_kept seats s h,
       (
-        time_out_job_kept seats s h,
+        time_out_release_kept seats s h,
         (
-          settle_kept seats s h,
+          time_out_job_kept seats s h,
           (
-            enable_kept seats s h,
-            (terminate_kept seats s h, (disable_kept seats s h, (end_kept seats s h, tt))),
+            settle_kept seats s h,
+            (
+              enable_kept seats s h,
+              (terminate_kept seats s h, (disable_kept seats s h, (release_kept seats s h, (end_kept seats s h, tt)))),
+            ),
           ),
         ),
       ),
@@ -69,6 +81,10 @@ within_slots seats s h = record {
 pub jobs_end_at_rest : (seats : ℕ) (s : State) → IsSound seats s → JobsEndAtRest seats s
 jobs_end_at_rest seats s h = record {
   placing = h.limited.quiet;
-  resting = completed_rest seats s h;
+  resting = h.resting;
   ending = λ step e. let kept : IsDueKept seats s step = kept_by_due seats s step h e in kept.ends;
 }
+
+-- the next due step makes a release run only after a completed preparation, and only the first one
+pub jobs_release_once : (seats : ℕ) (s : State) → IsSound seats s → JobsReleaseOnce seats s
+jobs_release_once seats s h = record { making = λ step e. let kept : IsDueKept seats s step = kept_by_due seats s step h e in kept.releases }

@@ -1,6 +1,6 @@
 -- A job that is removed with its tasks and runs, of which none is placed or unended: the tables stay sound.
 use Rattle.std.proofs.Common.{◌≡◌, ℕ, ◌≤◌, Bool, true, false, not, ◌&&◌, ◌||◌, nat_eq, nat_lt, nat_le, List, Option, Some, None, is_none, is_some, refl, sym, ◌∙◌}
-use Rattle.std.proofs.Common.{ap, arith, length, filter, cond}
+use Rattle.std.proofs.Common.{ap, arith, length, cond}
 use Rattle.std.specs.List.{list_any, list_all}
 use Rattle.std.specs.Option.{option_map_or, option_and_then}
 use Rattle.std.specs.Cmp.{nat_eq_equiv}
@@ -20,6 +20,15 @@ use Rattle.batch_model.specs.Sound.{names_no_task, has_no_end_yet, has_usable_st
 use Rattle.batch_model.specs.WellFormed.{is_job_valid, is_task_valid, is_run_valid, has_fitting_marks, is_closed_if_completed, has_job_row, has_named_job}
 use Rattle.batch_model.specs.WellFormed.{has_named_task, is_task_of_attempt, are_one_attempt, has_no_placed_if_quiet, has_few_tries, is_unended_start_on}
 use Rattle.batch_model.specs.Variants.{State, NodeRow, JobRow, TaskRow, RunRow, PrepRow}
+use Rattle.std.proofs.Common.{count_by}
+use Rattle.batch_model.specs.Runs.{is_open_preparation, is_at_prep, is_release}
+use Rattle.batch_model.specs.Jobs.{is_job_completed}
+use Rattle.model_lists.proofs.Tests.{and_true}
+use Rattle.batch_model.specs.JobRules.{is_unended_of, has_unended_run}
+use Rattle.batch_model.specs.Preps.{waits_for_preparation}
+use Rattle.batch_model.specs.Sound.{PreparationsAreSound, CompletedJobsRest, has_node_row, has_prep_where, runs_yet, is_completed_prep, is_released, has_running_prep}
+use Rattle.batch_model.specs.Sound.{prepare_the_same, waits_in, is_work_begun, is_prepared_run, has_known_release, is_at_rest}
+use Rattle.batch_model.specs.WellFormed.{is_preparing, has_few_preparations}
 use Rattle.model_lists.proofs.Tests.{and_first, and_second}
 use Rattle.model_lists.proofs.RowLists.{each_weaker, each_of_two}
 use Rattle.model_lists.proofs.KeptRows.{kept_pass, each_kept, none_kept, any_kept, distinct_kept, any_still, any_still_where, find_still, sum_kept, sum_passing_kept}
@@ -221,7 +230,6 @@ module _ (id : List ℕ) (s : State) where
       covered = h.pools.covered;
       kept = h.pools.kept;
     };
-    built = record { preps = ap (λ (preps : List PrepRow). filter keeps_prep preps) h.built.preps };
   }
     where
       shorter : (a b limit : ℕ) → a ≤ b → b ≤ limit → a ≤ limit
@@ -261,6 +269,64 @@ module _ (id : List ℕ) (s : State) where
         s.nodes h.tries;
   }
 
+  -- a preparation of a kept run is kept
+  prep_still : (test : PrepRow → Bool) (run : RunRow) → keeps_run run ≡ true → has_prep_where test after run ≡ has_prep_where test s run
+  prep_still test run k =
+      any_still keeps_prep (λ prep. is_at_prep prep run && test prep)
+      (λ (prep : PrepRow) e. other_job run.job prep.job id (and_first (names run.job prep.job) _ (and_first (is_at_prep prep run) (test prep) e)) k) s.preps
+
+  -- what a kept run is asked for, it still has
+  still_asked : (a b c d : Bool) → (a ≡ true → b ≡ true) → d ≡ c → (not b || c) ≡ true → (not a || d) ≡ true
+  still_asked true true c d e k h = rw k h
+  still_asked true false c d e k h = let n : false ≡ true = e refl in cc
+  still_asked false b c d e k h = refl
+
+  -- preparations
+  preps_dropped : PreparationsAreSound s → PreparationsAreSound after
+  preps_dropped h = record {
+    jobs_of_preps =
+        each_of_two keeps_prep (λ (prep : PrepRow). has_job_row s prep.job) (λ (prep : PrepRow). has_job_row after prep.job)
+        (λ prep k e. row_still prep.job e k) after.preps (kept_pass keeps_prep s.preps)
+        (each_kept keeps_prep (λ (prep : PrepRow). has_job_row s prep.job) s.preps h.jobs_of_preps);
+    nodes_of_preps = each_kept keeps_prep (λ (prep : PrepRow). has_node_row s prep.node) s.preps h.nodes_of_preps;
+    running =
+        each_of_two keeps_run (has_running_prep s) (has_running_prep after)
+        (λ run k. still_asked (is_open_preparation run) (is_open_preparation run) (has_prep_where runs_yet s run) (has_prep_where runs_yet after run) (λ e. e)
+        (prep_still runs_yet run k))
+        after.runs (kept_pass keeps_run s.runs) (each_kept keeps_run (has_running_prep s) s.runs h.running);
+    single = distinct_kept keeps_run prepare_the_same s.runs h.single;
+    prepared =
+        each_of_two keeps_run (is_prepared_run s) (is_prepared_run after)
+        (λ run k. still_asked (is_work_begun run && waits_in after run) (is_work_begun run && waits_in s run) (has_prep_where is_completed_prep s run)
+        (has_prep_where is_completed_prep after run)
+        (λ e. and_true (and_first (is_work_begun run) (waits_in after run) e)
+        (any_kept keeps_job (λ job. names run.job job.id && waits_for_preparation job) s.jobs (and_second (is_work_begun run) (waits_in after run) e)))
+        (prep_still is_completed_prep run k))
+        after.runs (kept_pass keeps_run s.runs) (each_kept keeps_run (is_prepared_run s) s.runs h.prepared);
+    released =
+        each_of_two keeps_run (has_known_release s) (has_known_release after)
+        (λ run k. still_asked (is_release run.kind && has_node_row s run.node) (is_release run.kind && has_node_row s run.node)
+        (has_prep_where is_released s run) (has_prep_where is_released after run) (λ e. e) (prep_still is_released run k))
+        after.runs (kept_pass keeps_run s.runs) (each_kept keeps_run (has_known_release s) s.runs h.released);
+    tries =
+        each_weaker (has_few_preparations s) (has_few_preparations after)
+        (λ (prep : PrepRow). few_still prep.tries (count_by (is_preparing prep) s.runs) (count_by (is_preparing prep) after.runs) s.next_run
+        (sum_kept keeps_run (λ run. cond {A = ℕ} (is_preparing prep run) 1 0) s.runs))
+        after.preps (each_kept keeps_prep (has_few_preparations s) s.preps h.tries);
+  }
+
+  -- completed jobs rest
+  rest_dropped : CompletedJobsRest s → CompletedJobsRest after
+  rest_dropped h =
+      each_weaker (is_at_rest s) (is_at_rest after)
+      (λ job. not_both (is_job_completed job.state) (has_unended_run s job.id) (has_unended_run after job.id) (any_kept keeps_run (is_unended_of job.id) s.runs))
+      after.jobs (each_kept keeps_job (is_at_rest s) s.jobs h)
+    where
+      not_both : (a b c : Bool) → (c ≡ true → b ≡ true) → not (a && b) ≡ true → not (a && c) ≡ true
+      not_both true b true e k = rw (e refl) at k
+      not_both true b false e k = refl
+      not_both false b c e k = refl
+
   -- the job is removed
   pub sound_dropped : (seats : ℕ) → IsSound seats s → IsSound seats (drop_job id s)
   sound_dropped seats h = record {
@@ -268,4 +334,6 @@ module _ (id : List ℕ) (s : State) where
     limited = limited_dropped h.limited;
     unended = each_kept keeps_run has_no_end_yet s.runs h.unended;
     starts = starts_dropped h.consistent.naming.on_nodes h.starts;
+    preparing = preps_dropped h.preparing;
+    resting = rest_dropped h.resting;
   }

@@ -23,7 +23,7 @@ use Rattle.model_lists.proofs.Tests.{and_first, and_second, or_false, not_true}
 use Rattle.model_lists.proofs.RowLists.{each_found, find_test}
 use Rattle.model_lists.proofs.KeyedLists.{sum_by-put_row}
 use Rattle.model_lists.proofs.KeptRows.{sum_dropped}
-use Rattle.model_tables.proofs.JobPut.{sound_job_put}
+use Rattle.model_tables.proofs.JobPut.{sound_job_put, found_waits}
 use Rattle.model_tables.proofs.JobsStopped.{sound_closed}
 use Rattle.model_rules.proofs.JobDropped.{sound_dropped}
 use Rattle.model_rules.proofs.Rules.{IsDueKept, from_map}
@@ -98,13 +98,14 @@ module _ (seats : ℕ) (s : State) (h : IsSound seats s) where
       let job : JobRow = made.0 in
       subst (IsDueKept seats s) made.1
       (record {
-        sound = sound_job_put s (job_in JobActive made.0) seats h (job_valid is_to_enable made.0 made.2) refl;
+        sound = sound_job_put s (job_in JobActive made.0) seats h (job_valid is_to_enable made.0 made.2) refl (found_waits s is_to_enable made.0 made.2) refl;
         falls =
             lex_first _ _ _ _
             (fewer_steps is_to_enable made.0 (job_in JobActive made.0) made.2 refl
             (let steps = enabling_steps made.0.state (find_test is_to_enable made.0 s.jobs made.2) in omega (arith, steps))) refl;
         places = tt;
         ends = tt;
+        releases = tt;
       })
 
   -- U7
@@ -114,13 +115,15 @@ module _ (seats : ℕ) (s : State) (h : IsSound seats s) where
       let passes : ends_with_tasks s made.0 ≡ true = find_test (ends_with_tasks s) made.0 s.jobs made.2 in
       subst (IsDueKept seats s) made.1
       (record {
-        sound = sound_closed seats s Terminating all_complete made.0 h (job_valid (ends_with_tasks s) made.0 made.2) all_complete_reason refl;
+        sound = sound_closed seats s Terminating all_complete made.0 h (job_valid (ends_with_tasks s) made.0 made.2) all_complete_reason refl
+            (found_waits s (ends_with_tasks s) made.0 made.2);
         falls =
             lex_first _ _ _ _
             (fewer_steps (ends_with_tasks s) made.0 (job_for Terminating all_complete made.0) made.2 refl
             (let steps = active_steps made.0.state (and_first _ _ (and_first _ _ passes)) in omega (arith, steps))) refl;
         places = tt;
         ends = tt;
+        releases = tt;
       })
 
   -- U8
@@ -132,13 +135,14 @@ module _ (seats : ℕ) (s : State) (h : IsSound seats s) where
       (record {
         sound =
             sound_job_put s (job_in Disabled made.0) seats h (job_valid (is_to_disable s) made.0 made.2)
-            (and_second (is_disabling made.0.state) (not (has_placed_task s made.0.id)) passes);
+            (and_second (is_disabling made.0.state) (not (has_placed_task s made.0.id)) passes) (found_waits s (is_to_disable s) made.0 made.2) refl;
         falls =
             lex_first _ _ _ _
             (fewer_steps (is_to_disable s) made.0 (job_in Disabled made.0) made.2 refl
             (let steps = disabling_steps made.0.state (and_first _ _ passes) in omega (arith, steps))) refl;
         places = tt;
         ends = tt;
+        releases = tt;
       })
 
   module _ (job : JobRow) (found : find (has_job_ended s) s.jobs ≡ Some job) where
@@ -163,11 +167,14 @@ module _ (seats : ℕ) (s : State) (h : IsSound seats s) where
     completed_kept = record {
       sound =
           sound_job_put s (job_in JobCompleted job) seats h (job_valid (has_job_ended s) job found)
-          (and_second (is_closing job.state) (not (has_placed_task s job.id)) (and_first _ (not (has_unended_run s job.id)) passes));
+          (and_second (is_closing job.state) (not (has_placed_task s job.id)) (and_first _ (not (has_unended_run s job.id)) passes))
+          (found_waits s (has_job_ended s) job found)
+          (and_second (is_closing job.state && not (has_placed_task s job.id)) (not (has_unended_run s job.id)) passes);
       falls =
           lex_first _ _ _ _ (fewer_steps (has_job_ended s) job (job_in JobCompleted job) found refl (omega (arith, one_step))) refl;
       places = tt;
       ends = at_rest;
+      releases = tt;
     }
 
     -- a job that is removed
@@ -180,6 +187,7 @@ module _ (seats : ℕ) (s : State) (h : IsSound seats s) where
           (dropped (is_job job.id job) (same_equiv.refl job.id)) (omega (arith, one_step))) refl;
       places = tt;
       ends = at_rest;
+      releases = tt;
     }
       where
         dropped : (b : Bool) → b ≡ true → not b ≡ false

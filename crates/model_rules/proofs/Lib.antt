@@ -4,6 +4,7 @@ pub mod TaskSettled
 pub mod JobDropped
 pub mod JobsMoved
 pub mod WallTimes
+pub mod Releases
 pub mod PoolResized
 pub mod NodeAdded
 pub mod place

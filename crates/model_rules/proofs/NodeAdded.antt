@@ -34,6 +34,15 @@ use Rattle.model_lists.proofs.NextNumbers.{ordered}
 use Rattle.model_lists.proofs.RowSums.{count_none}
 use Rattle.model_tables.proofs.StartAdded.{HasNode, consistent_start_added, limited_start_added, unended_start_added}
 use Rattle.model_tables.proofs.StartsKept.{starts_on, starts_node_added, starts_run_added}
+use Rattle.std.proofs.Common.{sym, ◌∙◌}
+use Rattle.std.specs.Cmp.{nat_eq_equiv}
+use Rattle.batch_model.specs.Runs.{is_open_preparation}
+use Rattle.batch_model.specs.Variants.{JobRow}
+use Rattle.model_lists.proofs.RowLists.{any_append_same}
+use Rattle.batch_model.specs.Jobs.{is_job_completed}
+use Rattle.batch_model.specs.JobRules.{is_unended_of}
+use Rattle.batch_model.specs.Sound.{PreparationsAreSound, CompletedJobsRest, prepare_the_same}
+use Rattle.model_tables.proofs.PrepsKept.{preps_with_nodes, preps_run_added, rest_run_added}
 use Rattle.model_rules.proofs.Rules.{IsDueKept, from_map, from_then, from_only_if}
 
 -- consistent
@@ -238,7 +247,6 @@ limited_row s pool seat h left =
         covered = h.pools.covered;
         kept = h.pools.kept;
       };
-      built = record { preps = h.built.preps };
     }
 
 -- a start task that begins, while run numbers last
@@ -263,6 +271,62 @@ unended_begun s node (Some start) h = unended_start_added s node start h
 -- a pool gets a node, on which its start task begins
 unended_node_added : (s : State) (pool : PoolRow) (seat : ℕ) → UnendedRunsHaveNoEnd s → UnendedRunsHaveNoEnd (node_added s seat pool).state
 unended_node_added s pool seat h = unended_begun (add_node_row (new_node s pool seat) s) (new_node s pool seat) pool.start h
+
+-- preparations
+
+-- a start task that begins
+preps_begun : (s : State) (node : NodeRow) (start : Option StartTask) → PreparationsAreSound s → PreparationsAreSound (begin_start start node s)
+preps_begun s node None h = h
+preps_begun s node (Some start) h =
+    preps_run_added s (start_run s node start) refl
+    (none_any (λ other. prepare_the_same other (start_run s node start)) s.runs
+    (each_any (λ other. not (prepare_the_same other (start_run s node start)))
+    (λ other. true_not (off_last (is_open_preparation other && false && nat_eq other.node node.number))) s.runs))
+    refl refl h
+  where
+    off_last : (a : Bool) → (a && false) ≡ false
+    off_last true = refl
+    off_last false = refl
+
+-- a pool gets a node, which no run is on
+preps_node_added : (s : State) (pool : PoolRow) (seat : ℕ) → Each (λ (run : RunRow). nat_lt run.node s.next_node) s.runs → PreparationsAreSound s
+    → PreparationsAreSound (node_added s seat pool).state
+preps_node_added s pool seat below h =
+    preps_begun (add_node_row (new_node s pool seat) s) (new_node s pool seat) pool.start
+    (numbered
+    (preps_with_nodes s (add_node_row (new_node s pool seat) s).nodes (λ (run : RunRow). nat_lt run.node s.next_node)
+    (λ number. any_append_old (is_node number) s.nodes (new_node s pool seat))
+    (λ run l k. sym (any_append_same (is_node run.node) s.nodes (new_node s pool seat)
+    (nat_eq_equiv.symm s.next_node run.node ∙ below_other run.node s.next_node l)) ∙ k)
+    below h))
+  where
+    numbered : PreparationsAreSound (record s { nodes = (add_node_row (new_node s pool seat) s).nodes })
+        → PreparationsAreSound (add_node_row (new_node s pool seat) s)
+    numbered k = record {
+      jobs_of_preps = k.jobs_of_preps;
+      nodes_of_preps = k.nodes_of_preps;
+      running = k.running;
+      single = k.single;
+      prepared = k.prepared;
+      released = k.released;
+      tries = k.tries;
+    }
+
+-- completed jobs rest
+rest_node_added : (s : State) (pool : PoolRow) (seat : ℕ) → CompletedJobsRest s → CompletedJobsRest (node_added s seat pool).state
+rest_node_added s pool seat h = begun pool.start
+  where
+    off : (a : Bool) → (a && false) ≡ false
+    off true = refl
+    off false = refl
+
+    begun : (start : Option StartTask) → CompletedJobsRest (begin_start start (new_node s pool seat) (add_node_row (new_node s pool seat) s))
+    begun None = h
+    begun (Some start) =
+        rest_run_added (add_node_row (new_node s pool seat) s) (start_run (add_node_row (new_node s pool seat) s) (new_node s pool seat) start)
+        (each_any
+        (λ (job : JobRow). not (is_job_completed job.state && is_unended_of job.id (start_run (add_node_row (new_node s pool seat) s) (new_node s pool seat) start)))
+        (λ job. true_not (off (is_job_completed job.state))) s.jobs) h
 
 -- start tasks
 
@@ -373,10 +437,13 @@ module _ (seats : ℕ) (s : State) (h : IsSound seats s) where
       limited = limited_node_added s pool seat h.limited nodes_left runs_left;
       unended = unended_node_added s pool seat h.unended;
       starts = starts_new_node seats s pool seat h.consistent found h.starts;
+      preparing = preps_node_added s pool seat h.consistent.numbers.nodes_of_runs h.preparing;
+      resting = rest_node_added s pool seat h.resting;
     };
     falls = node_falls s pool seat found;
     places = tt;
     ends = tt;
+    releases = tt;
   }
 
   -- U15

@@ -9,7 +9,7 @@ use Rattle.bt_rows.specs.Keys.{same_pool, same_task, same_run}
 use Rattle.bt_rows.specs.Ranges.{passes_if_some, is_slot_count, is_target, is_resize_timeout, is_start_in_range}
 use Rattle.batch_model.specs.Finding.{Each, change_where}
 use Rattle.batch_model.specs.Rows.{is_pool}
-use Rattle.batch_model.specs.Runs.{is_unended, is_start, is_main, is_work, is_preparation, is_release, is_present, ending_of}
+use Rattle.batch_model.specs.Runs.{is_unended, is_main, is_work, is_preparation, is_release, is_present, ending_of}
 use Rattle.batch_model.specs.Tasks.{is_placed, is_placed_in, is_undisturbed, is_busy, main_ending}
 use Rattle.batch_model.specs.Jobs.{is_quiet}
 use Rattle.batch_model.specs.Pools.{is_stopping, is_resizing}
@@ -23,8 +23,16 @@ use Rattle.batch_model.specs.WellFormed.{is_closed_if_completed, has_pool_row, h
 use Rattle.batch_model.specs.WellFormed.{has_no_placed_if_quiet, is_deleting_whole, scales}
 use Rattle.batch_model.specs.Variants.{State, PoolRow, Alloc, Steady, Resizing, Stopping, JobRow, TaskRow, RunRow, RunState, Waiting, Queued, Taken, Ended}
 use Rattle.batch_model.specs.Variants.{Withdrawn, SampleRow, ScaleRow}
+use Rattle.batch_model.specs.Runs.{is_waiting, is_open_preparation, is_coordination}
+use Rattle.std.proofs.Common.{[], ◌∷◌}
+use Rattle.std.specs.Option.{option_map_or}
+use Rattle.batch_model.specs.Finding.{names}
+use Rattle.batch_model.specs.Jobs.{is_job_completed}
+use Rattle.batch_model.specs.JobRules.{is_unended_of, has_unended_run}
+use Rattle.batch_model.specs.Sound.{has_running_prep, prepare_the_same, is_prepared_run, waits_in, has_known_release, is_at_rest}
+use Rattle.bt_rows.specs.Lists.{AreDistinct}
 use Rattle.model_lists.proofs.Tests.{and_first, or_first, or_second, true_not}
-use Rattle.model_lists.proofs.RowLists.{each_any, each_weaker}
+use Rattle.model_lists.proofs.RowLists.{each_any, each_weaker, each_head, each_tail, none_any}
 use Rattle.model_lists.proofs.ChangedRows.{changed, passes_changed, each_change, each_change_same, any_change_same, find_change}
 use Rattle.model_lists.proofs.DistinctLists.{distinct_change}
 
@@ -53,6 +61,37 @@ not_both : (a b c : Bool) → not b ≡ true → (not (a && b) || c) ≡ true
 not_both a true c h = cc
 not_both true false c h = refl
 not_both false false c h = refl
+
+-- tests of which the second fails
+neither : (a b : Bool) → not b ≡ true → not (a && b) ≡ true
+neither a true h = cc
+neither true false h = refl
+neither false false h = refl
+
+not_begun : (a b c d e : Bool) → not b ≡ true → (not (((a && b) && c) && d) || e) ≡ true
+not_begun a true c d e h = cc
+not_begun true false c d e h = refl
+not_begun false false c d e h = refl
+
+unasked : (a c : Bool) → (not (a && false) || c) ≡ true
+unasked true c = refl
+unasked false c = refl
+
+-- no two runs prepare the same where none is unended
+none_prepare : (runs : List RunRow) → Each is_over runs → AreDistinct prepare_the_same runs
+none_prepare [] h = tt
+none_prepare (run ∷ runs) h = (
+  none_any (prepare_the_same run) runs
+      (each_any (λ other. not (prepare_the_same run other))
+      (λ other. alone (is_preparation run.kind) (is_unended run.state) (is_open_preparation other) (nat_eq run.node other.node)
+      (option_map_or (names run.job) other.job false) (each_head is_over run runs h)) runs),
+  none_prepare runs (each_tail is_over run runs h),
+)
+  where
+    alone : (a b c d e : Bool) → not b ≡ true → not ((((a && b) && c) && d) && e) ≡ true
+    alone a true c d e k = cc
+    alone true false c d e k = refl
+    alone false false c d e k = refl
 
 -- tests of a run's values, moments and order, once it has ended at the last moment
 run_ends : (value made taken ended to last now : Bool) → now ≡ true → (value && (made && taken && ended) && (to && last)) ≡ true
@@ -259,8 +298,8 @@ module _ (s : State) (h : IsWellFormed s) where
     slots = refl;
     built = record {
       runs =
-          each_weaker is_over (λ run. is_start run.kind || is_main run.kind || not (is_unended run.state))
-          (λ run. or_second (is_start run.kind || is_main run.kind)) (opening s).runs over;
+          each_weaker is_over (λ run. not (is_coordination run.kind && is_unended run.state))
+          (λ run. neither (is_coordination run.kind) (is_unended run.state)) (opening s).runs over;
       nodes = refl;
     };
   }
@@ -319,7 +358,6 @@ module _ (s : State) (h : IsWellFormed s) where
     counts = opening_counts;
     quiet = each_weaker (has_no_placed_if_quiet s) (has_no_placed_if_quiet (opening s)) quiet_kept s.jobs h.quiet;
     pools = opening_pools;
-    built = record { preps = refl };
   }
 
 -- the opening of well-formed tables is sound, whatever the seats
@@ -329,4 +367,28 @@ sound_by_opening seats s h = record {
   limited = opening_limited s h;
   unended = each_weaker is_over has_no_end_yet (λ run. or_first (is_none run.ended)) (opening s).runs (runs_over s.moment s.runs);
   starts = record { usable = refl; tries = refl };
+  preparing = record {
+    jobs_of_preps = refl;
+    nodes_of_preps = refl;
+    running =
+        each_weaker is_over (has_running_prep (opening s)) (λ run. not_both (is_preparation run.kind) (is_unended run.state) false) (opening s).runs
+        (runs_over s.moment s.runs);
+    single = none_prepare (opening s).runs (runs_over s.moment s.runs);
+    prepared =
+        each_weaker is_over (is_prepared_run (opening s))
+        (λ run. not_begun (is_work run.kind) (is_unended run.state) (not (is_waiting run.state)) (waits_in (opening s) run) false) (opening s).runs
+        (runs_over s.moment s.runs);
+    released = each_any (has_known_release (opening s)) (λ run. unasked (is_release run.kind) false) (opening s).runs;
+    tries = refl;
+  };
+  resting =
+      each_any (is_at_rest (opening s))
+      (λ job. rests (is_job_completed job.state) (has_unended_run (opening s) job.id)
+      (none_any (is_unended_of job.id) (opening s).runs
+      (each_weaker is_over (λ run. not (is_unended_of job.id run)) (λ run. neither (names run.job job.id) (is_unended run.state)) (opening s).runs
+      (runs_over s.moment s.runs)))) s.jobs;
 }
+  where
+    rests : (a b : Bool) → b ≡ false → not (a && b) ≡ true
+    rests true b e = rw e refl
+    rests false b e = refl

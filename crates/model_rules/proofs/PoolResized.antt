@@ -26,6 +26,7 @@ use Rattle.model_lists.proofs.DistinctLists.{distinct_change}
 use Rattle.model_lists.proofs.Tests.{and_first, or_first, or_cases, and_second}
 use Rattle.model_lists.proofs.KeyedLists.{sum_by-put_row}
 use Rattle.model_tables.proofs.StartsKept.{none_awaited, starts_with_pools}
+use Rattle.model_tables.proofs.PrepsKept.{preps_with_others}
 use Rattle.model_rules.proofs.Rules.{IsDueKept, from_map}
 
 -- consistent
@@ -155,7 +156,6 @@ module _ (s : State) (pool : PoolRow) where
       covered = h.pools.covered;
       kept = h.pools.kept;
     };
-    built = record { preps = h.built.preps };
   }
 
 module _ (s : State) (pool : PoolRow) (h : IsWithinLimits s) (f : find (ends_resize s) s.pools ≡ Some pool) where
@@ -239,10 +239,13 @@ module _ (seats : ℕ) (s : State) (h : IsSound seats s) where
       limited = limited_steady s pool h.limited found;
       unended = h.unended;
       starts = starts_pool_put seats s (steady pool) pool (ends_resize s) refl refl found h.consistent h.starts;
+      preparing = preps_with_others s (pool_steady s pool).state.pools s.tasks s.moment h.preparing;
+      resting = h.resting;
     };
     falls = rest_falls seats s pool pool.error h found;
     places = tt;
     ends = tt;
+    releases = tt;
   }
 
   -- a pool whose timeout is over
@@ -253,10 +256,13 @@ module _ (seats : ℕ) (s : State) (h : IsSound seats s) where
       limited = limited_timed_out s pool h.limited found;
       unended = h.unended;
       starts = starts_pool_put seats s (timed_out pool) pool (ends_resize s) refl refl found h.consistent h.starts;
+      preparing = preps_with_others s (pool_timed_out s pool).state.pools s.tasks s.moment h.preparing;
+      resting = h.resting;
     };
     falls = rest_falls seats s pool (Some AllocationTimedOut) h found;
     places = tt;
     ends = tt;
+    releases = tt;
   }
 
   -- one or the other

@@ -7,15 +7,16 @@ use Rattle.batch_model.specs.Steps.{DueStep}
 use Rattle.batch_model.specs.Variants.{State}
 use Rattle.batch_model.specs.Sound.{IsSound}
 use Rattle.batch_model.specs.Measure.{rank}
-use Rattle.batch_model.specs.Laws.{PlacesWithinSlots, EndsAtRest}
+use Rattle.batch_model.specs.Laws.{PlacesWithinSlots, EndsAtRest, ReleasesOnce}
 
--- the tables after the step are sound, its rank is lower, if it places a task, then within free slots, and if it ends a job,
--- then one without placed tasks and unended runs
+-- the tables after the step are sound, its rank is lower, if it places a task, then within free slots, if it ends a job,
+-- then one without placed tasks and unended runs, and if it makes a release run, then the first one of a prepared node
 pub record IsDueKept (seats : ℕ) (s : State) (step : DueStep) : Type 0 where
   pub sound : IsSound seats step.state
   pub falls : lex_lt (rank step.state) (rank s) ≡ true
   pub places : PlacesWithinSlots s step.due step.state
   pub ends : EndsAtRest s step.due
+  pub releases : ReleasesOnce s step.due
 
 module _ {A B : Type 0} where
   -- a value made of another, which there is

@@ -24,6 +24,7 @@ use Rattle.model_lists.proofs.ChangedRows.{each_change_same}
 use Rattle.model_lists.proofs.NextNumbers.{is_not_after_itself}
 use Rattle.model_lists.proofs.Lengths.{change_keeps_length}
 use Rattle.model_lists.proofs.KeyedLists.{sum_by-put_row}
+use Rattle.model_tables.proofs.PrepsKept.{preps_with_tasks}
 use Rattle.model_rules.proofs.settle.SettledRows.{over_if_settled, settled_to, fits_closing, consistent_settled}
 use Rattle.model_rules.proofs.Rules.{IsDueKept, from_map, from_then, less_placed}
 
@@ -104,7 +105,6 @@ module _ (s : State) (task : TaskRow) where
       covered = h.pools.covered;
       kept = h.pools.kept;
     };
-    built = record { preps = h.built.preps };
   }
 
 module _ (s : State) (task : TaskRow) (test : TaskRow → Bool) (h : IsWithinLimits s) (f : find test s.tasks ≡ Some task) where
@@ -224,10 +224,13 @@ module _ (seats : ℕ) (s : State) (h : IsSound seats s) where
       limited = limited_requeued s task (is_to_settle s) h.limited found;
       unended = h.unended;
       starts = record { usable = h.starts.usable; tries = h.starts.tries };
+      preparing = preps_with_tasks s (requeue s task).state.tasks h.preparing;
+      resting = h.resting;
     };
     falls = requeued_falls seats s task h found;
     places = tt;
     ends = tt;
+    releases = tt;
   }
 
   -- a task that is completed now
@@ -238,6 +241,8 @@ module _ (seats : ℕ) (s : State) (h : IsSound seats s) where
     limited = limited_completed s task (is_to_settle s) h.limited found closing now;
     unended = h.unended;
     starts = record { usable = h.starts.usable; tries = h.starts.tries };
+    preparing = preps_with_tasks s (put_task (completed closing task) s).tasks h.preparing;
+    resting = h.resting;
   }
 
   -- as its main run ended
@@ -247,6 +252,7 @@ module _ (seats : ℕ) (s : State) (h : IsSound seats s) where
     falls = completed_falls seats s task (closed_by s.moment ending) h found;
     places = tt;
     ends = tt;
+    releases = tt;
   }
 
   -- as terminated
@@ -256,6 +262,7 @@ module _ (seats : ℕ) (s : State) (h : IsSound seats s) where
     falls = completed_falls seats s task (terminated_closing s.moment) h found;
     places = tt;
     ends = tt;
+    releases = tt;
   }
 
   -- as one whose wall time is over
@@ -265,6 +272,7 @@ module _ (seats : ℕ) (s : State) (h : IsSound seats s) where
     falls = completed_falls seats s task (timed_out_closing s.moment) h found;
     places = tt;
     ends = tt;
+    releases = tt;
   }
 
   -- one of these

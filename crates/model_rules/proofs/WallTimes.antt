@@ -22,6 +22,13 @@ use Rattle.model_lists.proofs.RowLists.{find_test}
 use Rattle.model_lists.proofs.RowSums.{sum_change_same, count_found_less}
 use Rattle.model_tables.proofs.OneStopped.{sound_one_stopped}
 use Rattle.model_tables.proofs.JobsStopped.{sound_closed}
+use Rattle.batch_model.specs.Runs.{is_taken, is_release, halted_in, halted}
+use Rattle.batch_model.specs.Stops.{is_run_of_stopped}
+use Rattle.batch_model.specs.WallTimes.{can_be_asked}
+use Rattle.batch_model.specs.Variants.{RunRow, RunState, Waiting, Queued, Taken, Ended, Withdrawn}
+use Rattle.model_lists.proofs.RowLists.{each_any}
+use Rattle.model_lists.proofs.RowSums.{count_change_at_most}
+use Rattle.model_tables.proofs.JobPut.{found_waits}
 use Rattle.model_rules.proofs.JobsMoved.{job_valid, fewer_steps}
 use Rattle.model_rules.proofs.Rules.{IsDueKept, from_map}
 
@@ -34,6 +41,25 @@ started_if_out (Some from) wall now h = refl
 not_beside : (a : Bool) → (a && false) ≡ false
 not_beside true = refl
 not_beside false = refl
+
+-- a run that can be asked to stop after it was halted could before
+asked_before : (now : ℕ) (run : RunRow) → can_be_asked (halted now run) ≡ true → can_be_asked run ≡ true
+asked_before now run h = by_state run.state h
+  where
+    off : {P : Type 0} (a b : Bool) → ((a && false) && b) ≡ true → P
+    off true b k = cc
+    off false b k = cc
+
+    off_last : {P : Type 0} (a : Bool) → (a && false) ≡ true → P
+    off_last true k = cc
+    off_last false k = cc
+
+    by_state : (state : RunState) → can_be_asked (halted_in state now run) ≡ true → can_be_asked run ≡ true
+    by_state Waiting k = off (is_release run.kind) (not run.asked) k
+    by_state Queued k = off (is_release run.kind) (not run.asked) k
+    by_state Taken k = off_last (is_release run.kind && is_taken run.state) k
+    by_state (Ended ending) k = k
+    by_state Withdrawn k = k
 
 -- a job that is not past has more steps than a terminating one
 open_steps : (state : JobState) → not (is_past state) ≡ true → 1 < steps_of_job state
@@ -89,11 +115,16 @@ module _ (seats : ℕ) (s : State) (h : IsSound seats s) where
         (λ x t. refl) s.tasks
         in
         let less = fewer in
+        let no_more =
+        count_change_at_most (is_run_of_stopped (is_task task.job task.id) s) (halted s.moment) (λ run. true) can_be_asked
+        (λ run k t. asked_before s.moment run) s.runs (each_any (λ run. true) (λ run. refl) s.runs)
+        in
         record {
           sound = sound_one_stopped seats s task.job task.id WantWall h;
-          falls = lex_next _ _ _ _ (omega arith) (lex_next _ _ _ _ (omega arith) (lex_first _ _ _ _ (omega (arith, same_ends, less)) refl));
+          falls = lex_next _ _ _ _ (omega arith) (lex_next _ _ _ _ (omega arith) (lex_first _ _ _ _ (omega (arith, same_ends, less, no_more)) refl));
           places = tt;
           ends = tt;
+          releases = tt;
         }
 
   -- U2
@@ -111,10 +142,12 @@ module _ (seats : ℕ) (s : State) (h : IsSound seats s) where
       in
       subst (IsDueKept seats s) made.1
       (record {
-        sound = sound_closed seats s Terminating wall_time_over made.0 h (job_valid seats s h (is_job_timed_out s) made.0 made.2) wall_time_reason refl;
+        sound = sound_closed seats s Terminating wall_time_over made.0 h (job_valid seats s h (is_job_timed_out s) made.0 made.2) wall_time_reason refl
+            (found_waits s (is_job_timed_out s) made.0 made.2);
         falls =
             lex_first _ _ _ _
             (fewer_steps seats s h (is_job_timed_out s) made.0 (job_for Terminating wall_time_over made.0) made.2 refl (open_steps made.0.state open_before)) refl;
         places = tt;
         ends = tt;
+        releases = tt;
       })

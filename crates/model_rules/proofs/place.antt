@@ -3,3 +3,4 @@ pub mod NodeChosen
 pub mod Consistent
 pub mod Limits
 pub mod Slots
+pub mod Prepared

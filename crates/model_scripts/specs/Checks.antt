@@ -1,13 +1,13 @@
 -- Tests of whole scripts: after each step the tables are sound, and each due step lowers the numbers that due steps lower.
 -- The tests of soundness are those of `batch_model`, which computes here.
-use Rattle.std.specs.Prelude.{ℕ, zero, suc, ◌+◌, Bool, true, false, not, ◌&&◌, ◌||◌, nat_eq, nat_lt, nat_le, List, [], ◌∷◌, length, Some, None}
+use Rattle.std.specs.Prelude.{ℕ, zero, suc, ◌+◌, Bool, true, false, not, ◌&&◌, nat_lt, nat_le, List, [], ◌∷◌, length, Some, None}
 use Rattle.std.specs.List.{list_any, list_all}
 use Rattle.bt_base.proofs.Turns.{lex_lt}
 use Rattle.bt_base.specs.Moments.{last_moment}
 use Rattle.bt_rows.specs.Ranges.{is_from_to}
 use Rattle.bt_rows.specs.Keys.{same_pool, same_node, same_job, same_task, same_run, same_prep, same_sample, same_scale}
-use Rattle.batch_model.specs.Variants.{State, empty_state, NodeRow, RunRow, SampleRow, ScaleRow}
-use Rattle.batch_model.specs.Runs.{is_start, is_main, is_unended}
+use Rattle.batch_model.specs.Variants.{State, empty_state, NodeRow, RunRow, PrepRow, SampleRow, ScaleRow}
+use Rattle.batch_model.specs.Runs.{is_coordination, is_unended}
 use Rattle.batch_model.specs.Nodes.{is_leaving}
 use Rattle.batch_model.specs.WellFormed as well
 use Rattle.batch_model.specs.Sound as sound
@@ -77,7 +77,7 @@ has_fitting_nodes s = all_of
     ∷ list_all (sound.belongs s) s.runs
     ∷ list_all (sound.fits_nodes s) s.runs
     ∷ list_all sound.names_no_task s.runs
-    ∷ list_all (λ run. is_start run.kind || is_main run.kind || not (is_unended run.state)) s.runs
+    ∷ list_all (λ run. not (is_coordination run.kind && is_unended run.state)) s.runs
     ∷ list_all (sound.can_be_settled s) s.tasks
     ∷ [])
 
@@ -104,7 +104,7 @@ has_counts_in_range s = all_of
     ∷ is_from_to 1 (last_number + 64) s.next_run
     ∷ [])
 
--- quiet jobs place nothing and completed ones rest, pools, formulas and samples fit each other, and nothing is prepared
+-- quiet jobs place nothing and completed ones rest, and pools, formulas and samples fit each other
 abbrev pub has_fitting_pools : State → Bool
 has_fitting_pools s = all_of
     (list_all (well.has_no_placed_if_quiet s) s.jobs
@@ -116,7 +116,6 @@ has_fitting_pools s = all_of
     ∷ are_distinct well.are_labels_out_of_order s.samples
     ∷ list_all (well.is_covered s) s.samples
     ∷ list_all (well.has_kept s) s.samples
-    ∷ nat_eq (length s.preps) 0
     ∷ [])
 
 -- the rows fit each other
@@ -131,9 +130,22 @@ is_within_limits s = has_valid_rows s && has_counts_in_range s && has_fitting_po
 abbrev pub has_sound_starts : State → Bool
 has_sound_starts s = list_all (sound.has_usable_start s) s.nodes && list_all (well.has_few_tries s) s.nodes
 
+-- preparations fit jobs, nodes and runs, and release runs are made once
+abbrev pub has_sound_preparations : State → Bool
+has_sound_preparations s = all_of
+    (list_all (λ (prep : PrepRow). well.has_job_row s prep.job) s.preps
+    ∷ list_all (λ (prep : PrepRow). sound.has_node_row s prep.node) s.preps
+    ∷ list_all (sound.has_running_prep s) s.runs
+    ∷ are_distinct sound.prepare_the_same s.runs
+    ∷ list_all (sound.is_prepared_run s) s.runs
+    ∷ list_all (sound.has_known_release s) s.runs
+    ∷ list_all (well.has_few_preparations s) s.preps
+    ∷ [])
+
 -- all of these, and runs that have not ended have no moment at which they ended
 abbrev pub is_sound : State → Bool
-is_sound s = is_consistent s && is_within_limits s && list_all sound.has_no_end_yet s.runs && has_sound_starts s
+is_sound s =
+    is_consistent s && is_within_limits s && list_all sound.has_no_end_yet s.runs && has_sound_starts s && has_sound_preparations s
 
 -- the tables after due steps to rest, and whether each of these steps was good
 pub record Tested : Type 0 where

@@ -8,7 +8,7 @@ use Rattle.bt_rows.specs.declared.reply.Reply.TheVariants.{Status, Refused}
 use Rattle.bt_rows.specs.declared.refusal.Refusal.TheVariants as refusal
 use Rattle.bt_rows.specs.declared.due.ResizeEnd.TheVariants.{Reached}
 use Rattle.bt_rows.specs.declared.due.Due.TheVariants.{PoolResized, NodeAdded, TaskPlaced, TaskTimedOut}
-use Rattle.batch_model.specs.Variants.{empty_state, Steady, Usable, JobActive, Active, Placed, Code, TaskRun, Queued, Ended, StartTask, NoCode}
+use Rattle.batch_model.specs.Variants.{empty_state, Steady, Usable, JobActive, Active, Placed, Code, TaskRun, Queued, Ended, NoCode}
 use Rattle.batch_model.specs.Events.{event_step}
 use Rattle.model_scripts.specs.Scripts.{Call, at, Line, line, Sheet}
 use Rattle.model_scripts.specs.Bodies.{pool_body, job_body, task_body}
@@ -46,45 +46,6 @@ unplaced_tasks_rows = record {
       ∷ (codes "j", codes "e", Placed, 1, 0, None, None)
       ∷ [];
   runs = (1, TaskRun, 1, codes "p", (Some (codes "j"), Some (codes "e"), 1), Queued, 0, None, None) ∷ [];
-  moment = 0;
-}
-
--- a preparation task
-abbrev pub prep_body : StartTask
-prep_body = record { line = codes "w"; retries = pos 0; wait = true }
-
--- a job with a preparation, and then one without
-abbrev pub unheeded_jobs : List Call
-unheeded_jobs =
-    at 0 (AddPool (pool_body (codes "p") 1))
-    ∷ at 0 (AddJob (codes "d") (record (job_body (codes "p")) { prep = Some prep_body }))
-    ∷ at 0 (AddJob (codes "e") (job_body (codes "p")))
-    ∷ at 0 (AddTask (codes "d") (task_body (codes "t")))
-    ∷ at 0 (AddTask (codes "e") (task_body (codes "t")))
-    ∷ []
-
-abbrev pub unheeded_jobs_lines : List Line
-unheeded_jobs_lines =
-    line (Status 201) (NodeAdded (codes "p") 1 1 ∷ PoolResized (codes "p") Reached ∷ [])
-    ∷ line (Status 201) []
-    ∷ line (Status 201) []
-    ∷ line (Status 201) []
-    ∷ line (Status 201) (TaskPlaced (codes "e") (codes "t") 1 1 ∷ [])
-    ∷ []
-
-abbrev pub unheeded_jobs_rows : Sheet
-unheeded_jobs_rows = record {
-  pools = (codes "p", false, Steady, 1, 0) ∷ [];
-  nodes = (1, codes "p", 1, Usable) ∷ [];
-  jobs =
-      (codes "d", codes "p", JobActive, 0)
-      ∷ (codes "e", codes "p", JobActive, 0)
-      ∷ [];
-  tasks =
-      (codes "d", codes "t", Active, 0, 0, None, None)
-      ∷ (codes "e", codes "t", Placed, 1, 0, None, None)
-      ∷ [];
-  runs = (1, TaskRun, 1, codes "p", (Some (codes "e"), Some (codes "t"), 1), Queued, 0, None, None) ∷ [];
   moment = 0;
 }
 

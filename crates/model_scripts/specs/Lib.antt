@@ -10,6 +10,8 @@ pub mod LaterScripts
 pub mod OpeningScripts
 pub mod PlacingScripts
 pub mod PoolScripts
+pub mod PreparationScripts
+pub mod ReleaseScripts
 pub mod Scripts
 pub mod SlotScripts
 pub mod StartScripts

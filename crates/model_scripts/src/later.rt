@@ -13,13 +13,6 @@ pub fn tasks_are_not_placed_yet()
     ensures good { is_good row.unplaced_tasks ≡ true }
 {}
 
-/// A job with a preparation is not heeded yet, and holds up none.
-pub fn jobs_are_not_heeded_yet()
-    ensures lines { lines_of row.unheeded_jobs ≡ row.unheeded_jobs_lines }
-    ensures rows { rows_after row.unheeded_jobs ≡ row.unheeded_jobs_rows }
-    ensures good { is_good row.unheeded_jobs ≡ true }
-{}
-
 /// A pool that scales automatically is not read yet.
 pub fn pools_that_scale_are_not_read_yet()
     ensures lines { lines_of row.unheeded_pools ≡ row.unheeded_pools_lines }

@@ -13,6 +13,8 @@ mod later;
 mod openings;
 mod placing;
 mod pools;
+mod preparations;
+mod releases;
 mod slots;
 mod starts;
 mod ticks;
@@ -44,8 +46,8 @@ pub use jobs::{
     a_termination_goes_before_a_requeue, priorities_go_before_the_order_of_jobs,
 };
 pub use later::{
-    events_are_not_read_yet, jobs_are_not_heeded_yet, pools_that_scale_are_not_read_yet,
-    retries_are_not_made_yet, stopped_tasks_are_not_settled_yet, tasks_are_not_placed_yet,
+    events_are_not_read_yet, pools_that_scale_are_not_read_yet, retries_are_not_made_yet,
+    stopped_tasks_are_not_settled_yet, tasks_are_not_placed_yet,
 };
 pub use openings::{
     a_taken_run_is_made_again, an_ending_is_settled_after_the_opening, empty_tables_open_as_empty,
@@ -58,6 +60,18 @@ pub use placing::{
 pub use pools::{
     a_pool_gets_its_nodes, at_most_64_pools, ids_of_pools_have_no_case, nodes_are_as_many_as_seats,
     pools_share_seats,
+};
+pub use preparations::{
+    a_failed_preparation_requeues_its_tasks, a_node_is_prepared_first,
+    a_preparation_is_asked_to_stop, a_preparation_is_not_waited_for, a_preparation_is_tried_again,
+    a_preparation_without_end, a_queued_preparation_is_halted,
+    a_terminated_job_halts_its_preparations, nodes_are_prepared_once,
+    preparations_are_gone_after_the_opening, preparations_come_to_an_end,
+};
+pub use releases::{
+    a_deleted_job_is_released, a_job_is_prepared_and_released,
+    a_release_run_is_ended_by_the_opening, a_release_run_is_stopped_in_time,
+    nodes_that_served_are_released, releases_come_to_an_end,
 };
 pub use slots::{
     a_task_fits_no_smaller_node, a_wide_task_is_passed_over, fill_types_go_before_numbers,

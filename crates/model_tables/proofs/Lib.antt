@@ -6,9 +6,13 @@ pub mod TasksKept
 pub mod NodeChanged
 pub mod StartAdded
 pub mod StartsKept
+pub mod PrepsKept
 pub mod JobPut
 pub mod TasksStopped
+pub mod RunsHalted
+pub mod JobRunAdded
+pub mod PrepsChanged
+pub mod PrepsHalted
 pub mod JobsStopped
 pub mod OneStopped
-pub mod JobsRest
 pub mod WellFormedTables

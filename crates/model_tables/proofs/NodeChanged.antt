@@ -109,5 +109,4 @@ module _ (test : NodeRow → Bool) (stage_of : NodeRow → NodeStage) (tries_of 
       covered = h.pools.covered;
       kept = h.pools.kept;
     };
-    built = record { preps = h.built.preps };
   }

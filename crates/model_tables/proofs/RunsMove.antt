@@ -11,7 +11,7 @@ use Rattle.bt_rows.specs.Lists.{AreDistinct}
 use Rattle.bt_rows.specs.Keys.{same_run}
 use Rattle.batch_model.specs.Finding.{Each, names}
 use Rattle.batch_model.specs.Rows.{is_pool}
-use Rattle.batch_model.specs.Runs.{is_unended, is_start, is_main, is_work, is_preparation, is_release, is_run_of_task, is_present, is_busy_for, ending_of}
+use Rattle.batch_model.specs.Runs.{is_unended, is_main, is_work, is_preparation, is_coordination, is_release, is_run_of_task, is_present, is_busy_for, ending_of}
 use Rattle.batch_model.specs.Tasks.{is_placed, is_undisturbed, is_busy, main_ending}
 use Rattle.batch_model.specs.Slots.{owns, held_slots, holds_on}
 use Rattle.batch_model.specs.Sound.{IsConsistent, has_node_while_unended, belongs, can_be_settled, fits_nodes, names_no_task, has_node_row}
@@ -53,12 +53,11 @@ unless_both : (k a b c : Bool) → (a ≡ true → b ≡ true) → (not (k && b)
 unless_both true a b c h m = unless_more a b c h m
 unless_both false a b c h m = refl
 
--- a test beside those of the kind that the new state has ended
-or_ended : (j k a b : Bool) → (a ≡ true → b ≡ true) → (j || k || not b) ≡ true → (j || k || not a) ≡ true
-or_ended true k a b h m = refl
-or_ended false true a b h m = refl
-or_ended false false true b h m = rw (h refl) at m
-or_ended false false false b h m = refl
+-- two tests that fail together also fail where the second follows from another
+ended_not_both : (k a b : Bool) → (a ≡ true → b ≡ true) → not (k && b) ≡ true → not (k && a) ≡ true
+ended_not_both true true b h m = rw (h refl) at m
+ended_not_both true false b h m = refl
+ended_not_both false a b h m = refl
 
 -- slots
 
@@ -91,7 +90,7 @@ pub same_by_third : {K : Type 0} {E : K → K → Bool} (e : IsEquivalence E) (a
 same_by_third e a b c h k = e.congr a c b h ∙ (e.symm c b ∙ k)
 
 -- both name one id
-both_name : (a b : Option (List ℕ)) (id : List ℕ) → names a id ≡ true → names b id ≡ true → option_map_or (names a) b false ≡ true
+pub both_name : (a b : Option (List ℕ)) (id : List ℕ) → names a id ≡ true → names b id ≡ true → option_map_or (names a) b false ≡ true
 both_name None b id h k = cc
 both_name (Some a) None id h k = cc
 both_name (Some a) (Some b) id h k = same_by_third same_equiv a b id h k
@@ -284,7 +283,7 @@ module _ (into : RunRow → RunState) (taken_at ended_at : RunRow → Option ℕ
     built = record {
       runs =
           each_map g is_built is_built
-          (λ run e. or_ended (is_start run.kind) (is_main run.kind) (is_unended (into run)) (is_unended run.state) (ended run) e) s.runs h.built.runs;
+          (λ run e. ended_not_both (is_coordination run.kind) (is_unended (into run)) (is_unended run.state) (ended run) e) s.runs h.built.runs;
       nodes = h.built.nodes;
     };
   }

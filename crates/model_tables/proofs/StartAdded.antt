@@ -5,7 +5,7 @@ use Rattle.bt_base.specs.Ids.{same}
 use Rattle.bt_rows.specs.Keys.{same_run}
 use Rattle.batch_model.specs.Finding.{Each}
 use Rattle.batch_model.specs.Rows.{is_node, add_run_row}
-use Rattle.batch_model.specs.Runs.{is_start, is_main, is_unended, is_present, is_busy_for, start_run}
+use Rattle.batch_model.specs.Runs.{is_main, is_coordination, is_unended, is_present, is_busy_for, start_run}
 use Rattle.batch_model.specs.Tasks.{is_placed}
 use Rattle.batch_model.specs.Slots.{owns, holds_on, held_slots}
 use Rattle.batch_model.specs.Sound.{IsConsistent, has_node_row, has_node_while_unended, belongs, can_be_settled, is_of_pool, fits_nodes, names_no_task}
@@ -34,7 +34,7 @@ and_none true = refl
 and_none false = refl
 
 -- a number that some row has is below the next one
-row_below : (s : State) (number : ℕ) → has_node_row s number ≡ true → Each (λ (node : NodeRow). nat_lt node.number s.next_node) s.nodes
+pub row_below : (s : State) (number : ℕ) → has_node_row s number ≡ true → Each (λ (node : NodeRow). nat_lt node.number s.next_node) s.nodes
     → nat_lt number s.next_node ≡ true
 row_below s number there below =
     let row = find_any (is_node number) s.nodes there in
@@ -154,7 +154,7 @@ consistent_start_added seats s node start h has = record {
   slots = each_weaker (has_slots_for s) (has_slots_for (add_run_row (start_run s node start) s)) (slots_still s node start) s.nodes h.slots;
   built = record {
     runs =
-        each_append (λ (each : RunRow). is_start each.kind || is_main each.kind || not (is_unended each.state)) s.runs
+        each_append (λ (each : RunRow). not (is_coordination each.kind && is_unended each.state)) s.runs
         (start_run s node start) h.built.runs refl;
     nodes = h.built.nodes;
   };
@@ -215,7 +215,6 @@ limited_start_added s node start h left =
         covered = h.pools.covered;
         kept = h.pools.kept;
       };
-      built = record { preps = h.built.preps };
     }
 
 -- a new start run has no end

@@ -42,7 +42,7 @@ pub few_still : (tries more less next : ℕ) → less ≤ more → nat_lt (tries
 few_still tries more less next h k = grind (arith, nat_tests)
 
 -- one more at most, and a next number that is one higher
-few_next : (tries count after next : ℕ) (b : Bool) → after ≡ count + cond b 1 0 → nat_lt (tries + count) next ≡ true → nat_lt (tries + after) (next + 1) ≡ true
+pub few_next : (tries count after next : ℕ) (b : Bool) → after ≡ count + cond b 1 0 → nat_lt (tries + count) next ≡ true → nat_lt (tries + after) (next + 1) ≡ true
 few_next tries count after next true h k = grind (arith, nat_tests)
 few_next tries count after next false h k = grind (arith, nat_tests)
 

@@ -6,7 +6,7 @@ use Rattle.std.specs.Option.{option_map, option_and_then}
 use Rattle.bt_rows.specs.Keys.{same_task, same_run}
 use Rattle.bt_rows.specs.Ranges.{passes_if_some}
 use Rattle.batch_model.specs.Finding.{Each}
-use Rattle.batch_model.specs.Runs.{is_unended, is_start, is_main, is_work, is_preparation, is_release, is_present, is_busy_for, ending_of, withdrawn, asked_to_stop}
+use Rattle.batch_model.specs.Runs.{is_unended, is_waiting, is_coordination, is_start, is_main, is_work, is_preparation, is_release, is_present, is_busy_for, ending_of, withdrawn, asked_to_stop}
 use Rattle.batch_model.specs.Runs.{halted_in, halted}
 use Rattle.batch_model.specs.Tasks.{is_placed, is_placed_in, is_undisturbed, is_busy, main_ending}
 use Rattle.batch_model.specs.Slots.{owns, held_slots, holds_on}
@@ -26,6 +26,7 @@ use Rattle.model_lists.proofs.Lengths.{change_keeps_length}
 use Rattle.model_lists.proofs.RowSums.{count_change_at_most, sum_filter, sum_change_same, sum_agree}
 use Rattle.model_tables.proofs.NotBuilt.{is_built}
 use Rattle.model_tables.proofs.RunsMove.{slots_suffice}
+use Rattle.model_tables.proofs.PrepsKept.{KeepsRun, keeps_changed, preps_with_runs, rest_with_runs, preps_with_tasks}
 use Rattle.model_tables.proofs.StartsKept.{is_good_start, starts_with_runs}
 
 -- a halted run
@@ -56,7 +57,7 @@ module _ (now : ℕ) where
       by_state Withdrawn = refl
 
   -- its ending
-  ending_kept : (run : RunRow) → ending_of (halted now run).state ≡ ending_of run.state
+  pub ending_kept : (run : RunRow) → ending_of (halted now run).state ≡ ending_of run.state
   ending_kept run = by_state run.state refl
     where
       by_state : (state : RunState) → run.state ≡ state → ending_of (halted_in state now run).state ≡ ending_of run.state
@@ -67,7 +68,7 @@ module _ (now : ℕ) where
       by_state Withdrawn e = refl
 
   -- whether it is a start run on the node that ended with code 0
-  good_kept : (node : ℕ) (run : RunRow) → is_good_start node (halted now run) ≡ is_good_start node run
+  pub good_kept : (node : ℕ) (run : RunRow) → is_good_start node (halted now run) ≡ is_good_start node run
   good_kept node run = by_state run.state refl
     where
       by_state : (state : RunState) → run.state ≡ state → is_good_start node (halted_in state now run) ≡ is_good_start node run
@@ -78,7 +79,7 @@ module _ (now : ℕ) where
       by_state Withdrawn e = refl
 
   -- an unended start run on the node was one
-  start_before : (node : ℕ) (run : RunRow) → is_unended_start_on node (halted now run) ≡ true → is_unended_start_on node run ≡ true
+  pub start_before : (node : ℕ) (run : RunRow) → is_unended_start_on node (halted now run) ≡ true → is_unended_start_on node run ≡ true
   start_before node run h = by_state run.state h
     where
       off : {P : Type 0} (a b : Bool) → (a && false && b) ≡ true → P
@@ -102,8 +103,33 @@ module _ (now : ℕ) where
   run_ends true false taken ended to last at n h = cc
   run_ends false made taken ended to last at n h = cc
 
+  -- it keeps what it is of
+  pub halted_kept : (run : RunRow) → KeepsRun run (halted now run)
+  halted_kept run = record {
+    kind = halted_keeps (λ (r : RunRow). r.kind) run refl refl;
+    node = halted_keeps (λ (r : RunRow). r.node) run refl refl;
+    job = halted_keeps (λ (r : RunRow). r.job) run refl refl;
+    unended = unended_before run.state refl;
+    waiting = waiting_before run.state refl;
+  }
+    where
+      unended_before : (state : RunState) → run.state ≡ state → is_unended (halted_in state now run).state ≡ true → is_unended run.state ≡ true
+      unended_before Waiting e k = cc
+      unended_before Queued e k = cc
+      unended_before Taken e k = k
+      unended_before (Ended ending) e k = k
+      unended_before Withdrawn e k = k
+
+      waiting_before : (state : RunState) → run.state ≡ state → is_unended (halted_in state now run).state ≡ true → is_waiting run.state ≡ true
+          → is_waiting (halted_in state now run).state ≡ true
+      waiting_before Waiting e k w = cc
+      waiting_before Queued e k w = cc
+      waiting_before Taken e k w = w
+      waiting_before (Ended ending) e k w = w
+      waiting_before Withdrawn e k w = w
+
   -- its values and moments
-  valid_kept : (run : RunRow) → is_run_valid now run ≡ true → is_run_valid now (halted now run) ≡ true
+  pub valid_kept : (run : RunRow) → is_run_valid now run ≡ true → is_run_valid now (halted now run) ≡ true
   valid_kept run h =
       halted_passes (is_run_valid now) run
       (run_ends (is_run_in_range run) (nat_le run.made now) (is_past_if_some now run.taken) (is_past_if_some now run.ended)
@@ -111,9 +137,14 @@ module _ (now : ℕ) where
       h h
 
 -- a test that is asked for of an unended run of some kind
-off_kind : (a c : Bool) → (not (a && false) || c) ≡ true
+pub off_kind : (a c : Bool) → (not (a && false) || c) ≡ true
 off_kind true c = refl
 off_kind false c = refl
+
+-- what is not beside another test
+pub off_both : (a : Bool) → not (a && false) ≡ true
+off_both true = refl
+off_both false = refl
 
 -- tests of a task that can be settled: it is as busy as before, and its main run has ended if it had
 pub settled_alike : (p busy busy' d ends ends' : Bool) → busy' ≡ busy → ends' ≡ ends → (not p || busy || d || ends) ≡ true
@@ -220,7 +251,6 @@ module _ (test : TaskRow → Bool) (want : Want) (s : State) where
       covered = h.pools.covered;
       kept = h.pools.kept;
     };
-    built = record { preps = h.built.preps };
   }
 
   -- tasks that have a run of their present attempts in common are stopped together
@@ -324,7 +354,7 @@ module _ (test : TaskRow → Bool) (want : Want) (s : State) where
       slots = slots_suffice (held_slots after) (held_slots s) s.pools (λ node. omega (arith, slots_after node)) s.nodes h.slots;
       built = record {
         runs =
-            each_run is_built is_built (λ run k. or_second (is_start run.kind || is_main run.kind) refl) (λ run k. k) (λ run k. k) h.built.runs;
+            each_run is_built is_built (λ run k. off_both (is_coordination run.kind)) (λ run k. k) (λ run k. k) h.built.runs;
         nodes = h.built.nodes;
       };
     }
@@ -344,4 +374,11 @@ module _ (test : TaskRow → Bool) (want : Want) (s : State) where
           limited = limited_stopped h.limited;
           unended = each_run has_no_end_yet has_no_end_yet (λ run k. refl) (λ run k. k) (λ run k. k) h.unended;
           starts = record { usable = starts.usable; tries = starts.tries };
+          preparing =
+              preps_with_tasks (record s { runs = after.runs }) after.tasks
+              (preps_with_runs (changed (is_run_of_stopped test s) (halted s.moment)) (λ run. keeps_changed (is_run_of_stopped test s) (halted s.moment) run (λ t. halted_kept s.moment run))
+              s h.preparing);
+          resting =
+              rest_with_runs (changed (is_run_of_stopped test s) (halted s.moment)) (λ run. keeps_changed (is_run_of_stopped test s) (halted s.moment) run (λ t. halted_kept s.moment run))
+              s h.resting;
         }

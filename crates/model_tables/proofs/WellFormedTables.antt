@@ -1,9 +1,10 @@
 -- Sound tables are well formed, as empty ones are.
 use Rattle.std.proofs.Common.{ℕ, nat_lt, refl, arith}
-use Rattle.batch_model.specs.Sound.{IsSound}
-use Rattle.batch_model.specs.WellFormed.{IsWellFormed, has_few_preparations}
-use Rattle.batch_model.specs.Variants.{State, empty_state}
-use Rattle.model_tables.proofs.NotBuilt.{none_prepared}
+use Rattle.batch_model.specs.Sound.{IsSound, has_node_row}
+use Rattle.batch_model.specs.WellFormed.{IsWellFormed}
+use Rattle.batch_model.specs.Variants.{State, empty_state, PrepRow}
+use Rattle.model_lists.proofs.RowLists.{each_weaker}
+use Rattle.model_tables.proofs.StartAdded.{row_below}
 
 -- sound tables are well formed
 pub well_formed : (seats : ℕ) (s : State) → IsSound seats s → IsWellFormed s
@@ -15,12 +16,14 @@ well_formed seats s h = record {
     runs = h.consistent.numbers.runs;
     nodes = h.consistent.numbers.nodes;
     nodes_of_runs = h.consistent.numbers.nodes_of_runs;
-    nodes_of_preps = none_prepared (λ prep. nat_lt prep.node s.next_node) s.preps h.limited.built.preps;
+    nodes_of_preps =
+        each_weaker (λ (prep : PrepRow). has_node_row s prep.node) (λ (prep : PrepRow). nat_lt prep.node s.next_node)
+        (λ prep e. row_below s prep.node e h.consistent.numbers.nodes) s.preps h.preparing.nodes_of_preps;
   };
   fitting = h.consistent.fitting;
   tries = record {
     nodes = h.starts.tries;
-    preps = none_prepared (has_few_preparations s) s.preps h.limited.built.preps;
+    preps = h.preparing.tries;
   };
   named = h.consistent.named;
   quiet = h.limited.quiet;

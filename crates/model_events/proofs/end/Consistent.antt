@@ -7,9 +7,9 @@ use Rattle.bt_rows.specs.Keys.{same_run, same_run_equiv, same_node, same_node_eq
 use Rattle.bt_rows.proofs.DistinctRows.{found_first}
 use Rattle.batch_model.specs.Rows.{is_run, change_runs, is_node, node_of}
 use Rattle.batch_model.specs.Runs.{is_taken}
-use Rattle.batch_model.specs.Events.{ended_run, ended_by, run_ended}
+use Rattle.batch_model.specs.Events.{ended_run}
 use Rattle.batch_model.specs.Sound.{IsConsistent}
-use Rattle.batch_model.specs.Variants.{State, Ending, RunRow, RunKind, StartRun, PrepRun, TaskRun, CoordinationRun, ReleaseRun, RunState, Waiting, Queued}
+use Rattle.batch_model.specs.Variants.{State, Ending, RunRow, RunState, Waiting, Queued}
 use Rattle.batch_model.specs.Variants.{Taken, Ended, Withdrawn, NodeRow, NodeStage, Starting, Usable, StartFailed, Leaving}
 use Rattle.batch_model.specs.Nodes.{is_leaving}
 use Rattle.batch_model.specs.Starts.{usable_in, failed_in, counted_node, change_node, start_ended}
@@ -38,7 +38,7 @@ failed_stays StartFailed h = refl
 failed_stays (Leaving option) h = h
 
 -- a node that is found by its number is there
-has_found_node : (seats : ℕ) (s : State) (number : ℕ) (node : NodeRow) → IsConsistent seats s → node_of s number ≡ Some node → HasNode s node
+pub has_found_node : (seats : ℕ) (s : State) (number : ℕ) (node : NodeRow) → IsConsistent seats s → node_of s number ≡ Some node → HasNode s node
 has_found_node seats s number node h found = record {
   there = any_found (is_node node.number) (is_node number) node s.nodes found (is_itself node.number);
   in_pool =
@@ -48,7 +48,7 @@ has_found_node seats s number node h found = record {
 }
 
 -- it is still there when its failures are counted
-has_counted : (s : State) (node : NodeRow) → HasNode s node → HasNode (change_node node counted_node s) node
+pub has_counted : (s : State) (node : NodeRow) → HasNode s node → HasNode (change_node node counted_node s) node
 has_counted s node has = record {
   there = any_change_same (is_node node.number) counted_node (is_node node.number) (λ other t. refl) s.nodes ∙ has.there;
   in_pool =
@@ -72,7 +72,7 @@ consistent_by_start seats s after run ending h (fails node start found there fai
     (λ each. failed_stays each.stage) h
 
 -- a start run that ends keeps tables sound
-consistent_start_ended : (seats : ℕ) (s : State) (run : RunRow) (ending : Ending) → IsConsistent seats s → IsConsistent seats (start_ended run ending s)
+pub consistent_start_ended : (seats : ℕ) (s : State) (run : RunRow) (ending : Ending) → IsConsistent seats s → IsConsistent seats (start_ended run ending s)
 consistent_start_ended seats s run ending h = consistent_by_start seats s (start_ended run ending s) run ending h (start_cases s run ending)
 
 -- a taken run ends, and others stay
@@ -121,7 +121,7 @@ module _ (now : ℕ) (ending : Ending) (run : RunRow) where
   alike_elsewhere row false h = refl
 
 -- a taken run ends
-consistent_run : (seats : ℕ) (s : State) (ending : Ending) (run : RunRow) → IsConsistent seats s → find (is_run run.number) s.runs ≡ Some run
+pub consistent_run : (seats : ℕ) (s : State) (ending : Ending) (run : RunRow) → IsConsistent seats s → find (is_run run.number) s.runs ≡ Some run
     → is_taken run.state ≡ true → IsConsistent seats (change_runs (is_run run.number) (ended_run s.moment ending) s)
 consistent_run seats s ending run h found taken =
     let runs : map (λ row. cond (is_run run.number row) (ended_run s.moment ending row) row) s.runs ≡ map after s.runs =
@@ -138,19 +138,3 @@ consistent_run seats s ending run h found taken =
   where
     after : RunRow → RunRow
     after = moved (into s.moment ending run) (λ row. row.taken) (ended_at s.moment ending run)
-
--- what else the ending of a run of each kind does
-consistent_by_kind : (seats : ℕ) (s : State) (kind : RunKind) (run : RunRow) (ending : Ending) → IsConsistent seats s
-    → IsConsistent seats (ended_by kind run ending s)
-consistent_by_kind seats s StartRun run ending h = consistent_start_ended seats s run ending h
-consistent_by_kind seats s PrepRun run ending h = h
-consistent_by_kind seats s TaskRun run ending h = h
-consistent_by_kind seats s CoordinationRun run ending h = h
-consistent_by_kind seats s ReleaseRun run ending h = h
-
--- a taken run ends, and then its kind decides
-pub consistent_ended : (seats : ℕ) (s : State) (ending : Ending) (run : RunRow) → IsConsistent seats s → find (is_run run.number) s.runs ≡ Some run
-    → is_taken run.state ≡ true → IsConsistent seats (run_ended s ending run)
-consistent_ended seats s ending run h found taken =
-    consistent_by_kind seats (change_runs (is_run run.number) (ended_run s.moment ending) s) run.kind run ending
-    (consistent_run seats s ending run h found taken)

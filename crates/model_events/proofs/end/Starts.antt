@@ -12,12 +12,12 @@ use Rattle.batch_model.specs.Rows.{is_run, is_node, node_of, change_runs}
 use Rattle.batch_model.specs.Runs.{is_taken, is_unended, is_start, start_run}
 use Rattle.batch_model.specs.Nodes.{is_usable}
 use Rattle.batch_model.specs.Endings.{is_success}
-use Rattle.batch_model.specs.Events.{ended_run, ended_by, run_ended}
-use Rattle.batch_model.specs.Starts.{is_tried_again, usable_in, failed_in, counted_node, change_node, start_failed, start_of, start_ended_at, start_ended_in}
+use Rattle.batch_model.specs.Events.{ended_run}
+use Rattle.batch_model.specs.Starts.{is_tried_again, usable_in, failed_in, counted_node, change_node, start_failed, start_of, start_ended_at, start_ended_in, start_ended}
 use Rattle.batch_model.specs.Sound.{StartsAreSound, has_ended_well, awaits_no_start, has_usable_start}
 use Rattle.batch_model.specs.WellFormed.{is_unended_start_on, has_few_tries}
-use Rattle.batch_model.specs.Variants.{State, NodeRow, NodeStage, Starting, Usable, StartFailed, Leaving, StartTask, Ending, RunRow, RunKind, StartRun, PrepRun}
-use Rattle.batch_model.specs.Variants.{TaskRun, CoordinationRun, ReleaseRun, RunState, Waiting, Queued, Taken, Ended, Withdrawn}
+use Rattle.batch_model.specs.Variants.{State, NodeRow, NodeStage, Starting, Usable, StartFailed, Leaving, StartTask, Ending, RunRow}
+use Rattle.batch_model.specs.Variants.{RunState, Waiting, Queued, Taken, Ended, Withdrawn}
 use Rattle.model_lists.proofs.Tests.{passes_or_not, and_true, and_second, asked}
 use Rattle.model_lists.proofs.RowLists.{each_any, find_test, any_found}
 use Rattle.model_lists.proofs.RowSums.{count_change_at_most, count_change_less}
@@ -142,7 +142,7 @@ module _ (s : State) (ending : Ending) (run : RunRow) (keys : AreDistinct same_r
 
   module _ (h : StartsAreSound s) where
     -- the run alone
-    starts_run_ended : StartsAreSound with_ended
+    pub starts_run_ended : StartsAreSound with_ended
     starts_run_ended = starts_with_runs s ended_runs fewer still h
 
     module _ (node : NodeRow) (start : is_start run.kind ≡ true) (on : is_node run.node node ≡ true) where
@@ -218,14 +218,6 @@ module _ (s : State) (ending : Ending) (run : RunRow) (keys : AreDistinct same_r
     start_run_ended start None e = starts_run_ended
     start_run_ended start (Some node) e = starts_ended_in node start (find_test (is_node run.node) node s.nodes e) node.stage
 
-    -- the end of a run of whatever kind
-    ended_by_kind : (kind : RunKind) → run.kind ≡ kind → StartsAreSound (ended_by kind run ending with_ended)
-    ended_by_kind StartRun e = start_run_ended (ap is_start e) (node_of with_ended run.node) refl
-    ended_by_kind PrepRun e = starts_run_ended
-    ended_by_kind TaskRun e = starts_run_ended
-    ended_by_kind CoordinationRun e = starts_run_ended
-    ended_by_kind ReleaseRun e = starts_run_ended
-
-    -- a taken run ends, and its kind decides what else
-    pub starts_ended : StartsAreSound (run_ended s ending run)
-    starts_ended = ended_by_kind run.kind refl
+    -- a start run ends
+    pub starts_ended : is_start run.kind ≡ true → StartsAreSound (start_ended run ending with_ended)
+    starts_ended start = start_run_ended start (node_of with_ended run.node) refl

@@ -6,14 +6,15 @@ use Rattle.std.specs.Option.{unwrap_or}
 use Rattle.bt_base.specs.Ids.{same}
 use Rattle.bt_base.proofs.SameIds.{same_equiv}
 use Rattle.bt_rows.specs.Keys.{same_run, same_run_equiv, same_task, same_task_equiv}
+use Rattle.bt_rows.specs.Lists.{AreDistinct}
 use Rattle.bt_rows.proofs.DistinctRows.{find-passes}
 use Rattle.batch_model.specs.Finding.{names, change_where}
-use Rattle.batch_model.specs.Rows.{is_run, change_runs}
-use Rattle.batch_model.specs.Runs.{is_queued, is_unended, is_start, is_main, is_work}
+use Rattle.batch_model.specs.Rows.{is_run, change_tasks, change_runs}
+use Rattle.batch_model.specs.Runs.{is_queued, is_unended, is_waiting, is_start, is_preparation, is_release, is_work}
 use Rattle.batch_model.specs.Tasks.{is_placed, is_undisturbed}
 use Rattle.batch_model.specs.Slots.{owns}
-use Rattle.batch_model.specs.Events.{taken_run, started_task, is_task_of_run, run_taken}
-use Rattle.batch_model.specs.Sound.{IsConsistent, has_node_while_unended, belongs, can_be_settled, fits_nodes}
+use Rattle.batch_model.specs.Events.{taken_run, started_task, is_task_of_run}
+use Rattle.batch_model.specs.Sound.{IsConsistent, PreparationsAreSound, CompletedJobsRest, has_node_while_unended, belongs, can_be_settled, fits_nodes, names_no_task}
 use Rattle.batch_model.specs.WellFormed.{has_fitting_marks, is_closed_if_completed}
 use Rattle.batch_model.specs.Variants.{State, TaskRow, RunKind, StartRun, PrepRun, TaskRun, CoordinationRun, ReleaseRun, RunRow, RunState, Waiting, Queued}
 use Rattle.batch_model.specs.Variants.{Taken, Ended, Withdrawn}
@@ -23,6 +24,7 @@ use Rattle.model_lists.proofs.MappedRows.{each_map, any_map, map_found}
 use Rattle.model_lists.proofs.ChangedRows.{change_none}
 use Rattle.model_tables.proofs.RunsMove.{Moves, moves_same, moves_if, moved, consistent_moved}
 use Rattle.model_tables.proofs.StartRuns.{start_names_none}
+use Rattle.model_tables.proofs.PrepsKept.{KeepsRun, preps_with_runs, rest_with_runs}
 use Rattle.model_tables.proofs.TasksKept.{Marks, marked, consistent_marked}
 
 -- a queued run is taken, and others stay
@@ -78,24 +80,57 @@ module _ (now : ℕ) (run : RunRow) where
   alike_elsewhere row true h = cc
   alike_elsewhere row false h = refl
 
--- the run is taken, and its task has not started yet
-consistent_queued : (seats : ℕ) (s : State) (run : RunRow) → IsConsistent seats s → find (is_run run.number) s.runs ≡ Some run → is_queued run.state ≡ true
-    → IsConsistent seats (change_runs (is_run run.number) (taken_run s.moment) s)
-consistent_queued seats s run h found queued =
-    let runs : map (λ row. cond (is_run run.number row) (taken_run s.moment row) row) s.runs ≡ map after s.runs =
-    map_found same_run same_run_equiv (λ row. cond (is_run run.number row) (taken_run s.moment row) row) after (is_run run.number)
+-- the runs after the event, each moved on
+taken_runs : (s : State) (run : RunRow) → AreDistinct same_run s.runs → find (is_run run.number) s.runs ≡ Some run → is_queued run.state ≡ true
+    → map (λ row. cond (is_run run.number row) (taken_run s.moment row) row) s.runs
+    ≡ map (moved (into s.moment run) (taken_at s.moment run) (λ row. row.ended)) s.runs
+taken_runs s run keys found queued =
+    map_found same_run same_run_equiv (λ row. cond (is_run run.number row) (taken_run s.moment row) row)
+    (moved (into s.moment run) (taken_at s.moment run) (λ row. row.ended)) (is_run run.number)
     (is_run run.number) run s.runs
     (λ row k. k)
     (alike_here s.moment run run (is_run run.number run) (queued_taken run.state queued))
     (λ row. alike_elsewhere s.moment run row (is_run run.number row))
-    h.keys.runs found
-    in
-    subst (λ (rows : List RunRow). IsConsistent seats (record s { runs = rows })) (sym runs)
+    keys found
+
+-- each run keeps what it is of
+taken_keeps : (now : ℕ) (run row : RunRow) → KeepsRun row (moved (into now run) (taken_at now run) (λ each. each.ended) row)
+taken_keeps now run row = record {
+  kind = refl;
+  node = refl;
+  job = refl;
+  unended = let m : Moves row.state (into now run row) = moves_if (is_run run.number row) row.state (taken_if_queued row.state) (moves_taken row.state) in m.unended;
+  waiting = λ u. waits (is_run run.number row) row.state;
+}
+  where
+    waits : (b : Bool) (state : RunState) → is_waiting state ≡ true → is_waiting (cond b (taken_if_queued state) state) ≡ true
+    waits true Waiting h = refl
+    waits true Queued h = cc
+    waits true Taken h = cc
+    waits true (Ended ending) h = cc
+    waits true Withdrawn h = cc
+    waits false state h = h
+
+module _ (s : State) (run : RunRow) (keys : AreDistinct same_run s.runs) (found : find (is_run run.number) s.runs ≡ Some run) (queued : is_queued run.state ≡ true) where
+  -- preparations stay sound
+  pub preps_taken : PreparationsAreSound s → PreparationsAreSound (change_runs (is_run run.number) (taken_run s.moment) s)
+  preps_taken h =
+      subst (λ (rows : List RunRow). PreparationsAreSound (record s { runs = rows })) (sym (taken_runs s run keys found queued))
+      (preps_with_runs (moved (into s.moment run) (taken_at s.moment run) (λ row. row.ended)) (taken_keeps s.moment run) s h)
+
+  -- completed jobs rest
+  pub rest_taken : CompletedJobsRest s → CompletedJobsRest (change_runs (is_run run.number) (taken_run s.moment) s)
+  rest_taken h =
+      subst (λ (rows : List RunRow). CompletedJobsRest (record s { runs = rows })) (sym (taken_runs s run keys found queued))
+      (rest_with_runs (moved (into s.moment run) (taken_at s.moment run) (λ row. row.ended)) (taken_keeps s.moment run) s h)
+
+-- the run is taken, and its task has not started yet
+consistent_queued : (seats : ℕ) (s : State) (run : RunRow) → IsConsistent seats s → find (is_run run.number) s.runs ≡ Some run → is_queued run.state ≡ true
+    → IsConsistent seats (change_runs (is_run run.number) (taken_run s.moment) s)
+consistent_queued seats s run h found queued =
+    subst (λ (rows : List RunRow). IsConsistent seats (record s { runs = rows })) (sym (taken_runs s run h.keys.runs found queued))
     (consistent_moved (into s.moment run) (taken_at s.moment run) (λ row. row.ended)
     (λ row. moves_if (is_run run.number row) row.state (taken_if_queued row.state) (moves_taken row.state)) seats s h)
-  where
-    after : RunRow → RunRow
-    after = moved (into s.moment run) (taken_at s.moment run) (λ row. row.ended)
 
 -- the task of the run starts
 
@@ -172,65 +207,67 @@ consistent_started seats s now run owner h found =
     belongs_after : (row : RunRow) → belongs s row ≡ true → belongs (record s { tasks = map after s.tasks }) row ≡ true
     belongs_after row e = ap (λ b. not (is_work row.kind && is_unended row.state) || b) (any_map after (owns row) s.tasks) ∙ e
 
--- a main run is a task's
-main_works : (kind : RunKind) → is_main kind ≡ true → is_work kind ≡ true
-main_works StartRun h = cc
-main_works PrepRun h = cc
-main_works TaskRun h = refl
-main_works CoordinationRun h = refl
-main_works ReleaseRun h = cc
-
--- a run that has not ended and is no start run is a main run
-other_main : (start main unended : Bool) → (start || main || not unended) ≡ true → start ≡ false → unended ≡ true → main ≡ true
-other_main true main unended h n u = cc
-other_main false true unended h n u = refl
-other_main false false true h n u = cc
-other_main false false false h n u = cc
-
--- a placed task owns a queued run that is no start run
+-- a placed task owns a queued run of a task
 owned_while_queued : (seats : ℕ) (s : State) (run : RunRow) → IsConsistent seats s → find (is_run run.number) s.runs ≡ Some run → is_queued run.state ≡ true
-    → is_start run.kind ≡ false → list_any (owns run) s.tasks ≡ true
-owned_while_queued seats s run h found queued other =
-    let unended : is_unended run.state ≡ true = queued_unended run.state queued in
-    let main : is_main run.kind ≡ true =
-    other_main (is_start run.kind) (is_main run.kind) (is_unended run.state)
-    (each_found (λ (row : RunRow). is_start row.kind || is_main row.kind || not (is_unended row.state))
-    (is_run run.number) run s.runs found h.built.runs) other unended
-    in
+    → is_work run.kind ≡ true → list_any (owns run) s.tasks ≡ true
+owned_while_queued seats s run h found queued works =
     asked (is_work run.kind && is_unended run.state) (list_any (owns run) s.tasks)
     (each_found (belongs s) (is_run run.number) run s.runs found h.belonging)
-    (and_true (main_works run.kind main) unended)
+    (and_true works (queued_unended run.state queued))
 
--- no task is a run's that names no job
-no_task_of_run : (run : RunRow) → is_none run.job ≡ true → (tasks : List TaskRow) → list_any (is_task_of_run run) tasks ≡ false
+-- no task is a run's that names no task
+no_task_of_run : (run : RunRow) → is_none run.task ≡ true → (tasks : List TaskRow) → list_any (is_task_of_run run) tasks ≡ false
 no_task_of_run run h [] = refl
-no_task_of_run run h (task ∷ tasks) = or_false (unnamed run.job task.job (names run.task task.id) h) (no_task_of_run run h tasks)
+no_task_of_run run h (task ∷ tasks) = or_false (unnamed run.task task.id (names run.job task.job) h) (no_task_of_run run h tasks)
   where
-    unnamed : (name : Option (List ℕ)) (id : List ℕ) (b : Bool) → is_none name ≡ true → (names name id && b) ≡ false
-    unnamed None id b k = refl
+    unnamed : (name : Option (List ℕ)) (id : List ℕ) (b : Bool) → is_none name ≡ true → (b && names name id) ≡ false
+    unnamed None id true k = refl
+    unnamed None id false k = refl
     unnamed (Some other) id b k = cc
 
--- no task starts with a queued start run
+-- a run that is no task's is a start run, or of a job
+idle_kinds : (kind : RunKind) → is_work kind ≡ false → is_start kind ≡ false → (is_preparation kind || is_release kind) ≡ true
+idle_kinds StartRun w s = cc
+idle_kinds PrepRun w s = refl
+idle_kinds TaskRun w s = cc
+idle_kinds CoordinationRun w s = cc
+idle_kinds ReleaseRun w s = refl
+
+-- a queued run that is no task's names none
+names_none : (seats : ℕ) (s : State) (run : RunRow) → IsConsistent seats s → find (is_run run.number) s.runs ≡ Some run → is_queued run.state ≡ true
+    → is_work run.kind ≡ false → is_none run.task ≡ true
+names_none seats s run h found queued idle = elim (passes_or_not (is_start run.kind)) [
+  | inl start ↦
+      and_second (is_none run.job) (is_none run.task)
+      (start_names_none s run start (queued_unended run.state queued)
+      (each_found (has_node_while_unended s) (is_run run.number) run s.runs found h.seated.nodes_of_runs)
+      (each_found (fits_nodes s) (is_run run.number) run s.runs found h.naming.on_nodes))
+  | inr other ↦
+      asked ((is_preparation run.kind || is_release run.kind) && is_unended run.state) (is_none run.task)
+      (each_found names_no_task (is_run run.number) run s.runs found h.naming.of_jobs)
+      (and_true (idle_kinds run.kind idle other) (queued_unended run.state queued))
+]
+
+-- no task starts with it
 no_task_starts : (seats : ℕ) (s : State) (run : RunRow) → IsConsistent seats s → find (is_run run.number) s.runs ≡ Some run → is_queued run.state ≡ true
-    → is_start run.kind ≡ true → change_where (is_task_of_run run) (started_task s.moment) s.tasks ≡ s.tasks
-no_task_starts seats s run h found queued start =
-    let none : (is_none run.job && is_none run.task) ≡ true =
-    start_names_none s run start (queued_unended run.state queued)
-    (each_found (has_node_while_unended s) (is_run run.number) run s.runs found h.seated.nodes_of_runs)
-    (each_found (fits_nodes s) (is_run run.number) run s.runs found h.naming.on_nodes)
-    in
-    change_none (is_task_of_run run) (started_task s.moment) s.tasks (no_task_of_run run (and_first (is_none run.job) (is_none run.task) none) s.tasks)
+    → is_work run.kind ≡ false → change_where (is_task_of_run run) (started_task s.moment) s.tasks ≡ s.tasks
+no_task_starts seats s run h found queued idle =
+    change_none (is_task_of_run run) (started_task s.moment) s.tasks (no_task_of_run run (names_none seats s run h found queued idle) s.tasks)
+
+-- the tables in which the run is taken and its task has started, before its preparation is marked
+abbrev pub run_started : State → RunRow → State
+run_started s run = change_tasks (is_task_of_run run) (started_task s.moment) (change_runs (is_run run.number) (taken_run s.moment) s)
 
 -- a queued run is taken, and its task starts, if it is a task's
 pub consistent_taken : (seats : ℕ) (s : State) (run : RunRow) → IsConsistent seats s → find (is_run run.number) s.runs ≡ Some run → is_queued run.state ≡ true
-    → IsConsistent seats (run_taken s run)
-consistent_taken seats s run h found queued = elim (passes_or_not (is_start run.kind)) [
-  | inl start ↦
+    → IsConsistent seats (run_started s run)
+consistent_taken seats s run h found queued = elim (passes_or_not (is_work run.kind)) [
+  | inr idle ↦
       subst (λ (rows : List TaskRow). IsConsistent seats (record (change_runs (is_run run.number) (taken_run s.moment) s) { tasks = rows }))
-      (sym (no_task_starts seats s run h found queued start)) (consistent_queued seats s run h found queued)
-  | inr other ↦
+      (sym (no_task_starts seats s run h found queued idle)) (consistent_queued seats s run h found queued)
+  | inl works ↦
       let owner : (task : TaskRow) × (find (owns run) s.tasks ≡ Some task) =
-      find_any (owns run) s.tasks (owned_while_queued seats s run h found queued other)
+      find_any (owns run) s.tasks (owned_while_queued seats s run h found queued works)
       in
       consistent_started seats (change_runs (is_run run.number) (taken_run s.moment) s) s.moment run owner.0
       (consistent_queued seats s run h found queued) owner.1

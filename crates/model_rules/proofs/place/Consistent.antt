@@ -11,23 +11,23 @@ use Rattle.bt_rows.specs.Keys.{same_pool, same_pool_equiv, same_node, same_node_
 use Rattle.bt_rows.specs.Lists.{AreDistinct}
 use Rattle.bt_rows.proofs.DistinctRows.{found_first}
 use Rattle.batch_model.specs.Finding.{names, change_where}
-use Rattle.batch_model.specs.Rows.{is_pool, is_node, is_task, pool_of}
-use Rattle.batch_model.specs.Runs.{is_start, is_main, is_work, is_unended, is_run_of_task, ending_of, work_run, is_busy_for}
+use Rattle.batch_model.specs.Rows.{is_pool, is_node, is_task, pool_of, put_task, add_run_row}
+use Rattle.batch_model.specs.Nodes.{is_in_pool}
+use Rattle.batch_model.specs.Runs.{is_coordination, is_work, is_unended, is_run_of_task, ending_of, work_run, is_busy_for}
 use Rattle.batch_model.specs.Tasks.{is_active, is_placed, is_completed, is_undisturbed, is_busy, main_ending, is_in_job}
 use Rattle.batch_model.specs.Slots.{owns, holds_on, held_slots}
-use Rattle.batch_model.specs.Placing.{is_placeable, fits, choice, placed, place, is_ready}
+use Rattle.batch_model.specs.Placing.{is_placeable, placed, is_ready}
 use Rattle.batch_model.specs.Sound.{IsConsistent, has_node_while_unended, belongs, can_be_settled, fits_nodes, names_no_task, has_slots_for}
 use Rattle.batch_model.specs.WellFormed.{has_fitting_marks, is_closed_if_completed, has_job_row, has_named_job, is_task_of_attempt, has_named_task}
 use Rattle.batch_model.specs.WellFormed.{are_one_attempt}
-use Rattle.batch_model.specs.Variants.{State, PoolRow, NodeRow, JobRow, TaskRow, RunRow, TaskStage, Active, Placed, Completed, TaskRun, Queued}
-use Rattle.model_lists.proofs.Tests.{and_true, and_first, and_second, or_first, true_not, not_true, asked, under}
+use Rattle.batch_model.specs.Variants.{State, PoolRow, NodeRow, JobRow, TaskRow, RunRow, TaskStage, Active, Placed, Completed, TaskRun, RunState}
+use Rattle.model_lists.proofs.Tests.{and_true, and_first, and_second, or_first, or_second, true_not, not_true, asked, under}
 use Rattle.model_lists.proofs.RowLists.{each_any, each_append, each_weaker, each_of_two, each_found, find_append_old, any_append_old, any_found, any_weaker}
 use Rattle.model_lists.proofs.RowLists.{any_weaker_where, none_any, any_append_new}
 use Rattle.model_lists.proofs.ChangedRows.{changed, each_change, each_change_same, any_change}
 use Rattle.model_lists.proofs.DistinctLists.{distinct_append, distinct_change, each_with_key}
 use Rattle.model_lists.proofs.KeyedLists.{put_is_change, sum_by-fewer}
 use Rattle.model_lists.proofs.NextNumbers.{below_other, below_next, below_own_next, is_itself}
-use Rattle.model_rules.proofs.place.NodeChosen.{chosen_fits, chosen_first}
 
 -- lists and numbers
 
@@ -137,20 +137,25 @@ active_counts Active h = refl
 active_counts Placed h = cc
 active_counts Completed h = cc
 
--- the new run is one of the placed task's present attempt
-pub new_run_present : (s : State) (node : NodeRow) (task : TaskRow) → is_busy (place s task node).state (placed task) ≡ true
-new_run_present s node task =
-    any_append_new (is_busy_for (placed task)) s.runs (work_run s node (placed task) TaskRun task.line task.slots Queued)
-    (and_true (and_true (and_true (same_equiv.refl task.job) (same_equiv.refl task.id)) ((Decides-eqb (task.attempt + 1) (task.attempt + 1)).1 refl)) refl)
+-- the tables in which the task is placed with a run in a state, on a node that is prepared
+abbrev pub placed_with : State → NodeRow → TaskRow → RunState → State
+placed_with s node task state = add_run_row (work_run s node (placed task) TaskRun task.line task.slots state) (put_task (placed task) s)
 
-module _ (seats : ℕ) (s : State) (job : JobRow) (node : NodeRow) (task : TaskRow) (test : TaskRow → Bool) (h : IsConsistent seats s)
-    (f : find test s.tasks ≡ Some task) (can : is_placeable job task ≡ true) where
+-- the new run is one of the placed task's present attempt
+pub new_run_present : (s : State) (node : NodeRow) (task : TaskRow) (state : RunState) → is_unended state ≡ true
+    → is_busy (placed_with s node task state) (placed task) ≡ true
+new_run_present s node task state going =
+    any_append_new (is_busy_for (placed task)) s.runs (work_run s node (placed task) TaskRun task.line task.slots state)
+    (and_true (and_true (and_true (same_equiv.refl task.job) (same_equiv.refl task.id)) ((Decides-eqb (task.attempt + 1) (task.attempt + 1)).1 refl)) going)
+
+module _ (seats : ℕ) (s : State) (job : JobRow) (node : NodeRow) (task : TaskRow) (state : RunState) (going : is_unended state ≡ true) (test : TaskRow → Bool)
+    (h : IsConsistent seats s) (f : find test s.tasks ≡ Some task) (can : is_placeable job task ≡ true) where
   -- the tables after the step, and the new run
   abbrev after : State
-  after = (place s task node).state
+  after = placed_with s node task state
 
   abbrev run : RunRow
-  run = work_run s node (placed task) TaskRun task.line task.slots Queued
+  run = work_run s node (placed task) TaskRun task.line task.slots state
 
   -- a row with the task's key
   abbrev is_it : TaskRow → Bool
@@ -347,19 +352,8 @@ module _ (seats : ℕ) (s : State) (job : JobRow) (node : NodeRow) (task : TaskR
 
   -- on the node
 
-  module _ (pool : PoolRow) (in_pool : pool_of s job.pool ≡ Some pool) (chosen : choice s pool task.slots ≡ Some node) where
-    -- the node fits
-    fitting_node : fits s pool task.slots node ≡ true
-    fitting_node = chosen_fits s pool task.slots node chosen
-
-    -- it had the task's slots free
-    free_node : nat_le (held_slots s node.number + task.slots) pool.slots ≡ true
-    free_node = and_second _ _ fitting_node
-
-    -- the node is the one with its number
-    first_node : find (λ (other : NodeRow). same_node other node) s.nodes ≡ Some node
-    first_node = chosen_first s pool task.slots node chosen h.keys.nodes
-
+  module _ (pool : PoolRow) (in_pool : pool_of s job.pool ≡ Some pool) (first_node : find (λ (other : NodeRow). same_node other node) s.nodes ≡ Some node)
+      (of_pool : is_in_pool pool.id node ≡ true) (free_node : nat_le (held_slots s node.number + task.slots) pool.slots ≡ true) where
     -- the pool is the one with its key
     first_pool : find (λ (other : PoolRow). same_pool other pool) s.pools ≡ Some pool
     first_pool = found_first same_pool same_pool_equiv (is_pool job.pool) pool s.pools h.keys.pools in_pool
@@ -413,7 +407,7 @@ module _ (seats : ℕ) (s : State) (job : JobRow) (node : NodeRow) (task : TaskR
         either false e = slots_elsewhere other e k
 
     -- a task that is placed keeps tables sound
-    pub consistent_placed : IsConsistent seats (place s task node).state
+    pub consistent_placed : IsConsistent seats (placed_with s node task state)
     consistent_placed = record {
       keys = record {
         pools = h.keys.pools;
@@ -464,12 +458,13 @@ module _ (seats : ℕ) (s : State) (job : JobRow) (node : NodeRow) (task : TaskR
         pools_of_nodes = h.seated.pools_of_nodes;
         nodes_of_runs =
             each_append (has_node_while_unended s) s.runs run h.seated.nodes_of_runs
-            (any_found (is_node node.number) (λ (each : NodeRow). same_node each node) node s.nodes first_node (is_itself node.number));
+            (or_second (not (is_unended state)) (any_found (is_node node.number) (λ (each : NodeRow). same_node each node) node s.nodes first_node (is_itself node.number)));
       };
-      belonging = each_append (belongs after) s.runs run (each_weaker (belongs s) (belongs after) belongs_still s.runs h.belonging) is_owned;
+      belonging = each_append (belongs after) s.runs run (each_weaker (belongs s) (belongs after) belongs_still s.runs h.belonging)
+          (or_second (not (is_work TaskRun && is_unended state)) is_owned);
       ending =
           each_change is_it (λ (old : TaskRow). placed task) (can_be_settled s) (can_be_settled after)
-          (λ x t p. or_first _ (or_first _ (new_run_present s node task))) (λ x t. settled_still x) s.tasks h.ending;
+          (λ x t p. or_first _ (or_first _ (new_run_present s node task state going))) (λ x t. settled_still x) s.tasks h.ending;
       naming = record {
         on_nodes = each_append (fits_nodes s) s.runs run h.naming.on_nodes run_fits;
         of_jobs = each_append names_no_task s.runs run h.naming.of_jobs refl;
@@ -477,10 +472,10 @@ module _ (seats : ℕ) (s : State) (job : JobRow) (node : NodeRow) (task : TaskR
       slots =
           each_of_two (λ (other : NodeRow). not (same_node other node) || same other.pool pool.id) (has_slots_for s) (has_slots_for after) slots_still s.nodes
           (each_with_key same_node same_node_equiv (λ (other : NodeRow). same other.pool pool.id) node node s.nodes h.keys.nodes first_node
-          (and_second _ _ (and_first _ _ fitting_node)))
+          of_pool)
           h.slots;
       built = record {
-        runs = each_append (λ (each : RunRow). is_start each.kind || is_main each.kind || not (is_unended each.state)) s.runs run h.built.runs refl;
+        runs = each_append (λ (each : RunRow). not (is_coordination each.kind && is_unended each.state)) s.runs run h.built.runs refl;
         nodes = h.built.nodes;
       };
     }

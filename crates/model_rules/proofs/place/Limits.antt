@@ -8,24 +8,24 @@ use Rattle.bt_rows.specs.Keys.{same_job, same_job_equiv}
 use Rattle.bt_rows.specs.Lists.{AreDistinct}
 use Rattle.bt_rows.specs.Ranges.{is_slot_count}
 use Rattle.bt_rows.proofs.DistinctRows.{found_first}
-use Rattle.batch_model.specs.Finding.{last_number, has_number_left}
+use Rattle.batch_model.specs.Finding.{last_number}
 use Rattle.batch_model.specs.Rows.{is_task}
 use Rattle.batch_model.specs.Runs.{work_run}
 use Rattle.batch_model.specs.Tasks.{is_in_job, is_placed_in}
 use Rattle.batch_model.specs.Jobs.{is_job_active, is_quiet}
-use Rattle.batch_model.specs.Placing.{places_tasks, is_ready, is_placeable, placed, place}
+use Rattle.batch_model.specs.Placing.{is_ready, is_placeable, placed}
 use Rattle.batch_model.specs.Limits.{task_limit}
 use Rattle.batch_model.specs.Sound.{IsWithinLimits}
 use Rattle.batch_model.specs.WellFormed.{is_task_in_range, is_task_valid, is_run_valid, has_no_placed_if_quiet}
 use Rattle.batch_model.specs.Variants.{State, NodeRow, JobRow, JobState, JobActive, Disabling, Disabled, Enabling, Terminating, JobCompleted, Deleting, TaskRow}
-use Rattle.batch_model.specs.Variants.{RunRow, TaskRun, Queued}
+use Rattle.batch_model.specs.Variants.{RunRow, RunState, TaskRun}
 use Rattle.model_lists.proofs.Tests.{and_true, and_first, and_second, asked}
 use Rattle.model_lists.proofs.RowLists.{each_append, each_of_two, each_found, any_none, none_any}
 use Rattle.model_lists.proofs.ChangedRows.{each_change_same}
 use Rattle.model_lists.proofs.DistinctLists.{each_with_key}
-use Rattle.model_lists.proofs.NextNumbers.{is_not_after_itself, ordered}
+use Rattle.model_lists.proofs.NextNumbers.{is_not_after_itself, tested}
 use Rattle.model_lists.proofs.Lengths.{change_keeps_length}
-use Rattle.model_tables.proofs.StartAdded.{left_in_range}
+use Rattle.model_rules.proofs.place.Consistent.{placed_with}
 use Rattle.model_rules.proofs.Rules.{less_placed}
 
 -- a task that is placed
@@ -50,15 +50,15 @@ active_loud Terminating h = refl
 active_loud JobCompleted h = cc
 active_loud Deleting h = refl
 
-module _ (s : State) (job : JobRow) (node : NodeRow) (task : TaskRow) (test : JobRow → Bool) (task_test : TaskRow → Bool) (h : IsWithinLimits s)
-    (keys : AreDistinct same_job s.jobs) (there : find test s.jobs ≡ Some job) (active : places_tasks s job ≡ true) (f : find task_test s.tasks ≡ Some task)
+module _ (s : State) (job : JobRow) (node : NodeRow) (task : TaskRow) (state : RunState) (test : JobRow → Bool) (task_test : TaskRow → Bool) (h : IsWithinLimits s)
+    (keys : AreDistinct same_job s.jobs) (there : find test s.jobs ≡ Some job) (active : is_job_active job.state ≡ true) (f : find task_test s.tasks ≡ Some task)
     (can : is_placeable job task ≡ true) where
   -- the tables after the step, and the new run
   abbrev after : State
-  after = (place s task node).state
+  after = placed_with s node task state
 
   abbrev run : RunRow
-  run = work_run s node (placed task) TaskRun task.line task.slots Queued
+  run = work_run s node (placed task) TaskRun task.line task.slots state
 
   -- the task is valid
   task_valid : is_task_valid s.moment task ≡ true
@@ -78,11 +78,11 @@ module _ (s : State) (job : JobRow) (node : NodeRow) (task : TaskRow) (test : Jo
   placed_valid = and_true (and_first _ _ task_valid) (fails_less task.failures task.attempt (and_first _ _ (and_second _ _ task_valid)))
 
   -- the new run is valid
-  run_valid : has_number_left s.next_run ≡ true → is_run_valid s.moment run ≡ true
-  run_valid left =
+  run_valid : s.next_run ≤ last_number + 1 → is_run_valid s.moment run ≡ true
+  run_valid most =
       and_true
       (and_true
-      (and_true (left_in_range s.next_run 63 h.counts.first_run left) few_slots)
+      (and_true (and_true (tested 1 s.next_run h.counts.first_run) (tested s.next_run (last_number + 63) (omega (arith, most)))) few_slots)
       (and_true (and_true (is_not_after_itself s.moment) refl) refl))
       refl
 
@@ -117,9 +117,8 @@ module _ (s : State) (job : JobRow) (node : NodeRow) (task : TaskRow) (test : Jo
           less_placed (is_quiet other.state) (list_any (is_placed_in other.id) s.tasks) (list_any (is_placed_in other.id) after.tasks) (elsewhere e)
 
   -- a task of an active job, while run numbers last
-  pub limited_placed : has_number_left s.next_run ≡ true → IsWithinLimits (place s task node).state
-  limited_placed left =
-      let most : s.next_run ≤ last_number = ordered s.next_run last_number left in
+  pub limited_placed : s.next_run ≤ last_number + 1 → IsWithinLimits (placed_with s node task state)
+  limited_placed most =
       record {
         rows = record {
           moment = h.rows.moment;
@@ -129,7 +128,7 @@ module _ (s : State) (job : JobRow) (node : NodeRow) (task : TaskRow) (test : Jo
           tasks =
               each_change_same (is_task task.job task.id) (λ (old : TaskRow). placed task) (is_task_valid s.moment)
               (λ x t p. placed_valid) s.tasks h.rows.tasks;
-          runs = each_append (is_run_valid s.moment) s.runs run h.rows.runs (run_valid left);
+          runs = each_append (is_run_valid s.moment) s.runs run h.rows.runs (run_valid most);
           samples = h.rows.samples;
           scales = h.rows.scales;
         };
@@ -147,7 +146,7 @@ module _ (s : State) (job : JobRow) (node : NodeRow) (task : TaskRow) (test : Jo
             (has_no_placed_if_quiet after) quiet_still s.jobs
             (each_with_key same_job same_job_equiv (λ (other : JobRow). not (is_quiet other.state)) job job s.jobs keys
             (found_first same_job same_job_equiv test job s.jobs keys there)
-            (active_loud job.state (and_first _ _ (and_first _ _ active))))
+            (active_loud job.state active))
             h.quiet;
         pools = record {
           deleting = h.pools.deleting;
@@ -158,5 +157,4 @@ module _ (s : State) (job : JobRow) (node : NodeRow) (task : TaskRow) (test : Jo
           covered = h.pools.covered;
           kept = h.pools.kept;
         };
-        built = record { preps = h.built.preps };
       }

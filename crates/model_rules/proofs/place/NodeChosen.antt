@@ -6,7 +6,7 @@ use Rattle.bt_rows.specs.Keys.{same_node, same_node_equiv}
 use Rattle.bt_rows.specs.Lists.{AreDistinct}
 use Rattle.batch_model.specs.Finding.{Each, best}
 use Rattle.batch_model.specs.Placing.{fits, precedes, choice}
-use Rattle.batch_model.specs.Variants.{State, PoolRow, NodeRow}
+use Rattle.batch_model.specs.Variants.{State, JobRow, PoolRow, NodeRow}
 use Rattle.model_lists.proofs.Tests.{not_true}
 use Rattle.model_lists.proofs.RowLists.{each_head, each_tail, each_found, any_none}
 
@@ -78,11 +78,11 @@ module _ {R : Type 0} (same : R → R → Bool) (e : IsEquivalence same) (before
   best_first [] x d h = cc
   best_first (row ∷ rows) x d h = first_cons row x rows (p row) d.0 h (best_first rows x d.1)
 
-module _ (s : State) (pool : PoolRow) (need : ℕ) (node : NodeRow) (chosen : choice s pool need ≡ Some node) where
+module _ (s : State) (job : JobRow) (pool : PoolRow) (need : ℕ) (node : NodeRow) (chosen : choice s job pool need ≡ Some node) where
   -- the node has the slots free
-  pub chosen_fits : fits s pool need node ≡ true
-  chosen_fits = best_passes (precedes s pool.fill) (fits s pool need) (filter (fits s pool need) s.nodes) node (filter_passes (fits s pool need) s.nodes) chosen
+  pub chosen_fits : fits s job pool need node ≡ true
+  chosen_fits = best_passes (precedes s pool.fill) (fits s job pool need) (filter (fits s job pool need) s.nodes) node (filter_passes (fits s job pool need) s.nodes) chosen
 
   -- it is the one with its number
   pub chosen_first : AreDistinct same_node s.nodes → find (λ (other : NodeRow). same_node other node) s.nodes ≡ Some node
-  chosen_first keys = best_first same_node same_node_equiv (precedes s pool.fill) (fits s pool need) s.nodes node keys chosen
+  chosen_first keys = best_first same_node same_node_equiv (precedes s pool.fill) (fits s job pool need) s.nodes node keys chosen

@@ -7,15 +7,14 @@ use Rattle.bt_rows.proofs.DistinctRows.{found_first}
 use Rattle.batch_model.specs.Rows.{is_job, pool_of, job_of}
 use Rattle.batch_model.specs.Tasks.{is_in_job}
 use Rattle.batch_model.specs.Nodes.{is_in_pool, is_usable}
-use Rattle.batch_model.specs.Slots.{held_slots}
-use Rattle.batch_model.specs.Placing.{is_ready, is_placeable, fits, choice, place, place_task}
+use Rattle.batch_model.specs.Slots.{held_slots, has_free}
+use Rattle.batch_model.specs.Placing.{is_ready, is_placeable, choice, place_task}
 use Rattle.batch_model.specs.Laws.{PlacesTask}
 use Rattle.batch_model.specs.Sound.{IsConsistent}
 use Rattle.batch_model.specs.Variants.{State, PoolRow, NodeRow, JobRow, TaskRow}
 use Rattle.model_lists.proofs.Tests.{and_first, and_second}
 use Rattle.model_lists.proofs.RowLists.{find_agree}
 use Rattle.model_rules.proofs.place.NodeChosen.{chosen_fits, chosen_first}
-use Rattle.model_rules.proofs.place.Consistent.{held_more}
 
 -- the task can be placed
 abbrev pub has_place : State → JobRow → PoolRow → TaskRow → Bool
@@ -35,7 +34,8 @@ is_taken_from held need slots later h e = omega (arith, h, e)
 
 module _ (seats : ℕ) (s : State) (h : IsConsistent seats s) (job : JobRow) (pool : PoolRow) (node : NodeRow) (task : TaskRow)
     (job_found : find (λ (other : JobRow). same_job other job) s.jobs ≡ Some job) (pool_found : pool_of s job.pool ≡ Some pool)
-    (task_found : find (has_place s job pool) s.tasks ≡ Some task) (can : is_placeable job task ≡ true) (chosen : choice s pool task.slots ≡ Some node) where
+    (task_found : find (has_place s job pool) s.tasks ≡ Some task) (can : is_placeable job task ≡ true) (chosen : choice s job pool task.slots ≡ Some node) (after : State)
+    (more : held_slots after node.number ≡ held_slots s node.number + task.slots) where
   -- the job is the one that the task names
   job_of_task : job_of s task.job ≡ Some job
   job_of_task =
@@ -46,15 +46,15 @@ module _ (seats : ℕ) (s : State) (h : IsConsistent seats s) (job : JobRow) (po
       ∙ job_found
 
   -- the node fits
-  fitting : fits s pool task.slots node ≡ true
-  fitting = chosen_fits s pool task.slots node chosen
+  fitting : (is_usable node.stage && is_in_pool pool.id node && has_free s pool task.slots node) ≡ true
+  fitting = and_first _ _ (chosen_fits s job pool task.slots node chosen)
 
   -- the task's slots are free on it
   free_there : held_slots s node.number + task.slots ≤ pool.slots
   free_there = ordered (held_slots s node.number) task.slots pool.slots (and_second (is_usable node.stage && is_in_pool pool.id node) _ fitting)
 
   -- the placing takes them
-  pub places_task : PlacesTask s (place s task node).state task.job task.id node.number
+  pub places_task : PlacesTask s after task.job task.id node.number
   places_task = record {
     job = job;
     pool = pool;
@@ -62,12 +62,11 @@ module _ (seats : ℕ) (s : State) (h : IsConsistent seats s) (job : JobRow) (po
     task = task;
     job_there = job_of_task;
     pool_there = pool_found;
-    node_there = chosen_first s pool task.slots node chosen h.keys.nodes;
+    node_there = chosen_first s job pool task.slots node chosen h.keys.nodes;
     task_there = found_first same_task same_task_equiv (has_place s job pool) task s.tasks h.keys.tasks task_found;
     usable = and_first (is_usable node.stage) (is_in_pool pool.id node) (and_first (is_usable node.stage && is_in_pool pool.id node) _ fitting);
     in_pool = and_second (is_usable node.stage) (is_in_pool pool.id node) (and_first (is_usable node.stage && is_in_pool pool.id node) _ fitting);
     room = fits_in (held_slots s node.number) task.slots pool.slots free_there;
     taken =
-        is_taken_from (held_slots s node.number) task.slots pool.slots (held_slots (place s task node).state node.number) free_there
-        (held_more seats s job node task (has_place s job pool) h task_found can);
+        is_taken_from (held_slots s node.number) task.slots pool.slots (held_slots after node.number) free_there more;
   }
