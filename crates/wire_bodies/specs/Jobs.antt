@@ -1,5 +1,5 @@
 -- The body of `add-job`.
-use Rattle.std.specs.Prelude.{ℕ, List, Option, Some, None, Result, Ok, pos, negsuc, false, unwrap_or}
+use Rattle.std.specs.Prelude.{ℕ, List, Option, Some, None, Result, Ok, pos, negsuc, false, is_some, unwrap_or}
 use Rattle.serde_json.specs.Data.{Data}
 use Rattle.bt_base.specs.Fails.{◌>>=◌}
 use Rattle.bt_rows.specs.declared.member.Member.TheVariants as names
@@ -9,6 +9,7 @@ use Rattle.bt_rows.specs.declared.refusal.Refusal.{Refusal}
 use Rattle.wire_members.specs.Body.{object_of}
 use Rattle.wire_members.specs.Members.{id_member, object_member, unbuilt_member}
 use Rattle.wire_bodies.specs.JobMembers.{priority_if, parallel_if, limits_if, on_all_if}
+use Rattle.wire_bodies.specs.JobTasks.{preparation_if, release_if}
 
 -- no wall time and no retries, if there are no limits
 abbrev pub limits_or_none : Option Limits → Limits
@@ -24,11 +25,11 @@ job_in d = do
   _ ← unbuilt_member (Some d) names.UsesTaskDependencies
   on_all ← on_all_if d
   _ ← unbuilt_member (Some d) names.OnTaskFailure
-  _ ← unbuilt_member (Some d) names.JobPreparationTask
-  _ ← unbuilt_member (Some d) names.JobReleaseTask
+  prep ← preparation_if d
+  release ← release_if (is_some prep) d
   place ← object_member (Some d) names.PoolInfo
   pool ← id_member place names.PoolId
-  Ok (id, record { pool = pool; priority = unwrap_or priority (pos 0); parallel = unwrap_or parallel (negsuc 0); retries = (limits_or_none limits).retries; wall = (limits_or_none limits).wall; deps = false; on_all = unwrap_or on_all false; on_fail = false; prep = None; release = None })
+  Ok (id, record { pool = pool; priority = unwrap_or priority (pos 0); parallel = unwrap_or parallel (negsuc 0); retries = (limits_or_none limits).retries; wall = (limits_or_none limits).wall; deps = false; on_all = unwrap_or on_all false; on_fail = false; prep = prep; release = release })
 
 -- the job that the bytes of a body are, and its id
 unfoldable pub job_of : List ℕ → Result (List ℕ × JobSpec) Refusal

@@ -2,6 +2,7 @@ pub mod Collections
 pub mod Items
 pub mod JobChanges
 pub mod JobMembers
+pub mod JobTasks
 pub mod Jobs
 pub mod Pools
 pub mod Starts

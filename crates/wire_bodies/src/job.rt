@@ -6,6 +6,7 @@ ghost use Rattle.bt_rows.specs.Ranges.{is_job_spec_in_range, are_limits_in_range
 ghost use Rattle.wire_bodies.specs.Jobs.{limits_or_none, job_in, job_of};
 
 use crate::job_member::{limits_if, on_all_if, parallel_if, priority_if};
+use crate::job_task::{preparation_if, release_if};
 use bt_base::{Fail, Id};
 use bt_rows::event::{JobSpec, Limits};
 use bt_rows::member::Member;
@@ -40,8 +41,8 @@ fn job(alloc: Global, body: &Value) -> Result<(Id, JobSpec), Fail<Refusal>>
     unbuilt_member(Some(body), Member::UsesTaskDependencies)?;
     let on_all = on_all_if(body)?;
     unbuilt_member(Some(body), Member::OnTaskFailure)?;
-    unbuilt_member(Some(body), Member::JobPreparationTask)?;
-    unbuilt_member(Some(body), Member::JobReleaseTask)?;
+    let prep = preparation_if(alloc, body)?;
+    let release = release_if(alloc, prep.is_some(), body)?;
     let place = object_member(Some(body), Member::PoolInfo)?;
     let pool = id_member(alloc, place, Member::PoolId)?;
     let limits = limits_or_none(limits);
@@ -56,8 +57,8 @@ fn job(alloc: Global, body: &Value) -> Result<(Id, JobSpec), Fail<Refusal>>
             deps: false,
             on_all: on_all.unwrap_or(false),
             on_fail: false,
-            prep: None,
-            release: None,
+            prep,
+            release,
         },
     ))
 }
@@ -67,7 +68,9 @@ fn job(alloc: Global, body: &Value) -> Result<(Id, JobSpec), Fail<Refusal>>
 /// - `priority` from -1,000 to 1,000 (0);
 /// - `maxParallelTasks` from 1 to 2,147,483,647, or -1 for no limit (-1);
 /// - `constraints` with `maxWallClockTime`, a duration of at most 36,500 days (no limit);
-/// - `onAllTasksComplete`, which is `noaction` or `terminatejob` in upper or lower case (`noaction`).
+/// - `onAllTasksComplete`, which is `noaction` or `terminatejob` in upper or lower case (`noaction`);
+/// - `jobPreparationTask`, as `preparation_if` reads it (none);
+/// - `jobReleaseTask`, as `release_if` reads it (none).
 ///
 /// Bytes that are not a JSON object are `UnreadableBody`. A member that is of a wrong kind or out of range, an absent `id` or
 /// `poolId` and a member that the service does not support yet are `InvalidPropertyValue` with its name; an absent `poolInfo` is

@@ -6,6 +6,7 @@ mod collection;
 mod job;
 mod job_change;
 mod job_member;
+mod job_task;
 mod list_item;
 mod pool;
 mod reason;

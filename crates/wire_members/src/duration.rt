@@ -1,9 +1,9 @@
 //! Members that are durations (ISO 8601). They do not allocate.
-ghost use Rattle.std.specs.Prelude.{◌≡◌, true, option_map, IfOk, IfSome};
+ghost use Rattle.std.specs.Prelude.{◌≡◌, ◌≤◌, true, option_map, IfOk, IfSome};
 ghost use Rattle.serde_json.specs.View.{view};
 ghost use Rattle.bt_base.specs.Fails.{Gives};
 ghost use Rattle.bt_rows.specs.Ranges.{is_duration, passes_if_some};
-ghost use Rattle.wire_members.specs.Durations.{duration_in, duration_member};
+ghost use Rattle.wire_members.specs.Durations.{duration_in, duration_member, limited_duration_in, limited_duration_member};
 
 use crate::member::{invalid_property, member};
 use bt_base::Fail;
@@ -37,5 +37,36 @@ pub fn duration_member(part: Option<&Value>, name: Member) -> Result<Option<u64>
             Some(duration) => Ok(duration),
             None => Err(invalid_property(name)),
         },
+    }
+}
+
+/// The value as a duration of at most `limit`, in milliseconds, if it is one.
+fn limited_duration_of(value: &Value, limit: u64) -> Option<u64>
+    ensures value { result ≡ limited_duration_in limit (view value.now) }
+    ensures bound { IfSome result (λ duration. duration ≤ limit) }
+{
+    match duration_of(value) {
+        Some(Some(duration)) => if duration <= limit {
+            Some(duration)
+        } else {
+            None
+        },
+        _ => None,
+    }
+}
+
+/// A duration of at most `limit`, in milliseconds; the default if it is absent.
+pub fn limited_duration_member(
+    part: Option<&Value>,
+    name: Member,
+    limit: u64,
+    default: u64,
+) -> Result<u64, Fail<Refusal>>
+    ensures value { Gives result (limited_duration_member (option_map (λ v. view v.now) part.entry) name limit default) }
+    ensures bound { default ≤ limit → IfOk result (λ duration. duration ≤ limit) }
+{
+    match member(part, name) {
+        None => Ok(default),
+        Some(value) => limited_duration_of(value, limit).ok_or(invalid_property(name)),
     }
 }

@@ -10,7 +10,7 @@ mod word;
 mod words;
 
 pub use body::read_object;
-pub use duration::duration_member;
+pub use duration::{duration_member, limited_duration_member};
 pub use member::{
     command_member, count_member, flag_member, id_member, invalid_property, list_member,
     object_item, object_member, required_count, required_list, required_object, required_signed,
