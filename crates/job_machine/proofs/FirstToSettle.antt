@@ -2,7 +2,7 @@
 use Rattle.std.proofs.Common.{◌≡◌, Bool, true, false, ◌&&◌, ◌||◌, Some, None, refl}
 use Rattle.std.specs.List.{find}
 use Rattle.std.specs.Option.{is_some}
-use Rattle.batch_model.specs.Settling.{is_over, is_to_requeue, is_to_complete, is_to_settle, wants_requeue, wants_termination, wants_wall_end, has_no_conditions, has_plain_job, has_job_without_actions}
+use Rattle.batch_model.specs.Settling.{is_over, is_to_settle, wants_requeue, wants_termination, wants_wall_end, has_no_conditions, has_plain_job, has_job_without_actions}
 use Rattle.batch_model.specs.Tasks.{is_undisturbed, main_ending}
 use Rattle.batch_model.specs.Variants.{State, TaskRow}
 use Rattle.job_rules.proofs.FirstWeaker.{none_weaker, first_weaker}

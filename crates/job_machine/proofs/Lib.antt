@@ -1,4 +1,7 @@
 pub mod FoundJobs
 pub mod AnsweredTasks
-pub mod OtherEndings
+pub mod FoundPreps
+pub mod EndingPuts
 pub mod FirstToSettle
+pub mod EndedPreparations
+pub mod PreparationPuts

@@ -1,2 +1,3 @@
 pub mod Collections
+pub mod Endings
 pub mod Owners

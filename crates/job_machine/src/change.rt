@@ -4,8 +4,10 @@ ghost use Rattle.std.specs.Option.{option_copied};
 ghost use Rattle.bt_rows.specs.Changes.{apply_changes};
 ghost use Rattle.bt_rows.specs.declared.refusal.Refusal.TheVariants.{JobNotFound};
 ghost use Rattle.batch_model.specs.Events.{accept, delete_job, disable_job, enable_job, for_row, patch_job, patched, takes_end_back, terminate_job, user_terminate};
+ghost use Rattle.batch_model.specs.Finding.{Each};
 ghost use Rattle.batch_model.specs.Jobs.{can_disable};
 ghost use Rattle.batch_model.specs.Rows.{job_of, put_job};
+ghost use Rattle.batch_model.specs.Sound.{names_no_task};
 ghost use Rattle.batch_model.specs.WellFormed.{KeysAreDistinct};
 ghost use Rattle.machine_plans.specs.Plans.{IsAnswer, IsPlanOf, with_moment};
 
@@ -213,6 +215,7 @@ fn terminate_found(
 ) -> Result<Plan, Fail<Refusal>>
     requires keys { KeysAreDistinct tables.now.state }
     requires there { job_of tables.now.state job.now.id ≡ Some job.now }
+    requires apart { Each names_no_task tables.now.state.runs }
     ensures { IsAnswer now (terminate_job (with_moment now tables.now.state) (option_copied reason.entry) job.now) tables.now.state result }
 {
     let state = job.state;
@@ -233,6 +236,7 @@ pub fn terminate_job(
     reason: Option<&Text>,
 ) -> Result<Plan, Fail<Refusal>>
     requires keys { KeysAreDistinct tables.now.state }
+    requires apart { Each names_no_task tables.now.state.runs }
     ensures { IsAnswer now (for_row (with_moment now tables.now.state) JobNotFound (terminate_job (with_moment now tables.now.state) (option_copied reason.entry)) (job_of (with_moment now tables.now.state) id.now)) tables.now.state result }
 {
     match tables.find_job(id) {
@@ -250,6 +254,7 @@ fn delete_found(
 ) -> Result<Plan, Fail<Refusal>>
     requires keys { KeysAreDistinct tables.now.state }
     requires there { job_of tables.now.state job.now.id ≡ Some job.now }
+    requires apart { Each names_no_task tables.now.state.runs }
     ensures { IsAnswer now (delete_job (with_moment now tables.now.state) job.now) tables.now.state result }
 {
     if job.state == JobState::Deleting {
@@ -263,6 +268,7 @@ fn delete_found(
 /// The answer to `delete-job`.
 pub fn delete_job(alloc: Global, tables: &Tables, now: u64, id: &Id) -> Result<Plan, Fail<Refusal>>
     requires keys { KeysAreDistinct tables.now.state }
+    requires apart { Each names_no_task tables.now.state.runs }
     ensures { IsAnswer now (for_row (with_moment now tables.now.state) JobNotFound (delete_job (with_moment now tables.now.state)) (job_of (with_moment now tables.now.state) id.now)) tables.now.state result }
 {
     match tables.find_job(id) {

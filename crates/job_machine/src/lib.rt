@@ -8,6 +8,8 @@ mod collection;
 mod ending;
 mod job;
 mod machine;
+mod preparing;
+mod preps;
 mod settle;
 mod task;
 

@@ -2,7 +2,8 @@
 ghost use Rattle.std.specs.Prelude.{◌≡◌, true, IfOk};
 ghost use Rattle.batch_model.specs.Dues.{job_step};
 ghost use Rattle.batch_model.specs.Events.{event_now};
-ghost use Rattle.batch_model.specs.Sound.{IsSound};
+ghost use Rattle.batch_model.specs.Finding.{Each};
+ghost use Rattle.batch_model.specs.Sound.{IsSound, NumbersAreNew, names_no_task};
 ghost use Rattle.batch_model.specs.WellFormed.{KeysAreDistinct};
 ghost use Rattle.machine_plans.specs.Plans.{IsAnswer, IsRule, with_moment};
 ghost use Rattle.job_machine.specs.Owners.{is_of_jobs};
@@ -18,8 +19,8 @@ use bt_rows::event::{Event, EventKind};
 use bt_rows::plan::{Plan, View};
 use bt_rows::refusal::Refusal;
 use job_rules::{
-    disable_first, enable_first, end_first, terminate_first, time_out_job_first,
-    time_out_task_first,
+    disable_first, enable_first, end_first, release_first, terminate_first, time_out_job_first,
+    time_out_release_first, time_out_task_first,
 };
 use machine_index::IndexedTables;
 use std::alloc::Global;
@@ -62,9 +63,7 @@ pub fn plan_event(alloc: Global, view: &View, event: &Event) -> Result<Plan, Fai
         EventKind::AddTasks(job, specs) => {
             add_tasks(alloc, view.tables, view.now, job, specs.as_slice())
         }
-        EventKind::End(number, ending) => {
-            end_run(alloc, view.tables, view.now, *number, *ending)
-        }
+        EventKind::End(number, ending) => { end_run(alloc, view, *number, *ending) }
         EventKind::DeleteTask(_, _)
         | EventKind::TerminateTask(_, _)
         | EventKind::ReactivateTask(_, _) => Err(Fail::Why(Refusal::UnreadableBody)),
@@ -73,16 +72,23 @@ pub fn plan_event(alloc: Global, view: &View, event: &Event) -> Result<Plan, Fai
 }
 
 /// The plan of the first due step of jobs and tasks; None exactly if no rule of theirs applies. In this order: a task whose wall time is
-/// over is stopped (U2), and a job whose wall time is over is terminated (U4); a placed task without an unended run in its present
+/// over is stopped (U2), a release run whose wall time is over is asked to stop (U3), and a job whose wall time is over is terminated
+/// (U4); a placed task without an unended run in its present
 /// attempt is settled (U5); an enabling job is active (U6); an active job that is to be terminated with its
 /// tasks is terminated once these are completed (U7); a disabling job without placed tasks is disabled (U8); a terminating or deleting
-/// job without placed tasks and unended runs is completed, or removed (U10). The only error is out of memory.
+/// job without placed tasks and unended preparation runs runs its release task where it was prepared and a task of it was started (U9),
+/// and one without placed tasks and unended runs is completed, or removed (U10). The only error is out of memory.
 pub fn next_due(alloc: Global, indexed: &IndexedTables) -> Result<Option<Plan>, NoMemory>
     requires keys { KeysAreDistinct indexed.now.state }
+    requires numbers { NumbersAreNew indexed.now.state }
+    requires apart { Each names_no_task indexed.now.state.runs }
     ensures { IfOk result (IsRule (job_step indexed.now.state) indexed.now.state) }
 {
     let tables = indexed.tables();
     if let Some(plan) = time_out_task_first(alloc, indexed)? {
+        return Ok(Some(plan));
+    }
+    if let Some(plan) = time_out_release_first(alloc, tables)? {
         return Ok(Some(plan));
     }
     if let Some(plan) = time_out_job_first(alloc, tables)? {
@@ -98,6 +104,9 @@ pub fn next_due(alloc: Global, indexed: &IndexedTables) -> Result<Option<Plan>, 
         return Ok(Some(plan));
     }
     if let Some(plan) = disable_first(alloc, tables)? {
+        return Ok(Some(plan));
+    }
+    if let Some(plan) = release_first(alloc, tables)? {
         return Ok(Some(plan));
     }
     end_first(alloc, tables)

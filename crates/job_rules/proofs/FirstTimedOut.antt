@@ -1,5 +1,5 @@
 -- The first task whose wall time is over is the first that is out of time, if that one has an unended run.
-use Rattle.std.proofs.Common.{◌≡◌, ℕ, Bool, true, false, ◌&&◌, Some, None, refl}
+use Rattle.std.proofs.Common.{◌≡◌, Bool, true, false, ◌&&◌, Some, None}
 use Rattle.std.specs.List.{find}
 use Rattle.batch_model.specs.Tasks.{is_placed, is_undisturbed, is_busy}
 use Rattle.batch_model.specs.WallTimes.{is_out_of_time, is_task_timed_out}

@@ -25,7 +25,7 @@ use table_scans::{is_unended, names};
 use task_stops::job_in;
 
 /// Whether the job is terminating or deleting.
-fn is_closing(state: JobState) -> bool
+pub fn is_closing(state: JobState) -> bool
     ensures { result ≡ is_closing state }
 {
     matches!(state, JobState::Terminating | JobState::Deleting)

@@ -2,8 +2,10 @@
 ghost use Rattle.std.specs.Prelude.{◌≡◌, Some, IfOk, find};
 ghost use Rattle.std.specs.Option.{option_copied};
 ghost use Rattle.bt_rows.specs.declared.reply.Reply.TheVariants.{Step};
+ghost use Rattle.batch_model.specs.Finding.{Each};
 ghost use Rattle.batch_model.specs.JobRules.{all_complete, enable_first, disable_first, terminate_first, ends_with_tasks, has_all_completed, is_to_disable, is_to_enable, job_disabled, job_enabled, tasks_done};
 ghost use Rattle.batch_model.specs.Rows.{job_of, put_job};
+ghost use Rattle.batch_model.specs.Sound.{names_no_task};
 ghost use Rattle.batch_model.specs.Tasks.{has_placed_task};
 ghost use Rattle.batch_model.specs.WellFormed.{KeysAreDistinct};
 ghost use Rattle.machine_plans.specs.Plans.{IsPlanOf, IsRule, answer_of_step};
@@ -142,6 +144,7 @@ fn all_complete(alloc: Global) -> Result<Text, NoMemory>
 fn end_with_tasks(alloc: Global, tables: &Tables, job: &JobRow) -> Result<Plan, NoMemory>
     requires keys { KeysAreDistinct tables.now.state }
     requires there { job_of tables.now.state job.now.id ≡ Some job.now }
+    requires apart { Each names_no_task tables.now.state.runs }
     ensures { IfOk result (IsPlanOf (answer_of_step (tasks_done tables.now.state job.now)) tables.now.state) }
 {
     let due = Due::TasksDone(job.id.copy()?);
@@ -162,7 +165,8 @@ fn end_with_tasks(alloc: Global, tables: &Tables, job: &JobRow) -> Result<Plan, 
 
 /// The plan that terminates the first job that ends with its tasks.
 pub fn terminate_first(alloc: Global, tables: &Tables) -> Result<Option<Plan>, NoMemory>
-    requires { KeysAreDistinct tables.now.state }
+    requires keys { KeysAreDistinct tables.now.state }
+    requires apart { Each names_no_task tables.now.state.runs }
     ensures { IfOk result (IsRule (terminate_first tables.now.state) tables.now.state) }
 {
     match first_that_ends_with_tasks(tables) {

@@ -1,5 +1,5 @@
 -- The changes that open tables: a put for each row that the opening changes, and a drop for each row that goes.
-use Rattle.std.specs.Prelude.{ℕ, Bool, not, ◌&&◌, nat_eq, List, [], ◌∷◌, ◌++◌, map, Option, Some, None, is_none, if◌then◌else◌}
+use Rattle.std.specs.Prelude.{ℕ, Bool, not, ◌&&◌, nat_eq, List, ◌++◌, map, Option, Some, is_none, if◌then◌else◌}
 use Rattle.bt_rows.specs.State.{State}
 use Rattle.bt_rows.specs.declared.tables.Change.{Change}
 use Rattle.bt_rows.specs.declared.tables.Change.TheVariants.{PutPool, PutTask, PutRun, DropNode}

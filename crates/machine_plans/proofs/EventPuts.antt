@@ -1,20 +1,16 @@
 -- What events put into the tables.
-use Rattle.std.proofs.Common.{◌≡◌, ℕ, true, false, ◌&&◌, List, Option, Some, None, is_some, refl, sym, ◌∙◌, ap, subst}
+use Rattle.std.proofs.Common.{◌≡◌, ℕ, false, Option, Some, None, is_some, refl, sym, ap, subst}
 use Rattle.std.specs.List.{find}
 use Rattle.std.proofs.lemmas.Bool.Decides.{Decides-eqb}
-use Rattle.bt_base.specs.Ids.{same}
-use Rattle.bt_base.proofs.SameIds.{same_equiv}
 use Rattle.bt_rows.specs.declared.tables.Change.TheVariants.{PutPool, PutJob, PutTask, PutRun}
 use Rattle.bt_rows.specs.Changes.{apply_change}
-use Rattle.bt_rows.specs.Keys.{same_run, same_run_equiv, same_task, same_task_equiv}
-use Rattle.batch_model.specs.Finding.{names}
+use Rattle.bt_rows.specs.Keys.{same_run, same_run_equiv}
 use Rattle.batch_model.specs.Rows.{is_pool, is_job, is_task, is_run, pool_of, job_of, task_of, run_of, add_pool_row, add_job_row, add_task_row, change_runs}
-use Rattle.batch_model.specs.Events.{taken_run, ended_run, started_task, is_task_of_run, run_taken}
+use Rattle.batch_model.specs.Events.{ended_run}
 use Rattle.batch_model.specs.WellFormed.{KeysAreDistinct}
 use Rattle.batch_model.specs.Variants.{State, PoolRow, JobRow, TaskRow, RunRow, Ending}
-use Rattle.model_lists.proofs.Tests.{and_first, and_second}
 use Rattle.model_lists.proofs.RowLists.{find_test}
-use Rattle.model_lists.proofs.Putting.{put_row-new, any-not_found, put_row-found, change_where-none}
+use Rattle.model_lists.proofs.Putting.{put_row-new, any-not_found, put_row-found}
 
 -- nothing is there
 is_nothing : {A : Type 0} (o : Option A) → is_some o ≡ false → o ≡ None
@@ -56,30 +52,3 @@ module _ (s : State) (keys : KeysAreDistinct s) (run : RunRow) (there : run_of s
   -- the run has ended; what else its ending does is not put yet
   pub ended_put : (now : ℕ) (ending : Ending) → apply_change (PutRun (ended_run now ending run)) (record s { moment = now }) ≡ change_runs (is_run run.number) (ended_run now ending) (record s { moment = now })
   ended_put now ending = run_put now (ended_run now ending) (λ x. refl)
-
-  -- the run is taken, and no task is its
-  pub taken_alone : (now : ℕ) → find (is_task_of_run run) s.tasks ≡ None → apply_change (PutRun (taken_run now run)) (record s { moment = now }) ≡ run_taken (record s { moment = now }) run
-  taken_alone now none =
-      run_put now (taken_run now) (λ x. refl)
-      ∙ ap (λ tasks. change_runs (is_run run.number) (taken_run now) (record s { moment = now; tasks = tasks }))
-      (sym (change_where-none (is_task_of_run run) (started_task now) s.tasks (any-not_found (is_task_of_run run) s.tasks none)))
-
-  -- the id that the option holds is that of a row
-  names_same : (name : Option (List ℕ)) (id other : List ℕ) → names name id ≡ true → names name other ≡ same other id
-  names_same None id other h = cc
-  names_same (Some name) id other h = same_equiv.congr name id other h ∙ same_equiv.symm id other
-
-  -- the task of the run has its key
-  is_same_task : (task : TaskRow) → is_task_of_run run task ≡ true → (x : TaskRow) → is_task_of_run run x ≡ same_task x task
-  is_same_task task h x =
-      let job = names_same run.job task.job x.job (and_first (names run.job task.job) (names run.task task.id) h) in
-      let id = names_same run.task task.id x.id (and_second (names run.job task.job) (names run.task task.id) h) in
-      ap (λ b. b && names run.task x.id) job ∙ ap (λ b. same x.job task.job && b) id
-
-  -- the run is taken, and its task has started
-  pub taken_both : (now : ℕ) (task : TaskRow) → find (is_task_of_run run) s.tasks ≡ Some task → apply_change (PutTask (started_task now task)) (apply_change (PutRun (taken_run now run)) (record s { moment = now })) ≡ run_taken (record s { moment = now }) run
-  taken_both now task found =
-      ap (apply_change (PutTask (started_task now task))) (run_put now (taken_run now) (λ x. refl))
-      ∙ ap (λ tasks. change_runs (is_run run.number) (taken_run now) (record s { moment = now; tasks = tasks }))
-      (put_row-found same_task same_task_equiv (is_task_of_run run) (started_task now) task
-      (is_same_task task (find_test (is_task_of_run run) task s.tasks found)) (λ x. refl) s.tasks keys.tasks found)

@@ -4,10 +4,12 @@
 
 mod answer;
 mod ended;
+mod job_runs;
 mod listed;
 mod plan;
 
 pub use answer::or_refused;
 pub use ended::ended_run;
+pub use job_runs::job_run;
 pub use listed::reply_listed;
 pub use plan::{accept_none, accept_one, accept_two, refuse, step_one, step_three, step_two};

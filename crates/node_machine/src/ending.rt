@@ -12,7 +12,7 @@ ghost use Rattle.machine_plans.specs.Plans.{IsAnswer, IsPlanOf, with_moment};
 ghost use Rattle.node_machine.specs.Endings.{IsOnNode, IsThere, with_end};
 ghost use Rattle.table_scans.specs.Runs.{is_start_number};
 
-use crate::starting::{counted_node, failed_node, is_tried_again, start_run, started_node};
+use crate::starting::{counted_node, failed_node, start_run, started_node};
 use bt_base::{Fail, NoMemory};
 use bt_rows::node::{NodeRow, NodeStage};
 use bt_rows::plan::{Plan, View};
@@ -23,7 +23,7 @@ use bt_rows::run::{Ending, RunRow, RunState};
 use bt_rows::tables::{Change, Tables};
 use machine_plans::{accept_one, accept_two, ended_run, reply_listed};
 use std::alloc::Global;
-use table_scans::is_success;
+use table_scans::{is_success, is_tried_again};
 
 /// The start task of the node's pool.
 fn start_of<'a>(tables: &'a Tables, node: &NodeRow) -> Option<&'a StartTask>

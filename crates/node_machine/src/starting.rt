@@ -1,17 +1,15 @@
 //! Start tasks: the stages of a node before and after them, and their runs.
 ghost use Rattle.std.specs.Prelude.{◌≡◌, ◌<◌, ◌^◌, IfOk};
-ghost use Rattle.batch_model.specs.Finding.{is_within_limit};
 ghost use Rattle.batch_model.specs.Dues.{first_stage};
 ghost use Rattle.batch_model.specs.Pools.{waits_for_start};
 ghost use Rattle.batch_model.specs.Runs.{start_run};
-ghost use Rattle.batch_model.specs.Starts.{counted_node, failed_in, failed_node, is_tried_again, started_node, usable_in};
+ghost use Rattle.batch_model.specs.Starts.{counted_node, failed_in, failed_node, started_node, usable_in};
 
 use bt_base::{Duplicate, NoMemory};
 use bt_rows::node::{NodeRow, NodeStage};
 use bt_rows::pool::{PoolRow, StartTask};
 use bt_rows::run::{RunKind, RunRow, RunState};
 use bt_rows::tables::Tables;
-use table_scans::has_number_left;
 
 /// Whether nodes wait for the pool's start task.
 fn waits_for_start(pool: &PoolRow) -> bool
@@ -59,24 +57,6 @@ pub fn start_run(
         taken: None,
         ended: None,
     })
-}
-
-/// Whether this number of failures is within the limit; -1 is no limit.
-fn is_within_limit(failures: u64, limit: i32) -> bool
-    ensures { result ≡ is_within_limit failures limit }
-{
-    if limit < 0 {
-        limit == -1
-    } else {
-        failures <= limit as u64
-    }
-}
-
-/// Whether the start task is run again after this number of failures.
-pub fn is_tried_again(tables: &Tables, failures: u64, start: &StartTask) -> bool
-    ensures { result ≡ is_tried_again tables.now.state failures start.now }
-{
-    is_within_limit(failures, start.retries) && has_number_left(tables.next_run())
 }
 
 /// The stage of a node after its start task has succeeded.

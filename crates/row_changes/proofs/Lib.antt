@@ -1,2 +1,4 @@
 pub mod ListPuts
+pub mod PrepPuts
+pub mod PutsAfter
 pub mod PutsInPlace

@@ -4,7 +4,7 @@ use Rattle.bt_rows.specs.Changes.{apply_change, apply_changes}
 use Rattle.bt_rows.specs.Lists.{drop_row, AreDistinct}
 use Rattle.bt_rows.specs.Keys.{same_pool, same_job, same_job_equiv, same_task, same_task_equiv, same_run, same_run_equiv, same_prep, same_prep_equiv}
 use Rattle.bt_rows.specs.declared.tables.Change.{Change}
-use Rattle.bt_rows.specs.declared.tables.Change.TheVariants.{PutPool, PutTask, PutRun, DropTask, DropRun, DropPrep}
+use Rattle.bt_rows.specs.declared.tables.Change.TheVariants.{PutPool, PutTask, PutRun}
 use Rattle.batch_model.specs.Finding.{only_if}
 use Rattle.batch_model.specs.Variants.{State, PoolRow, JobRow, TaskRow, RunRow, PrepRow}
 use Rattle.row_changes.specs.Puts.{puts_of, put_if_some, changes_where, job_drop, task_drop, run_drop, prep_drop}

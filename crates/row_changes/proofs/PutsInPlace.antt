@@ -29,7 +29,7 @@ module _ {R : Type 0} (same : R → R → Bool) (e : IsEquivalence same) (give :
   put_past first x rows (Some y) g d = rw (keeps x y g first ∙ d) refl
 
   -- puts after a row whose key none of them has
-  put_each_past : (first : R) (xs rows : List R) → list_any (same first) xs ≡ false → put_each same give xs (first ∷ rows) ≡ first ∷ put_each same give xs rows
+  pub put_each_past : (first : R) (xs rows : List R) → list_any (same first) xs ≡ false → put_each same give xs (first ∷ rows) ≡ first ∷ put_each same give xs rows
   put_each_past first [] rows d = refl
   put_each_past first (x ∷ xs) rows d =
       ap (put_each same give xs) (put_past first x rows (give x) refl (or_false_first (same first x) (list_any (same first) xs) d))
@@ -56,7 +56,7 @@ module _ {R : Type 0} (same : R → R → Bool) (e : IsEquivalence same) (give :
 
 module _ {R : Type 0} (same : R → R → Bool) (e : IsEquivalence same) (test : R → Bool) (change : R → R) (keeps : (x z : R) → same z (change x) ≡ same z x) where
   -- only what passes the test is given
-  only_given : (x y : R) (b : Bool) → only_if b (Some (change x)) ≡ Some y → (z : R) → same z y ≡ same z x
+  pub only_given : (x y : R) (b : Bool) → only_if b (Some (change x)) ≡ Some y → (z : R) → same z y ≡ same z x
   only_given x y true h z = let i : change x ≡ y = cc in ap (same z) (sym i) ∙ keeps x z
   only_given x y false h z = cc
 

@@ -14,13 +14,13 @@ use Rattle.slot_ledger.specs.declared.ledger.Entry.{Entry}
 use Rattle.slot_ledger.specs.Ledgers as ledger
 use Rattle.batch_model.specs.Finding.{best}
 use Rattle.batch_model.specs.Nodes.{is_usable, is_in_pool}
-use Rattle.batch_model.specs.Placing.{is_placeable, fits, precedes, choice}
+use Rattle.batch_model.specs.Placing.{is_placeable, fits, is_unprepared, precedes, choice}
 use Rattle.batch_model.specs.Rows.{is_pool, pool_of, is_node, node_of}
 use Rattle.batch_model.specs.Slots.{held_slots}
 use Rattle.batch_model.specs.Variants.{State, PoolRow, NodeRow, JobRow}
 use Rattle.model_lists.proofs.RowLists.{each_found, any_none, find_agree}
 use Rattle.model_lists.proofs.Tests.{not_true}
-use Rattle.task_placing.specs.Entries.{slots_of, entry_of, only_usable, ledger_of}
+use Rattle.task_placing.specs.Entries.{slots_of, entry_of, only_usable, only_prepared, ledger_for}
 use Rattle.task_placing.specs.Fitting.{IsPoolRow, fits_in, fits_by}
 
 module _ {X Y : Type 0} where
@@ -84,43 +84,62 @@ pool_there s pool node is_row here =
     (λ row. same_equiv.symm row.id node.pool ∙ same_equiv.congr node.pool pool.id row.id here ∙ same_equiv.symm pool.id row.id) s.pools
     ∙ is_row
 
-same_fitting_more : (s : State) (pool : PoolRow) (need : ℕ) (node : NodeRow) (u b : Bool) → (b ≡ true → slots_of s node ≡ pool.slots) → ((u && b) && nat_le (held_slots s node.number + need) pool.slots) ≡ (u && (b && nat_le (held_slots s node.number + need) (slots_of s node)))
-same_fitting_more s pool need node true true h = ap (λ n. nat_le (held_slots s node.number + need) n) (sym (h refl))
-same_fitting_more s pool need node true false h = refl
-same_fitting_more s pool need node false b h = refl
+-- two tests in the other order
+turned : (a b : Bool) → (a && b) ≡ (b && a)
+turned true true = refl
+turned true false = refl
+turned false true = refl
+turned false false = refl
 
-same_fitting : (s : State) (pool : PoolRow) (need : ℕ) (node : NodeRow) → IsPoolRow s pool → fits s pool need node ≡ (is_usable node.stage && ledger.fits pool.id need (entry_of s node))
-same_fitting s pool need node is_row =
-    same_fitting_more s pool need node (is_usable node.stage) (is_in_pool pool.id node)
+pub and_never : (a : Bool) → (a && false) ≡ false
+and_never true = refl
+and_never false = refl
+
+same_fitting_more : (s : State) (pool : PoolRow) (need : ℕ) (node : NodeRow) (u b p : Bool) → (b ≡ true → slots_of s node ≡ pool.slots)
+    → (((u && b) && nat_le (held_slots s node.number + need) pool.slots) && p) ≡ (p && (u && (b && nat_le (held_slots s node.number + need) (slots_of s node))))
+same_fitting_more s pool need node true true p h =
+    turned (nat_le (held_slots s node.number + need) pool.slots) p ∙ ap (λ n. p && nat_le (held_slots s node.number + need) n) (sym (h refl))
+same_fitting_more s pool need node true false p h = sym (and_never p)
+same_fitting_more s pool need node false b p h = sym (and_never p)
+
+same_fitting : (s : State) (job : JobRow) (pool : PoolRow) (need : ℕ) (node : NodeRow) → IsPoolRow s pool
+    → fits s job pool need node ≡ (not (is_unprepared s job node.number) && (is_usable node.stage && ledger.fits pool.id need (entry_of s node)))
+same_fitting s job pool need node is_row =
+    same_fitting_more s pool need node (is_usable node.stage) (is_in_pool pool.id node) (not (is_unprepared s job node.number))
     (λ here. ap (λ o. option_map_or (λ (row : PoolRow). row.slots) o 0) (pool_there s pool node is_row here))
 
 number_of : (s : State) (o : Option NodeRow) → option_map (λ (entry : Entry). entry.node) (option_map (entry_of s) o) ≡ option_map (λ (node : NodeRow). node.number) o
 number_of s None = refl
 number_of s (Some node) = refl
 
--- the ledger's choice is the number of the tables'
-pub same_choice : (s : State) (pool : PoolRow) (need : ℕ) → IsPoolRow s pool → ledger.chosen (ledger_of s) pool.id pool.fill need ≡ option_map (λ (node : NodeRow). node.number) (choice s pool need)
-same_choice s pool need is_row =
+-- the choice by the job's ledger is the number of the tables'
+pub same_choice : (s : State) (job : JobRow) (pool : PoolRow) (need : ℕ) → IsPoolRow s pool
+    → ledger.chosen (ledger_for s job) pool.id pool.fill need ≡ option_map (λ (node : NodeRow). node.number) (choice s job pool need)
+same_choice s job pool need is_row =
     ap (λ entries. option_map (λ (entry : Entry). entry.node) (ledger.best (ledger.precedes pool.fill) entries))
-    (filter_mapped (ledger.fits pool.id need) (entry_of s) (only_usable s.nodes)
-    ∙ ap (map (entry_of s)) (filter_twice (λ node. ledger.fits pool.id need (entry_of s node)) (λ node. is_usable node.stage) (fits s pool need) (λ node. same_fitting s pool need node is_row) s.nodes))
-    ∙ ap (option_map (λ (entry : Entry). entry.node)) (best_entry (ledger.precedes pool.fill) (precedes s pool.fill) (entry_of s) (same_order s pool.fill) (filter (fits s pool need) s.nodes))
-    ∙ number_of s (choice s pool need)
+    (filter_mapped (ledger.fits pool.id need) (entry_of s) (only_usable (only_prepared s job s.nodes))
+    ∙ ap (map (entry_of s))
+    (filter_twice (λ node. ledger.fits pool.id need (entry_of s node)) (λ node. is_usable node.stage) (λ node. is_usable node.stage && ledger.fits pool.id need (entry_of s node)) (λ node. refl) (only_prepared s job s.nodes)
+    ∙ filter_twice (λ node. is_usable node.stage && ledger.fits pool.id need (entry_of s node)) (λ node. not (is_unprepared s job node.number)) (fits s job pool need) (λ node. same_fitting s job pool need node is_row) s.nodes))
+    ∙ ap (option_map (λ (entry : Entry). entry.node)) (best_entry (ledger.precedes pool.fill) (precedes s pool.fill) (entry_of s) (same_order s pool.fill) (filter (fits s job pool need) s.nodes))
+    ∙ number_of s (choice s job pool need)
 
 is_some_number : (o : Option NodeRow) → is_some (option_map (λ (node : NodeRow). node.number) o) ≡ is_some o
 is_some_number None = refl
 is_some_number (Some node) = refl
 
-pub same_room : (s : State) (entries : List Entry) (pool : PoolRow) (need : ℕ) → entries ≡ ledger_of s → IsPoolRow s pool → is_some (ledger.chosen entries pool.id pool.fill need) ≡ is_some (choice s pool need)
-same_room s entries pool need e is_row =
+pub same_room : (s : State) (entries : List Entry) (job : JobRow) (pool : PoolRow) (need : ℕ) → entries ≡ ledger_for s job → IsPoolRow s pool
+    → is_some (ledger.chosen entries pool.id pool.fill need) ≡ is_some (choice s job pool need)
+same_room s entries job pool need e is_row =
     ap (λ es. is_some (ledger.chosen es pool.id pool.fill need)) e
-    ∙ ap is_some (same_choice s pool need is_row)
-    ∙ is_some_number (choice s pool need)
+    ∙ ap is_some (same_choice s job pool need is_row)
+    ∙ is_some_number (choice s job pool need)
 
--- a task fits by the ledger just if it fits by the tables
-pub same_fits : (s : State) (entries : List Entry) (job : JobRow) (pool : PoolRow) → entries ≡ ledger_of s → IsPoolRow s pool → find (fits_by entries job pool) s.tasks ≡ find (fits_in s job pool) s.tasks
+-- a task fits by the ledger of its job just if it fits by the tables
+pub same_fits : (s : State) (entries : List Entry) (job : JobRow) (pool : PoolRow) → entries ≡ ledger_for s job → IsPoolRow s pool
+    → find (fits_by entries job pool) s.tasks ≡ find (fits_in s job pool) s.tasks
 same_fits s entries job pool e is_row =
-    find_agree (fits_by entries job pool) (fits_in s job pool) (λ task. ap (λ b. is_placeable job task && b) (same_room s entries pool task.slots e is_row)) s.tasks
+    find_agree (fits_by entries job pool) (fits_in s job pool) (λ task. ap (λ b. is_placeable job task && b) (same_room s entries job pool task.slots e is_row)) s.tasks
 
 -- the node that is chosen is the one with its number
 
@@ -159,8 +178,9 @@ node_chosen : (s : State) (o : Option NodeRow) → ((node : NodeRow) → o ≡ S
 node_chosen s None h = refl
 node_chosen s (Some node) h = h node refl
 
-pub same_node_chosen : (s : State) (entries : List Entry) (pool : PoolRow) (need : ℕ) → AreDistinct same_node s.nodes → entries ≡ ledger_of s → IsPoolRow s pool → option_and_then (node_of s) (ledger.chosen entries pool.id pool.fill need) ≡ choice s pool need
-same_node_chosen s entries pool need d e is_row =
+pub same_node_chosen : (s : State) (entries : List Entry) (job : JobRow) (pool : PoolRow) (need : ℕ) → AreDistinct same_node s.nodes → entries ≡ ledger_for s job → IsPoolRow s pool
+    → option_and_then (node_of s) (ledger.chosen entries pool.id pool.fill need) ≡ choice s job pool need
+same_node_chosen s entries job pool need d e is_row =
     ap (λ es. option_and_then (node_of s) (ledger.chosen es pool.id pool.fill need)) e
-    ∙ ap (option_and_then (node_of s)) (same_choice s pool need is_row)
-    ∙ node_chosen s (choice s pool need) (chosen_there (precedes s pool.fill) (fits s pool need) s.nodes d)
+    ∙ ap (option_and_then (node_of s)) (same_choice s job pool need is_row)
+    ∙ node_chosen s (choice s job pool need) (chosen_there (precedes s pool.fill) (fits s job pool need) s.nodes d)

@@ -1,5 +1,5 @@
 -- Tasks are placed in the pool of their job, if it is not being deleted.
-use Rattle.std.proofs.Common.{◌≡◌, Bool, true, false, not, ◌&&◌, List, Option, Some, None, find, is_some, is_none, Bor, refl, sym, ◌∙◌, ap}
+use Rattle.std.proofs.Common.{◌≡◌, Bool, true, false, not, ◌&&◌, List, Option, Some, None, find, is_some, Bor, refl, sym, ◌∙◌, ap}
 use Rattle.std.specs.Option.{option_and_then, option_copied}
 use Rattle.slot_ledger.specs.declared.ledger.Entry.{Entry}
 use Rattle.bt_rows.specs.Keys.{same_pool}
@@ -10,9 +10,10 @@ use Rattle.batch_model.specs.Jobs.{is_job_active}
 use Rattle.batch_model.specs.Rows.{pool_of}
 use Rattle.batch_model.specs.Variants.{State, PoolRow, JobRow}
 use Rattle.model_lists.proofs.RowLists.{find_test}
-use Rattle.task_placing.specs.Entries.{ledger_of}
+use Rattle.task_placing.specs.Entries.{ledger_for}
 use Rattle.task_placing.specs.Fitting.{IsPoolRow, open_pool, fits_in, fits_by}
-use Rattle.task_placing.proofs.NotPlaced.{fitting_first, only_some, pool_row}
+use Rattle.task_placing.proofs.Found.{fitting_first, only_some}
+use Rattle.task_placing.proofs.NoneFree.{pool_row}
 use Rattle.task_placing.proofs.Choices.{same_fits}
 
 open_more : (pool row : PoolRow) (b : Bool) → row.deleting ≡ b → Some pool ≡ only_if (not b) (Some row) → (row ≡ pool) × (pool.deleting ≡ false)
@@ -57,11 +58,11 @@ some_copied None = refl
 some_copied (Some x) = refl
 
 -- a task can be placed in the pool if one fits by the ledger
-pub some_fits : (s : State) (entries : List Entry) (job : JobRow) (pool : PoolRow) → entries ≡ ledger_of s → AreDistinct same_pool s.pools → Some pool ≡ open_pool s job → is_some (find (fits_by entries job pool) s.tasks) ≡ is_some (option_and_then (place_in s job) (pool_of s job.pool))
+pub some_fits : (s : State) (entries : List Entry) (job : JobRow) (pool : PoolRow) → entries ≡ ledger_for s job → AreDistinct same_pool s.pools → Some pool ≡ open_pool s job → is_some (find (fits_by entries job pool) s.tasks) ≡ is_some (option_and_then (place_in s job) (pool_of s job.pool))
 some_fits s entries job pool e d h =
     sym
     (ap is_some (in_open s job pool h ∙ fitting_first s job pool)
-    ∙ some_given (place_task s job pool) (fits_in s job pool) (λ task. only_some (is_placeable job task) (place s task) (choice s pool task.slots)) s.tasks (find (fits_in s job pool) s.tasks) refl
+    ∙ some_given (place_task s job pool) (fits_in s job pool) (λ task. only_some (is_placeable job task) (place s job task) (choice s job pool task.slots)) s.tasks (find (fits_in s job pool) s.tasks) refl
     ∙ ap is_some (sym (same_fits s entries job pool e (open_row s job pool d h))))
 
 only_some_is : {R : Type 0} (b : Bool) (value : Option R) → is_some (only_if b value) ≡ true → only_if b value ≡ value
@@ -74,14 +75,12 @@ placing_in_pool s job h = only_some_is (places_tasks s job) (option_and_then (pl
 
 -- what is asked of a job, in the order in which it is tested
 
-under_way_first : {R : Type 0} (active turn unprepared : Bool) (value : Option R) → (active && unprepared) ≡ false → is_some (only_if (active && turn && unprepared) value) ≡ false
-under_way_first true true true value h = cc
-under_way_first true true false value h = refl
-under_way_first true false unprepared value h = refl
-under_way_first false turn unprepared value h = refl
+under_way_first : {R : Type 0} (active turn : Bool) (value : Option R) → active ≡ false → is_some (only_if (active && turn) value) ≡ false
+under_way_first true turn value h = cc
+under_way_first false turn value h = refl
 
-pub not_under_way : (s : State) (job : JobRow) → (is_job_active job.state && is_none job.prep) ≡ false → has_placing s job ≡ false
-not_under_way s job h = under_way_first (is_job_active job.state) (has_turn s job) (is_none job.prep) (option_and_then (place_in s job) (pool_of s job.pool)) h
+pub not_under_way : (s : State) (job : JobRow) → is_job_active job.state ≡ false → has_placing s job ≡ false
+not_under_way s job h = under_way_first (is_job_active job.state) (has_turn s job) (option_and_then (place_in s job) (pool_of s job.pool)) h
 
 none_fitting : {R : Type 0} (b : Bool) (value : Option R) → is_some value ≡ false → is_some (only_if b value) ≡ false
 none_fitting true value h = h
@@ -90,11 +89,10 @@ none_fitting false value h = refl
 pub not_fitting : (s : State) (job : JobRow) → is_some (option_and_then (place_in s job) (pool_of s job.pool)) ≡ false → has_placing s job ≡ false
 not_fitting s job h = none_fitting (places_tasks s job) (option_and_then (place_in s job) (pool_of s job.pool)) h
 
-turn_last : {R : Type 0} (active turn unprepared : Bool) (value : Option R) → (active && unprepared) ≡ true → is_some value ≡ true → is_some (only_if (active && turn && unprepared) value) ≡ turn
-turn_last true true true value h k = k
-turn_last true true false value h k = cc
-turn_last true false unprepared value h k = refl
-turn_last false turn unprepared value h k = cc
+turn_last : {R : Type 0} (active turn : Bool) (value : Option R) → active ≡ true → is_some value ≡ true → is_some (only_if (active && turn) value) ≡ turn
+turn_last true true value h k = k
+turn_last true false value h k = refl
+turn_last false turn value h k = cc
 
-pub by_turn : (s : State) (job : JobRow) → (is_job_active job.state && is_none job.prep) ≡ true → is_some (option_and_then (place_in s job) (pool_of s job.pool)) ≡ true → has_placing s job ≡ has_turn s job
-by_turn s job h k = turn_last (is_job_active job.state) (has_turn s job) (is_none job.prep) (option_and_then (place_in s job) (pool_of s job.pool)) h k
+pub by_turn : (s : State) (job : JobRow) → is_job_active job.state ≡ true → is_some (option_and_then (place_in s job) (pool_of s job.pool)) ≡ true → has_placing s job ≡ has_turn s job
+by_turn s job h k = turn_last (is_job_active job.state) (has_turn s job) (option_and_then (place_in s job) (pool_of s job.pool)) h k

@@ -20,7 +20,7 @@ open_pool s job = option_and_then (λ pool. only_if (not pool.deleting) (Some po
 
 -- a ready task of the job for which a node is chosen
 abbrev pub fits_in : State → JobRow → PoolRow → TaskRow → Bool
-fits_in s job pool task = is_placeable job task && is_some (choice s pool task.slots)
+fits_in s job pool task = is_placeable job task && is_some (choice s job pool task.slots)
 
 -- the same by a ledger
 abbrev pub fits_by : List Entry → JobRow → PoolRow → TaskRow → Bool

@@ -7,10 +7,10 @@ ghost use Rattle.batch_model.specs.Sound.{NumbersAreNew, SlotsSuffice};
 ghost use Rattle.batch_model.specs.WellFormed.{KeysAreDistinct, TasksAreFitting, RowsAreValid, has_pool_row};
 ghost use Rattle.machine_plans.specs.Plans.{IsRule};
 ghost use Rattle.task_placing.specs.Conditions.{CanPlace};
-ghost use Rattle.task_placing.specs.Entries.{ledger_of};
+ghost use Rattle.task_placing.specs.Entries.{ledger_for, ledger_of};
 ghost use Rattle.task_placing.specs.Fitting.{IsPoolRow};
 
-use crate::entries::ledger_of;
+use crate::entries::{has_unprepared, ledger_for, ledger_of};
 use crate::fitting::{chosen_node, first_fitting, has_free_slot, open_pool};
 use crate::place::place;
 use crate::turns::next_job;
@@ -23,7 +23,30 @@ use slot_ledger::Ledger;
 use std::alloc::Global;
 use table_scans::has_number_left;
 
-/// Places the first task of the job that fits, on the node that is chosen for it.
+/// Places the first task of the job that fits by the job's ledger, on the node that is chosen for it.
+fn place_on_fitting(
+    alloc: Global,
+    indexed: &IndexedTables,
+    ledger: &Ledger,
+    job: &JobRow,
+    pool: &PoolRow,
+) -> Result<Option<Plan>, NoMemory>
+    requires able { CanPlace indexed.now.state }
+    requires ledger { ledger.now ≡ ledger_for indexed.now.state job.now }
+    requires pool { IsPoolRow indexed.now.state pool.now }
+    ensures { IfOk result (IsRule (find_map (place_task indexed.now.state job.now pool.now) indexed.now.state.tasks) indexed.now.state) }
+{
+    let Some(task) = first_fitting(indexed, ledger, job, pool) else {
+        return Ok(None);
+    };
+    let Some(node) = chosen_node(indexed, ledger, job, pool, task.slots) else {
+        return Ok(None);
+    };
+    Ok(Some(place(alloc, indexed.tables(), job, task, node)?))
+}
+
+/// Places the first task of the job that fits, on the node that is chosen for it, by the ledger of all nodes, or by one of the job's own
+/// if its preparation has failed somewhere.
 fn place_fitting(
     alloc: Global,
     indexed: &IndexedTables,
@@ -36,13 +59,12 @@ fn place_fitting(
     requires pool { IsPoolRow indexed.now.state pool.now }
     ensures { IfOk result (IsRule (find_map (place_task indexed.now.state job.now pool.now) indexed.now.state.tasks) indexed.now.state) }
 {
-    let Some(task) = first_fitting(indexed, ledger, job, pool) else {
-        return Ok(None);
-    };
-    let Some(node) = chosen_node(indexed, ledger, pool, task.slots) else {
-        return Ok(None);
-    };
-    Ok(Some(place(alloc, indexed.tables(), task, node)?))
+    if has_unprepared(indexed.tables(), job) {
+        let own = ledger_for(alloc, indexed, job)?;
+        place_on_fitting(alloc, indexed, &own, job, pool)
+    } else {
+        place_on_fitting(alloc, indexed, ledger, job, pool)
+    }
 }
 
 /// Places a task of the job, of which one can be placed, in the job's pool.
@@ -76,7 +98,8 @@ fn place_by_ledger(
     if !has_free_slot(indexed, ledger) {
         return Ok(None);
     }
-    match next_job(indexed, ledger) {
+    let next = next_job(alloc, indexed, ledger)?;
+    match next {
         Some(job) => place_of_next(alloc, indexed, ledger, job),
         None => Ok(None),
     }
@@ -84,7 +107,8 @@ fn place_by_ledger(
 
 /// The plan of U16, until run numbers are used up: of the jobs of which a task can be placed the one of the highest priority, and the
 /// earliest of several such, and its first task that fits, on the node that the pool's fill type chooses. None exactly if no task
-/// fits. The only error is out of memory. It goes once over the nodes and the jobs. It looks at the tasks only to count the placed
+/// fits. The only error is out of memory. It goes once over the nodes and the jobs, and again over the nodes for each job whose
+/// preparation is waited for and has failed on some node. It looks at the tasks only to count the placed
 /// ones of a job that has a limit of them, where such a job could be the next.
 pub fn place_first(alloc: Global, indexed: &IndexedTables) -> Result<Option<Plan>, NoMemory>
     requires keys { KeysAreDistinct indexed.now.state }

@@ -5,7 +5,7 @@ ghost use Rattle.std.specs.Option.{option_copied};
 ghost use Rattle.batch_model.specs.Placing.{choice};
 ghost use Rattle.batch_model.specs.WellFormed.{KeysAreDistinct};
 ghost use Rattle.slot_ledger.specs.Ledgers.{chosen};
-ghost use Rattle.task_placing.specs.Entries.{ledger_of};
+ghost use Rattle.task_placing.specs.Entries.{ledger_for};
 ghost use Rattle.task_placing.specs.Fitting.{IsPoolRow, fits_by, open_pool};
 
 use bt_rows::job::JobRow;
@@ -59,17 +59,18 @@ pub fn first_fitting<'a>(
     }
 }
 
-/// The node on which `need` slots are to be held.
+/// The node on which `need` slots are to be held for a task of the job.
 pub fn chosen_node<'a>(
     indexed: &'a IndexedTables,
     ledger: &Ledger,
+    job: &JobRow,
     pool: &PoolRow,
     need: u8,
 ) -> Option<&'a NodeRow>
     requires keys { KeysAreDistinct indexed.now.state }
-    requires ledger { ledger.now ≡ ledger_of indexed.now.state }
+    requires ledger { ledger.now ≡ ledger_for indexed.now.state job.now }
     requires pool { IsPoolRow indexed.now.state pool.now }
-    ensures { option_copied result ≡ choice indexed.now.state pool.now need }
+    ensures { option_copied result ≡ choice indexed.now.state job.now pool.now need }
 {
     match ledger.choose(&pool.id, pool.fill, need) {
         None => None,

@@ -1,3 +1,4 @@
+pub mod HaltMade
 pub mod JobStops
 pub mod RunOfStopped
 pub mod StopMade

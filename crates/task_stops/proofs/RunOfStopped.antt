@@ -1,12 +1,11 @@
 -- The task of a run is the one with the ids that the run names.
-use Rattle.std.proofs.Common.{◌≡◌, ℕ, Bool, true, false, not, ◌&&◌, ◌||◌, List, [], ◌∷◌, Option, Some, None, find, cond, nat_eq, refl, sym, ◌∙◌, ap, subst}
+use Rattle.std.proofs.Common.{◌≡◌, ℕ, Bool, true, false, not, ◌&&◌, ◌||◌, List, [], ◌∷◌, Option, Some, None, find, cond, nat_eq, refl, ◌∙◌, subst}
 use Rattle.std.specs.List.{list_any}
 use Rattle.std.specs.Option.{option_map_or}
-use Rattle.std.specs.Cmp.{IsEquivalence}
 use Rattle.bt_base.specs.Ids.{same}
 use Rattle.bt_base.proofs.SameIds.{same_equiv}
 use Rattle.bt_rows.specs.Lists.{AreDistinct}
-use Rattle.bt_rows.specs.Keys.{task_has_ids, same_task, same_task_equiv}
+use Rattle.bt_rows.specs.Keys.{task_has_ids, same_task}
 use Rattle.batch_model.specs.Finding.{names}
 use Rattle.batch_model.specs.Runs.{is_present}
 use Rattle.batch_model.specs.Stops.{is_stopped, is_run_of_stopped}

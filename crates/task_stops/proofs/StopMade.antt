@@ -1,5 +1,5 @@
 -- The changes that stop tasks lead to the tables in which these are stopped.
-use Rattle.std.proofs.Common.{◌≡◌, ℕ, Bool, true, false, ◌&&◌, List, [], ◌∷◌, ◌++◌, cond, nat_eq, map, refl, sym, ◌∙◌, ap}
+use Rattle.std.proofs.Common.{◌≡◌, ℕ, Bool, true, false, ◌&&◌, List, [], ◌∷◌, cond, nat_eq, refl, sym, ◌∙◌, ap}
 use Rattle.bt_rows.specs.Changes.{apply_changes}
 use Rattle.bt_rows.specs.Lists.{AreDistinct}
 use Rattle.bt_rows.specs.Keys.{same_task, same_task_equiv, same_run, same_run_equiv}
@@ -14,7 +14,7 @@ use Rattle.row_changes.proofs.ListPuts.{apply_append, tasks_put, runs_put}
 use Rattle.task_stops.specs.StopChanges.{is_to_halt, halted_run, stopped_task, stop_changes}
 
 -- a halted run keeps its number
-halted_number : (state : RunState) (now : ℕ) (run : RunRow) → (halted_in state now run).number ≡ run.number
+pub halted_number : (state : RunState) (now : ℕ) (run : RunRow) → (halted_in state now run).number ≡ run.number
 halted_number Waiting now run = refl
 halted_number Queued now run = refl
 halted_number Taken now run = refl

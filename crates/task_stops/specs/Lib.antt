@@ -1,1 +1,2 @@
+pub mod HaltChanges
 pub mod StopChanges

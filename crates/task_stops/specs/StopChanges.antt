@@ -8,17 +8,20 @@ use Rattle.batch_model.specs.Finding.{only_if}
 use Rattle.batch_model.specs.Runs.{is_present, is_unended, halted}
 use Rattle.batch_model.specs.Stops.{is_stopped, is_run_of_stopped, job_for, wanting}
 use Rattle.batch_model.specs.Jobs.{job_in}
+use Rattle.batch_model.specs.Preparing.{is_waiting_on}
 use Rattle.batch_model.specs.Rows.{is_task}
 use Rattle.batch_model.specs.Tasks.{is_in_job}
 use Rattle.batch_model.specs.Variants.{State, JobRow, JobState, Disabling, TaskRow, Want, WantRequeue, WantTerminate, RunRow}
 use Rattle.row_changes.specs.Puts.{puts_of}
+use Rattle.task_stops.specs.HaltChanges.{halt_changes}
 use Rattle.task_stops.specs.declared.stop.Stopped.{Stopped}
-use Rattle.task_stops.specs.declared.stop.Stopped.TheVariants.{OfJob, One}
+use Rattle.task_stops.specs.declared.stop.Stopped.TheVariants.{OfJob, One, WaitingFor}
 
--- the task is of the job, or is the one
-abbrev pub is_among : Stopped → TaskRow → Bool
-is_among (OfJob job) = is_in_job job
-is_among (One key) = is_task key.job key.id
+-- the task is of the job, or is the one, or waits for the preparation
+abbrev pub is_among : State → Stopped → TaskRow → Bool
+is_among s (OfJob job) = is_in_job job
+is_among s (One key) = is_task key.job key.id
+is_among s (WaitingFor prep) = is_waiting_on s prep
 
 -- the task is stopped, and the run is of its present attempt
 abbrev pub stopped_test : (TaskRow → Bool) → RunRow → TaskRow → Bool
@@ -51,6 +54,7 @@ stop_changes_for Wait job now s = []
 abbrev pub disable_changes : DisableTasks → JobRow → ℕ → State → List Change
 disable_changes option job now s = PutJob (job_in Disabling job) ∷ stop_changes_for option job.id now s
 
--- the job is in a state for a reason, and its placed tasks are terminated
+-- the job is in a state for a reason, its placed tasks are terminated, and its preparations are halted
 abbrev pub close_changes : JobState → List ℕ → JobRow → ℕ → State → List Change
-close_changes next why job now s = PutJob (job_for next why job) ∷ stop_changes (is_in_job job.id) WantTerminate now s
+close_changes next why job now s =
+    PutJob (job_for next why job) ∷ stop_changes (is_in_job job.id) WantTerminate now s ++ halt_changes job.id now s

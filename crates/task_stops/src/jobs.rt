@@ -1,14 +1,17 @@
 //! The changes that disable a job, and those that close it.
 ghost use Rattle.std.specs.Prelude.{◌≡◌, ◌++◌, Some, IfOk, OnOk};
 ghost use Rattle.bt_rows.specs.Changes.{apply_changes};
+ghost use Rattle.batch_model.specs.Finding.{Each};
 ghost use Rattle.batch_model.specs.Jobs.{job_in};
 ghost use Rattle.batch_model.specs.Rows.{job_of};
+ghost use Rattle.batch_model.specs.Sound.{names_no_task};
 ghost use Rattle.batch_model.specs.Stops.{close, disable, job_for};
 ghost use Rattle.batch_model.specs.Tasks.{is_in_job};
 ghost use Rattle.batch_model.specs.WellFormed.{KeysAreDistinct};
 ghost use Rattle.machine_plans.specs.Plans.{with_moment};
 ghost use Rattle.task_stops.specs.StopChanges.{stop_changes, stop_changes_for};
 
+use crate::halt::push_halt;
 use crate::stop::{Stopped, push_stop};
 use bt_base::{Duplicate, Id, NoMemory, Text};
 use bt_rows::event::DisableTasks;
@@ -87,8 +90,8 @@ pub fn disable(
     Ok(changes)
 }
 
-/// The changes that close the job at `now`, in milliseconds since 1970: it goes into the state for the reason, and its placed tasks
-/// are to be terminated. The only error is out of memory.
+/// The changes that close the job at `now`, in milliseconds since 1970: it goes into the state for the reason, its placed tasks are
+/// to be terminated, and its preparations are halted. The only error is out of memory.
 pub fn close(
     alloc: Global,
     tables: &Tables,
@@ -99,10 +102,12 @@ pub fn close(
 ) -> Result<Vec<Change>, NoMemory>
     requires keys { KeysAreDistinct tables.now.state }
     requires there { job_of tables.now.state job.now.id ≡ Some job.now }
+    requires apart { Each names_no_task tables.now.state.runs }
     ensures { IfOk result (λ changes. apply_changes changes.items (with_moment now tables.now.state) ≡ close state reason job.now (with_moment now tables.now.state)) }
 {
     let row = job_for(state, reason, job)?;
     let mut changes = vec![in alloc; Change::PutJob(row)]?;
     push_stop_of_job(&mut changes, tables, now, &job.id, Want::Terminate)?;
+    push_halt(&mut changes, tables, now, &job.id)?;
     Ok(changes)
 }

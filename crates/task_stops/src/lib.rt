@@ -1,11 +1,15 @@
 //! The changes that stop placed tasks: an end of each is wanted, and the runs of their present attempts are halted. With them a job is
-//! disabled or closed, and a task whose wall time is over is stopped.
+//! disabled or closed, a task whose wall time is over is stopped, and so are the tasks that wait for a preparation that has failed. The
+//! preparations of a job that is closed are halted.
 #![tactic(auto)]
 
+mod halt;
 mod jobs;
 mod rows;
 mod stop;
 mod task;
 
+pub use halt::failed_preparation;
 pub use jobs::{close, disable, job_in};
-pub use task::stop_task;
+pub use stop::waits_on;
+pub use task::{push_requeue_of_waiting, stop_task};

@@ -1,13 +1,17 @@
-//! The changes that stop one task.
-ghost use Rattle.std.specs.Prelude.{◌≡◌, IfOk};
+//! The changes that stop one task, and those that stop the tasks that wait for a preparation.
+ghost use Rattle.std.specs.Prelude.{◌≡◌, ◌++◌, IfOk, OnOk};
 ghost use Rattle.bt_rows.specs.Changes.{apply_changes};
+ghost use Rattle.batch_model.specs.Preparing.{is_waiting_on};
 ghost use Rattle.batch_model.specs.Rows.{is_task};
 ghost use Rattle.batch_model.specs.Stops.{stop};
+ghost use Rattle.batch_model.specs.Variants.{WantRequeue};
 ghost use Rattle.batch_model.specs.WellFormed.{KeysAreDistinct};
+ghost use Rattle.task_stops.specs.StopChanges.{stop_changes};
 ghost use Rattle.task_stops.specs.declared.stop.Stopped.TheVariants.{One};
 
 use crate::stop::{Stopped, push_stop};
 use bt_base::{Duplicate, NoMemory};
+use bt_rows::prep::PrepRow;
 use bt_rows::tables::{Change, Tables};
 use bt_rows::task::{TaskKey, TaskRow, Want};
 use std::alloc::Global;
@@ -36,4 +40,19 @@ pub fn stop_task(
     let mut changes = Vec::new(alloc);
     push_stop(&mut changes, tables, tables.moment(), &which, want)?;
     Ok(changes)
+}
+
+/// Adds the changes that requeue the tasks that wait for the preparation, at `now`, in milliseconds since 1970: a requeue is wanted of
+/// each, and the runs of their present attempts are halted. The only error is out of memory.
+pub fn push_requeue_of_waiting(
+    changes: &mut Vec<Change>,
+    tables: &Tables,
+    now: u64,
+    prep: &PrepRow,
+) -> Result<(), NoMemory>
+    requires { KeysAreDistinct tables.now.state }
+    ensures { OnOk result (changes.new.items ≡ changes.old.items ++ stop_changes (is_waiting_on tables.now.state prep.now) WantRequeue now tables.now.state) }
+{
+    let which = Stopped::WaitingFor(prep.copy()?);
+    push_stop(changes, tables, now, &which, Want::Requeue)
 }

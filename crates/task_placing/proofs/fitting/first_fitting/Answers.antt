@@ -2,7 +2,7 @@ use Rattle.std.proofs.Common.{sym, ap, ◌∙◌}
 use Rattle.std.specs.List.{find}
 use Rattle.std.specs.Option.{option_and_then}
 use Rattle.machine_index.specs.Ready.{is_ready_within}
-use Rattle.task_placing.proofs.NotPlaced.{fits_most}
+use Rattle.task_placing.proofs.Found.{fits_most}
 use Rattle.task_placing.proofs.fitting.first_fitting.Goals as goal
 
 pub returns-in-None : goal.returns-in-None

@@ -6,4 +6,4 @@ use Rattle.task_stops.proofs.stop.push_wanted.Given as goal
 
 -- what there is and what is left give what all rows give
 abbrev pub invariant-loop-task : goal.invariant-loop-task
-invariant-loop-task l = l.changes.items ++ puts_of PutTask (stopped_task (is_among l.which) l.want) l.task-iterator ≡ l.fn.changes.items ++ puts_of PutTask (stopped_task (is_among l.which) l.want) l.tables.state.tasks
+invariant-loop-task l = l.changes.items ++ puts_of PutTask (stopped_task (is_among l.tables.state l.which) l.want) l.task-iterator ≡ l.fn.changes.items ++ puts_of PutTask (stopped_task (is_among l.tables.state l.which) l.want) l.tables.state.tasks

@@ -1,4 +1,4 @@
-use Rattle.std.proofs.Common.{[], ◌++◌, ◌∙◌, ap}
+use Rattle.std.proofs.Common.{◌++◌, ◌∙◌, ap}
 use Rattle.bt_rows.specs.Changes.{apply_changes}
 use Rattle.batch_model.specs.Rows.{is_task}
 use Rattle.task_stops.specs.StopChanges.{is_among, stop_changes}
@@ -12,7 +12,7 @@ returns c =
     let want = c.args.want in
     ap (λ changes. apply_changes changes s)
     (c.in_ok-push_stop.ensures
-    ∙ ap (λ changes. changes ++ stop_changes (is_among c.in_ok-which.which) want c.moment.result s) c.new-changes.ensures.items
-    ∙ ap (λ which. stop_changes (is_among which) want c.moment.result s) c.in_ok-which.ensures
+    ∙ ap (λ changes. changes ++ stop_changes (is_among s c.in_ok-which.which) want c.moment.result s) c.new-changes.ensures.items
+    ∙ ap (λ which. stop_changes (is_among s which) want c.moment.result s) c.in_ok-which.ensures
     ∙ ap (λ now. stop_changes (is_task task.job task.id) want now s) c.moment.ensures)
     ∙ stop_made (is_task task.job task.id) want s c.requires.tasks c.requires.runs

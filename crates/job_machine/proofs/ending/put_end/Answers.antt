@@ -1,0 +1,13 @@
+use Rattle.std.proofs.Common.{ap, subst}
+use Rattle.std.specs.Result.{IfOk}
+use Rattle.batch_model.specs.Events.{accept}
+use Rattle.machine_plans.specs.Plans.{IsPlanOf}
+use Rattle.job_machine.proofs.EndingPuts.{end_put}
+use Rattle.job_machine.proofs.ending.put_end.Goals as goal
+
+pub returns : goal.returns
+returns c =
+    let s = c.args.tables.now.state in
+    subst (λ answered. IfOk c.accept_one.result (IsPlanOf answered s))
+    (ap (accept 200) (end_put s c.requires.keys c.args.run.now c.requires.there c.args.now c.args.ending c.in_ok-ended.ended c.in_ok-ended.ensures))
+    c.accept_one.ensures
