@@ -49,8 +49,9 @@ pub record IsDone (options : Options) (script : List ℕ) (seen : Observed) (sta
   pub begins : BeginsFrom options.seats seen.loaded opened
   pub history : List Entry
   pub legal : IsLegal options.seats opened history
-  -- at each moment of the history no node holds more slots than its pool has, each task is placed in free slots of its node, and
-  -- a job is completed only where it has no placed task and no unended run, and has none while it is completed
+  -- at each moment of the history no node holds more slots than its pool has, each task is placed in free slots of its node,
+  -- a job is completed only where it has no placed task and no unended run, and has none while it is completed, and a release
+  -- run of a job is made on a node at most once, after its preparation was completed there
   pub laws : KeepsLaws options.seats opened history
   pub calls : map asked_of history ≡ take options.limit (calls_of (lines script))
   -- no due steps stopped because memory ran out
@@ -69,8 +70,9 @@ pub record IsBegun (options : Options) (script : List ℕ) (seen : Observed) : T
   pub begins : BeginsFrom options.seats seen.loaded opened
   pub history : List Entry
   pub legal : IsLegal options.seats opened history
-  -- at each moment of the history no node holds more slots than its pool has, each task is placed in free slots of its node, and
-  -- a job is completed only where it has no placed task and no unended run, and has none while it is completed
+  -- at each moment of the history no node holds more slots than its pool has, each task is placed in free slots of its node,
+  -- a job is completed only where it has no placed task and no unended run, and has none while it is completed, and a release
+  -- run of a job is made on a node at most once, after its preparation was completed there
   pub laws : KeepsLaws options.seats opened history
   pub within : length history ≤ options.limit
   pub calls : map asked_of history ≡ take (length history) (calls_of (lines script))

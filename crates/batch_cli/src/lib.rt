@@ -11,6 +11,8 @@ mod formula_tests;
 mod job_tests;
 mod line;
 mod message;
+#[cfg(test)]
+mod preparation_tests;
 mod replay;
 mod run;
 mod status;

@@ -1,5 +1,5 @@
 -- The cause of a failure is that of another call that passes on the same error.
-use Rattle.std.proofs.Common.{◌≡◌, ◌≤◌, ◌+◌, ℕ, min, Result, Ok, Err, IsErr, refl, ap, sym, ◌∙◌, arith}
+use Rattle.std.proofs.Common.{◌≡◌, ◌≤◌, ℕ, Result, Ok, Err, IsErr, refl, ap, sym, ◌∙◌, arith}
 use Rattle.std.specs.Result.{IsErrAnd}
 use Rattle.bt_base.specs.Causes.{Rose}
 use Rattle.batch_keeper.specs.Told.{FailsWithCause}

@@ -186,8 +186,9 @@ impl<K: Keeper + Drop> Desk<K> {
     }
 
     /// Returns the keeper and the journal. The journal is a legal history, the keeper tells the tables after it, and
-    /// counted each keeper fault in it. At each moment of it the laws hold: no node holds more slots than its pool has, and a
-    /// completed job has no placed task and no unended run.
+    /// counted each keeper fault in it. At each moment of it the laws hold: no node holds more slots than its pool has, a
+    /// completed job has no placed task and no unended run, and a release run of a job is made on a node at most once, after its
+    /// preparation was completed there.
     pub fn close(self) -> (K, Journal)
         ensures keeper { result.0 ≡ self.keeper }
         ensures opened { result.1.opened.state ≡ self.opened }
@@ -217,7 +218,8 @@ impl<K: Keeper + Drop> Desk<K> {
 
     /// Makes a call: the event, and then due steps until no rule applies or until one can't be made. Each is saved before
     /// it is made. A full journal takes no call. At each moment of the history the laws hold: no node holds more slots than its
-    /// pool has, and a completed job has no placed task and no unended run.
+    /// pool has, a completed job has no placed task and no unended run, and a release run of a job is made on a node at most once,
+    /// after its preparation was completed there.
     pub fn call(&mut self, alloc: Global, moment: Moment, event: Event) -> Answer
         ensures answers { AnswersCall K.faults self.old self.new moment event result }
         ensures same { HasSameOpening self.old self.new }

@@ -1,4 +1,4 @@
-use Rattle.std.proofs.Common.{◌≡◌, ap, sym, subst, ◌∙◌}
+use Rattle.std.proofs.Common.{ap, sym, subst, ◌∙◌}
 use Rattle.batch_desk.specs.Kept.{Tells}
 use Rattle.batch_desk.proofs.Opened.{in_order_opened}
 use Rattle.batch_desk.proofs.desk.Desk.open.Goals as goal
