@@ -7,7 +7,7 @@ use Rattle.batch_model.specs.Finding.{first_of, only_if, has_number_left}
 use Rattle.batch_model.specs.Rows.{put_pool, add_node_row, add_run_row}
 use Rattle.batch_model.specs.Runs.{start_run}
 use Rattle.batch_model.specs.Pools.{is_resizing, has_leaving, staying_count, free_seat, waits_for_start}
-use Rattle.batch_model.specs.Settling.{is_to_settle, settle}
+use Rattle.batch_model.specs.Settling.{is_over, settle}
 use Rattle.batch_model.specs.JobRules.{enable_first, terminate_first, disable_first, release_first, end_first}
 use Rattle.batch_model.specs.WallTimes.{time_out_task_first, time_out_release_first, time_out_job_first}
 use Rattle.batch_model.specs.Placing.{place_first}
@@ -16,7 +16,7 @@ use Rattle.batch_model.specs.Variants.{State, PoolRow, StartTask, Steady, Alloca
 
 -- U5: a placed task whose present attempt has no unended run is settled
 abbrev pub settle_first : State → Option DueStep
-settle_first s = option_and_then (settle s) (find (is_to_settle s) s.tasks)
+settle_first s = option_and_then (settle s) (find (is_over s) s.tasks)
 
 -- the rules of jobs and tasks: the wall time of a task is over (U2), that of a release run (U3), and that of a job (U4), a task
 -- is settled (U5), a job is active again (U6), it is terminated with its tasks (U7), it is disabled (U8), a release run of it is

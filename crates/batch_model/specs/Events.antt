@@ -1,8 +1,10 @@
 -- Events: their refusals in order, their statuses and what they do. The events that are not built stand in NotBuilt.
-use Rattle.std.specs.Prelude.{ℕ, Bool, true, false, not, ◌&&◌, nat_lt, nat_le, max, List, [], ◌∷◌, length, codes, Option, Some, None, is_some, unwrap_or}
+use Rattle.std.specs.Prelude.{ℕ, Bool, true, false, not, ◌&&◌, ◌||◌, nat_lt, nat_le, max, List, [], ◌∷◌, length, codes, Option, Some, None, is_some, unwrap_or, if◌then◌else◌}
 use Rattle.std.specs.Option.{option_map_or}
+use Rattle.std.specs.List.{list_any}
 use Rattle.bt_rows.specs.declared.event.EventKind.{EventKind}
-use Rattle.bt_rows.specs.declared.event.EventKind.TheVariants.{AddPool, AddJob, PatchJob, DisableJob, EnableJob, TerminateJob, DeleteJob, AddTask, AddTasks, Take, End, Tick}
+use Rattle.bt_rows.specs.declared.event.EventKind.TheVariants.{AddPool, AddJob, PatchJob, DisableJob, EnableJob, TerminateJob, DeleteJob, AddTask, AddTasks}
+use Rattle.bt_rows.specs.declared.event.EventKind.TheVariants.{DeleteTask, TerminateTask, ReactivateTask, Take, End, Tick}
 use Rattle.bt_rows.specs.declared.event.PoolSpec.{PoolSpec}
 use Rattle.bt_rows.specs.declared.event.JobSpec.{JobSpec}
 use Rattle.bt_rows.specs.declared.event.Limits.{Limits}
@@ -11,18 +13,21 @@ use Rattle.bt_rows.specs.declared.event.DisableTasks.{DisableTasks}
 use Rattle.bt_rows.specs.declared.event.TaskSpec.{TaskSpec}
 use Rattle.bt_rows.specs.declared.refusal.Table.TheVariants.{Pools, Jobs, Tasks}
 use Rattle.bt_rows.specs.declared.refusal.Refusal.{Refusal}
-use Rattle.bt_rows.specs.declared.refusal.Refusal.TheVariants.{PoolNotFound, PoolExists, PoolBeingDeleted, JobNotFound, JobExists, JobStateRefuses, TaskExists}
+use Rattle.bt_rows.specs.declared.refusal.Refusal.TheVariants.{PoolNotFound, PoolExists, PoolBeingDeleted, JobNotFound, JobExists, JobStateRefuses}
+use Rattle.bt_rows.specs.declared.refusal.Refusal.TheVariants.{TaskNotFound, TaskExists, TaskCompleted, TaskNotReactivable, DependenciesOff, JobActionOff}
 use Rattle.bt_rows.specs.declared.refusal.Refusal.TheVariants.{DependencyListTooLong, CollectionTooLong, RunNotFound, RunAlreadyEnded, RunAlreadyTaken}
 use Rattle.bt_rows.specs.declared.refusal.Refusal.TheVariants.{RunNotTaken, RunWithdrawn, RunWaiting, TableFull, TerminationEngaged}
 use Rattle.bt_rows.specs.declared.reply.Element.{Element}
 use Rattle.bt_rows.specs.declared.reply.Element.TheVariants.{Added, NotAdded}
 use Rattle.bt_rows.specs.declared.reply.Reply.TheVariants.{Status, Refused, Elements}
-use Rattle.batch_model.specs.Finding.{first_of, at_row, names}
-use Rattle.batch_model.specs.Rows.{is_run, pool_of, job_of, task_of, run_of, add_pool_row, add_job_row, add_task_row, put_job, change_tasks, change_runs, change_preps}
+use Rattle.batch_model.specs.Finding.{is_empty, first_of, at_row, names}
+use Rattle.batch_model.specs.Rows.{is_task, is_run, pool_of, job_of, task_of, run_of, put_job, put_task, add_pool_row, add_job_row, add_task_row}
+use Rattle.batch_model.specs.Rows.{change_tasks, change_runs, change_preps}
 use Rattle.batch_model.specs.Runs.{is_waiting, is_taken, is_ended, is_withdrawn, is_work, is_at_prep}
-use Rattle.batch_model.specs.Tasks.{new_task}
+use Rattle.batch_model.specs.Tasks.{is_placed, is_completed, terminated, new_task}
 use Rattle.batch_model.specs.Jobs.{is_past, is_disabled, is_job_deleting, can_disable, job_in, new_job}
-use Rattle.batch_model.specs.Stops.{disable, close, terminate}
+use Rattle.batch_model.specs.Stops.{stop, disable, close, terminate}
+use Rattle.batch_model.specs.Settling.{drop_task}
 use Rattle.batch_model.specs.Pools.{new_pool}
 use Rattle.batch_model.specs.Starts.{start_ended}
 use Rattle.batch_model.specs.Preparing.{preparation_ended, release_ended}
@@ -30,7 +35,7 @@ use Rattle.batch_model.specs.Limits.{pool_limit, job_limit, task_limit, collecti
 use Rattle.batch_model.specs.WellFormed.{needs_length}
 use Rattle.batch_model.specs.NotBuilt.{not_built}
 use Rattle.batch_model.specs.Steps.{Answered, refuse_if}
-use Rattle.batch_model.specs.Variants.{State, PoolRow, JobRow, Enabling, Deleting, TaskRow, Ending, RunRow, RunKind, StartRun, PrepRun, TaskRun, CoordinationRun, ReleaseRun, Taken, PrepRow}
+use Rattle.batch_model.specs.Variants.{State, PoolRow, JobRow, Enabling, Deleting, Given, TaskRow, Active, WantTerminate, WantDelete, Closed, Ending, RunRow, RunKind, StartRun, PrepRun, TaskRun, CoordinationRun, ReleaseRun, Taken, PrepRow}
 use Rattle.batch_model.specs.Variants.{Ended}
 
 -- answers
@@ -150,11 +155,31 @@ delete_job s job = answer s (delete_refusals job) 202 (close Deleting user_termi
 abbrev pub has_long_needs : TaskSpec → Bool
 has_long_needs spec = not (nat_le (needs_length spec.needs) needs_limit)
 
--- why a job that is not past does not take the task, in order
+-- exit options that the task states pass the test
+abbrev pub has_given : (Given → Bool) → TaskSpec → Bool
+has_given test spec =
+    list_any (λ entry. test entry.1) spec.codes || list_any (λ entry. test entry.2) spec.ranges
+    || option_map_or test spec.launch false || option_map_or test spec.other false
+
+-- the options say whether dependent tasks may go on (Azure: dependencyAction)
+abbrev pub has_dependency_action : Given → Bool
+has_dependency_action options = is_some options.satisfies
+
+-- the options say what becomes of the job (Azure: jobAction)
+abbrev pub has_job_action : Given → Bool
+has_job_action options = is_some options.job
+
+-- the task depends on others, or says whether those that depend on it may go on
+abbrev pub uses_dependencies : TaskSpec → Bool
+uses_dependencies spec = not (is_empty spec.needs) || not (is_empty spec.spans) || has_given has_dependency_action spec
+
+-- why a job that is not past does not take the task, in order; that a task with instances requires one slot is not built
 abbrev pub task_refusals : State → JobRow → TaskSpec → List (Option Refusal)
 task_refusals s job spec =
     refuse_if (is_some (task_of s job.id spec.id)) TaskExists
+    ∷ refuse_if (uses_dependencies spec && not job.deps) DependenciesOff
     ∷ refuse_if (has_long_needs spec) DependencyListTooLong
+    ∷ refuse_if (has_given has_job_action spec && not job.on_fail) JobActionOff
     ∷ refuse_if (nat_le task_limit (length s.tasks)) (TableFull Tasks task_limit)
     ∷ []
 
@@ -206,6 +231,66 @@ add_tasks_refusals job specs =
 -- `add-tasks`
 abbrev pub add_tasks : State → List TaskSpec → JobRow → Answered
 add_tasks s specs job = option_map_or (λ refusal. refuse refusal s) (first_of (add_tasks_refusals job specs)) (accept_all (add_each s job specs))
+
+-- a placed task is dropped once its runs have ended, and another at once with its runs
+abbrev pub task_deleted : State → TaskRow → State
+task_deleted s task = if is_placed task.stage then stop (is_task task.job task.id) WantDelete s else drop_task task s
+
+-- the task that was found is deleted
+abbrev pub delete_found : State → TaskRow → Answered
+delete_found s task = accept 200 (task_deleted s task)
+
+-- why no task of the job is deleted
+abbrev pub delete_task_refusals : JobRow → List (Option Refusal)
+delete_task_refusals job = refuse_if (is_job_deleting job.state) (JobStateRefuses job.state) ∷ []
+
+-- `delete-task`
+abbrev pub delete_task : State → List ℕ → JobRow → Answered
+delete_task s id job =
+    option_map_or (λ refusal. refuse refusal s) (first_of (delete_task_refusals job)) (for_row s TaskNotFound (delete_found s) (task_of s job.id id))
+
+-- a placed task is terminated once its runs have ended, and an active one at once
+abbrev pub task_terminated : State → TaskRow → State
+task_terminated s task =
+    if is_placed task.stage then stop (is_task task.job task.id) WantTerminate s else put_task (terminated s.moment task) s
+
+-- why a task is not terminated
+abbrev pub terminate_task_refusals : TaskRow → List (Option Refusal)
+terminate_task_refusals task = refuse_if (is_completed task.stage) TaskCompleted ∷ []
+
+-- the task that was found is terminated
+abbrev pub terminate_found : State → TaskRow → Answered
+terminate_found s task = answer s (terminate_task_refusals task) 204 (task_terminated s task)
+
+-- `terminate-task`
+abbrev pub terminate_task : State → List ℕ → JobRow → Answered
+terminate_task s id job = for_row s TaskNotFound (terminate_found s) (task_of s job.id id)
+
+-- a completed task that had no success
+abbrev pub can_reactivate : TaskRow → Bool
+can_reactivate task = is_completed task.stage && not (option_map_or (λ (closed : Closed). closed.success) task.closed false)
+
+-- active again, without failures
+abbrev pub reactivated : TaskRow → TaskRow
+reactivated task = record task { stage = Active; failures = 0; closed = None }
+
+-- why a task is not reactivated
+abbrev pub reactivate_refusals : TaskRow → List (Option Refusal)
+reactivate_refusals task = refuse_if (not (can_reactivate task)) TaskNotReactivable ∷ []
+
+-- the task that was found is reactivated
+abbrev pub reactivate_found : State → TaskRow → Answered
+reactivate_found s task = answer s (reactivate_refusals task) 204 (put_task (reactivated task) s)
+
+-- why no task of the job is reactivated
+abbrev pub reactivate_task_refusals : JobRow → List (Option Refusal)
+reactivate_task_refusals job = refuse_if (is_past job.state) (JobStateRefuses job.state) ∷ []
+
+-- `reactivate-task`
+abbrev pub reactivate_task : State → List ℕ → JobRow → Answered
+reactivate_task s id job =
+    option_map_or (λ refusal. refuse refusal s) (first_of (reactivate_task_refusals job))
+    (for_row s TaskNotFound (reactivate_found s) (task_of s job.id id))
 
 -- taken now
 abbrev pub taken_run : ℕ → RunRow → RunRow
@@ -287,6 +372,9 @@ event_now (TerminateJob job reason) s = for_row s JobNotFound (terminate_job s r
 event_now (DeleteJob job) s = for_row s JobNotFound (delete_job s) (job_of s job)
 event_now (AddTask job spec) s = for_row s JobNotFound (add_task s spec) (job_of s job)
 event_now (AddTasks job specs) s = for_row s JobNotFound (add_tasks s specs) (job_of s job)
+event_now (DeleteTask job task) s = for_row s JobNotFound (delete_task s task) (job_of s job)
+event_now (TerminateTask job task) s = for_row s JobNotFound (terminate_task s task) (job_of s job)
+event_now (ReactivateTask job task) s = for_row s JobNotFound (reactivate_task s task) (job_of s job)
 event_now (Take run) s = for_row s RunNotFound (take_run s) (run_of s run)
 event_now (End run ending) s = for_row s RunNotFound (end_run s ending) (run_of s run)
 event_now Tick s = accept 200 s

@@ -11,6 +11,11 @@ module _ {R : Type 0} where
   abbrev pub Each : (R → Bool) → List R → Type 0
   Each test rows = list_all test rows ≡ true
 
+  -- no rows
+  abbrev pub is_empty : List R → Bool
+  is_empty [] = true
+  is_empty (row ∷ rows) = false
+
   -- the rows that pass the test, changed, and the others as they are
   abbrev pub change_where : (R → Bool) → (R → R) → List R → List R
   change_where test change rows = map (λ row. if test row then change row else row) rows

@@ -8,12 +8,14 @@ use Rattle.batch_model.specs.Rows.{pool_of, node_of, job_of, task_of, prep_of}
 use Rattle.batch_model.specs.Runs.{is_release}
 use Rattle.batch_model.specs.Preps.{is_prepared}
 use Rattle.batch_model.specs.Tasks.{has_placed_task}
+use Rattle.batch_model.specs.Jobs.{is_job_active}
+use Rattle.batch_model.specs.Readiness.{is_ready}
 use Rattle.batch_model.specs.Nodes.{is_in_pool, is_usable}
 use Rattle.batch_model.specs.Slots.{held_slots}
 use Rattle.batch_model.specs.JobRules.{has_unended_run}
 use Rattle.batch_model.specs.Dues.{due_step}
 use Rattle.batch_model.specs.WellFormed.{QuietJobsPlaceNothing}
-use Rattle.batch_model.specs.Sound.{SlotsSuffice, CompletedJobsRest}
+use Rattle.batch_model.specs.Sound.{SlotsSuffice, CompletedJobsRest, awaits_no_start, has_started}
 use Rattle.batch_model.specs.Steps.{DueStep}
 use Rattle.batch_model.specs.Variants.{State, PoolRow, NodeRow, JobRow, TaskRow, RunRow, PrepRow}
 
@@ -21,8 +23,9 @@ use Rattle.batch_model.specs.Variants.{State, PoolRow, NodeRow, JobRow, TaskRow,
 abbrev pub free_slots : State → PoolRow → NodeRow → ℕ
 free_slots s pool node = pool.slots - held_slots s node.number
 
--- the task of the job is placed on a usable node of the job's pool on which at least the slots that the task requires are
--- free, and on which exactly these are free no more afterwards
+-- the task of the job, which is active, is ready, and is placed on a usable node of the job's pool on which the pool's start task
+-- succeeded, if it is waited for; at least the slots that the task requires are free there, and exactly these are free no more
+-- afterwards
 pub record PlacesTask (before after : State) (in_job id : List ℕ) (number : ℕ) : Type 0 where
   pub job : JobRow
   pub pool : PoolRow
@@ -32,7 +35,10 @@ pub record PlacesTask (before after : State) (in_job id : List ℕ) (number : �
   pub pool_there : pool_of before job.pool ≡ Some pool
   pub node_there : node_of before number ≡ Some node
   pub task_there : task_of before in_job id ≡ Some task
+  pub active : is_job_active job.state ≡ true
+  pub ready : is_ready before task ≡ true
   pub usable : is_usable node.stage ≡ true
+  pub started : (awaits_no_start before node.pool || has_started before node.number) ≡ true
   pub in_pool : is_in_pool pool.id node ≡ true
   pub room : task.slots ≤ free_slots before pool node
   pub taken : free_slots before pool node ≡ free_slots after pool node + task.slots

@@ -1,3 +1,4 @@
+pub mod Conditions
 pub mod Dues
 pub mod Endings
 pub mod Events
@@ -14,6 +15,7 @@ pub mod Placing
 pub mod Pools
 pub mod Preparing
 pub mod Preps
+pub mod Readiness
 pub mod Rows
 pub mod Runs
 pub mod Samples

@@ -1,23 +1,19 @@
--- Placing of tasks, as far as it is built: tasks without dependencies and instances.
-use Rattle.std.specs.Prelude.{◌+◌, ℕ, Bool, true, false, not, ◌&&◌, List, [], ◌∷◌, filter, int_lt, Option, Some, None, is_none, is_some, if◌then◌else◌}
+-- Placing of tasks, as far as it is built: tasks without instances.
+use Rattle.std.specs.Prelude.{◌+◌, ℕ, Bool, not, ◌&&◌, filter, int_lt, Option, Some, None, is_none, is_some, if◌then◌else◌}
 use Rattle.std.specs.Option.{option_map, option_and_then}
 use Rattle.bt_rows.specs.declared.due.Due.TheVariants.{TaskPlaced}
 use Rattle.bt_rows.specs.Choice.{best, prefers}
 use Rattle.batch_model.specs.Finding.{find_map, only_if, is_below, has_number_left}
 use Rattle.batch_model.specs.Rows.{pool_of, put_task, add_run_row, add_prep_row}
 use Rattle.batch_model.specs.Runs.{job_run, work_run}
-use Rattle.batch_model.specs.Tasks.{is_active, is_in_job, placed_count}
+use Rattle.batch_model.specs.Tasks.{is_in_job, placed_count}
 use Rattle.batch_model.specs.Jobs.{is_job_active}
+use Rattle.batch_model.specs.Readiness.{is_ready}
 use Rattle.batch_model.specs.Preps.{new_prep, waits_for_preparation, has_preparation, has_failed_preparation, is_prepared_on}
 use Rattle.batch_model.specs.Nodes.{is_in_pool, is_usable}
 use Rattle.batch_model.specs.Slots.{held_slots, has_free}
 use Rattle.batch_model.specs.Steps.{DueStep}
 use Rattle.batch_model.specs.Variants.{State, PoolRow, Fill, NodeRow, JobRow, StartTask, TaskRow, Placed, PrepRun, TaskRun, RunState, Waiting, Queued}
-
--- no items
-abbrev pub is_empty : {A : Type 0} → List A → Bool
-is_empty [] = true
-is_empty (item ∷ items) = false
 
 -- the job may have one more placed task
 abbrev pub has_turn : State → JobRow → Bool
@@ -27,13 +23,9 @@ has_turn s job = is_below (placed_count s job.id) job.parallel
 abbrev pub places_tasks : State → JobRow → Bool
 places_tasks s job = is_job_active job.state && has_turn s job
 
--- a ready task: active, and depending on nothing
-abbrev pub is_ready : TaskRow → Bool
-is_ready task = is_active task.stage && is_empty task.needs && is_empty task.spans && is_none task.multi
-
--- a ready task of the job
-abbrev pub is_placeable : JobRow → TaskRow → Bool
-is_placeable job task = is_in_job job.id task && is_ready task
+-- a ready task of the job, without instances
+abbrev pub is_placeable : State → JobRow → TaskRow → Bool
+is_placeable s job task = is_in_job job.id task && is_ready s task && is_none task.multi
 
 -- a preparation of the job that is waited for has failed on the node
 abbrev pub is_unprepared : State → JobRow → ℕ → Bool
@@ -92,7 +84,7 @@ place s job task node = record {
 
 -- a ready task of the job, on the node that is chosen for its slots
 abbrev pub place_task : State → JobRow → PoolRow → TaskRow → Option DueStep
-place_task s job pool task = only_if (is_placeable job task) (option_map (place s job task) (choice s job pool task.slots))
+place_task s job pool task = only_if (is_placeable s job task) (option_map (place s job task) (choice s job pool task.slots))
 
 -- the first task of the job that fits
 abbrev pub place_in : State → JobRow → PoolRow → Option DueStep

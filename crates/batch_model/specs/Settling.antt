@@ -1,127 +1,106 @@
--- What becomes of a placed task whose present attempt has no unended run, as far as it is built: tasks whose requeue or
--- termination is wanted, and, in jobs that take no actions, tasks without exit conditions whose wall time is over, and such
--- tasks without a wanted end, a failed attempt and retries.
-use Rattle.std.specs.Prelude.{zero, Bool, true, false, not, ◌&&◌, ◌||◌, ℤ, pos, Option, Some, is_some, is_none, if◌then◌else◌}
-use Rattle.std.specs.Option.{option_map, option_map_or}
+-- What becomes of a placed task whose present attempt has no unended run.
+use Rattle.std.specs.Prelude.{ℕ, ◌+◌, Bool, true, false, not, ◌&&◌, List, codes, filter, Option, Some, None, if◌then◌else◌}
+use Rattle.std.specs.Option.{option_map, option_and_then}
+use Rattle.bt_rows.specs.declared.event.DisableTasks.TheVariants.{Requeue}
 use Rattle.bt_rows.specs.declared.due.Outcome.{Outcome}
-use Rattle.bt_rows.specs.declared.due.Outcome.TheVariants.{Success, Failure, Again}
+use Rattle.bt_rows.specs.declared.due.Outcome.TheVariants.{Deleted, Success, Failure, Again}
 use Rattle.bt_rows.specs.declared.due.Due.TheVariants.{TaskSettled}
-use Rattle.batch_model.specs.Rows.{job_of, put_task}
-use Rattle.batch_model.specs.Tasks.{is_placed, is_busy, is_undisturbed, main_ending, retry_limit, cleared, completed, terminated, timed_out}
-use Rattle.batch_model.specs.Placing.{is_empty}
-use Rattle.batch_model.specs.Endings.{is_success, closed_by}
+use Rattle.batch_model.specs.Finding.{is_below}
+use Rattle.batch_model.specs.Rows.{is_task, job_of, put_task}
+use Rattle.batch_model.specs.Runs.{is_run_of_task}
+use Rattle.batch_model.specs.Tasks.{is_placed, is_busy, attempt_ending, retry_limit, completed, terminated, again}
+use Rattle.batch_model.specs.Jobs.{can_disable, is_past}
+use Rattle.batch_model.specs.Endings.{is_success, is_not_started}
+use Rattle.batch_model.specs.Conditions.{condition}
+use Rattle.batch_model.specs.Stops.{disable, terminate}
 use Rattle.batch_model.specs.Steps.{DueStep}
-use Rattle.batch_model.specs.Variants.{State, JobRow, TaskRow, Active, Want, WantRequeue, WantTerminate, WantWall, Ending}
+use Rattle.batch_model.specs.Variants.{State, JobRow, JobAction, NoAction, ToDisable, ToTerminate, Options, TaskRow, Want, WantRequeue, WantTerminate, WantWall}
+use Rattle.batch_model.specs.Variants.{WantDelete, How, ByEnding, ByWall, Ending, NoCode}
 
 -- placed, and no run of the present attempt is unended
 abbrev pub is_over : State → TaskRow → Bool
 is_over s task = is_placed task.stage && not (is_busy s task)
 
--- no exit conditions are listed
-abbrev pub has_no_conditions : TaskRow → Bool
-has_no_conditions task = is_empty task.codes && is_empty task.ranges && is_none task.launch && is_none task.other
+-- the reason of a job that a failed task terminated
+unfoldable pub task_failed : List ℕ
+task_failed = codes "TaskFailed"
 
--- 0
-abbrev pub is_zero_limit : ℤ → Bool
-is_zero_limit (pos zero) = true
-is_zero_limit _ = false
+-- the row of the task is dropped with its runs
+abbrev pub drop_task : TaskRow → State → State
+drop_task task s = record s {
+  tasks = filter (λ row. not (is_task task.job task.id row)) s.tasks;
+  runs = filter (λ run. not (is_run_of_task task.job task.id run)) s.runs;
+}
 
--- the job takes no actions, and the task is not tried again
-abbrev pub is_tried_once : TaskRow → JobRow → Bool
-is_tried_once task job = not job.on_fail && is_zero_limit (retry_limit job task)
+-- the line names the task and what became of it
+abbrev pub settled : TaskRow → Outcome → State → DueStep
+settled task outcome after = record { due = TaskSettled task.job task.id outcome; state = after }
 
--- the task's job is such
-abbrev pub has_plain_job : State → TaskRow → Bool
-has_plain_job s task = option_map_or (is_tried_once task) (job_of s task.job) false
+-- what an ending of a task does to its job: a job that can be disabled is, and its placed tasks are requeued; one that is not
+-- past is terminated
+abbrev pub act : JobAction → JobRow → State → State
+act NoAction job s = s
+act ToDisable job s = if can_disable job.state then disable job Requeue s else s
+act ToTerminate job s = if is_past job.state then s else terminate task_failed job s
 
--- over, and to be completed as its main run ended
-abbrev pub is_to_complete : State → TaskRow → Bool
-is_to_complete s task = is_over s task && is_undisturbed task && has_no_conditions task && has_plain_job s task && is_some (main_ending s task)
+-- if the job asks for such actions (Azure: onTaskFailure)
+abbrev pub act_if_asked : JobAction → JobRow → State → State
+act_if_asked action job s = if job.on_fail then act action job s else s
+
+-- the task is completed, in such a way, and then the action of its options is done to its job
+abbrev pub complete : JobRow → TaskRow → How → Bool → Options → State → State
+complete job task cause succeeded options s =
+    act_if_asked options.job job
+    (put_task (completed (record { how = cause; success = succeeded; satisfies = options.satisfies; at = s.moment }) task) s)
 
 -- by success
 abbrev pub outcome_of : Bool → Outcome
 outcome_of true = Success
 outcome_of false = Failure
 
--- completed as it ended; the line names the task and what became of it
-abbrev pub complete : State → TaskRow → Ending → DueStep
-complete s task ending = record {
-  due = TaskSettled task.job task.id (outcome_of (is_success ending));
-  state = put_task (completed (closed_by s.moment ending) task) s;
-}
+-- completed as it ended
+abbrev pub settle_completed : State → JobRow → TaskRow → Ending → Bool → DueStep
+settle_completed s job task ending succeeded =
+    settled task (outcome_of succeeded) (complete job task (ByEnding ending) succeeded (condition task ending) s)
 
--- its requeue is wanted
-abbrev pub wants_requeue : Option Want → Bool
-wants_requeue (Some WantRequeue) = true
-wants_requeue _ = false
+-- completed since its wall time is over, by the exit options of an ending without code
+abbrev pub settle_timed_out : State → JobRow → TaskRow → DueStep
+settle_timed_out s job task = settled task Failure (complete job task ByWall false (condition task NoCode) s)
 
--- over, and to be active again
-abbrev pub is_to_requeue : State → TaskRow → Bool
-is_to_requeue s task = is_over s task && wants_requeue task.wanted
+-- completed as terminated: without exit options
+abbrev pub settle_terminated : State → TaskRow → DueStep
+settle_terminated s task = settled task Failure (put_task (terminated s.moment task) s)
 
--- active again, with the failures that it has
-abbrev pub active_again : TaskRow → TaskRow
-active_again task = record (cleared task) { stage = Active }
+-- active again after this number of failures
+abbrev pub settle_again : State → TaskRow → ℕ → DueStep
+settle_again s task failed = settled task (Again failed) (put_task (again failed task) s)
 
--- the line names the task and its failures
-abbrev pub requeue : State → TaskRow → DueStep
-requeue s task = record {
-  due = TaskSettled task.job task.id (Again task.failures);
-  state = put_task (active_again task) s;
-}
+-- dropped
+abbrev pub settle_deleted : State → TaskRow → DueStep
+settle_deleted s task = settled task Deleted (drop_task task s)
 
--- its termination is wanted
-abbrev pub wants_termination : Option Want → Bool
-wants_termination (Some WantTerminate) = true
-wants_termination _ = false
+-- while its failures are below the limit of its retries, a task that failed is active again with one failure more
+abbrev pub settle_failed : State → JobRow → TaskRow → Ending → DueStep
+settle_failed s job task ending =
+    if is_below task.failures (retry_limit job task)
+    then settle_again s task (task.failures + 1)
+    else settle_completed s job task ending false
 
--- over, and to be completed as terminated
-abbrev pub is_to_terminate : State → TaskRow → Bool
-is_to_terminate s task = is_over s task && wants_termination task.wanted
+-- a success, a launch error, which is not tried again, or a failure, which may be
+abbrev pub settle_ending : State → JobRow → TaskRow → Ending → DueStep
+settle_ending s job task ending =
+    if is_success ending then settle_completed s job task ending true
+    else if is_not_started ending then settle_completed s job task ending false
+    else settle_failed s job task ending
 
--- completed as terminated; the line names the task
-abbrev pub terminate_task : State → TaskRow → DueStep
-terminate_task s task = record {
-  due = TaskSettled task.job task.id Failure;
-  state = put_task (terminated s.moment task) s;
-}
+-- the wanted end decides, and if there is none, how the present attempt ended
+abbrev pub settle_by : Option Want → State → JobRow → TaskRow → Option DueStep
+settle_by (Some WantDelete) s job task = Some (settle_deleted s task)
+settle_by (Some WantTerminate) s job task = Some (settle_terminated s task)
+settle_by (Some WantWall) s job task = Some (settle_timed_out s job task)
+settle_by (Some WantRequeue) s job task = Some (settle_again s task task.failures)
+settle_by None s job task = option_map (settle_ending s job task) (attempt_ending s task)
 
--- its end at its wall time is wanted
-abbrev pub wants_wall_end : Option Want → Bool
-wants_wall_end (Some WantWall) = true
-wants_wall_end _ = false
-
--- a job takes no actions when tasks fail
-abbrev pub takes_no_actions : JobRow → Bool
-takes_no_actions job = not job.on_fail
-
--- the task's job is such
-abbrev pub has_job_without_actions : State → TaskRow → Bool
-has_job_without_actions s task = option_map_or takes_no_actions (job_of s task.job) false
-
--- over, and to be completed as one whose wall time is over
-abbrev pub is_to_time_out : State → TaskRow → Bool
-is_to_time_out s task = is_over s task && wants_wall_end task.wanted && has_no_conditions task && has_job_without_actions s task
-
--- completed so; the line names the task
-abbrev pub time_out_task : State → TaskRow → DueStep
-time_out_task s task = record {
-  due = TaskSettled task.job task.id Failure;
-  state = put_task (timed_out s.moment task) s;
-}
-
--- requeued, terminated, timed out, or completed
-abbrev pub is_to_settle : State → TaskRow → Bool
-is_to_settle s task = is_to_requeue s task || is_to_terminate s task || is_to_time_out s task || is_to_complete s task
-
--- as its main run ended
-abbrev pub complete_as_ended : State → TaskRow → Option DueStep
-complete_as_ended s task = option_map (complete s task) (main_ending s task)
-
--- a wanted end goes before the ending of the main run
+-- with the retries and actions of the task's job
 abbrev pub settle : State → TaskRow → Option DueStep
-settle s task =
-    if is_to_requeue s task then Some (requeue s task)
-    else if is_to_terminate s task then Some (terminate_task s task)
-    else if is_to_time_out s task then Some (time_out_task s task)
-    else complete_as_ended s task
+settle s task = option_and_then (λ job. settle_by task.wanted s job task) (job_of s task.job)

@@ -4,8 +4,9 @@ use Rattle.std.specs.Option.{is_none, unwrap_or, option_and_then}
 use Rattle.std.specs.List.{find, list_any}
 use Rattle.bt_base.specs.Ids.{same}
 use Rattle.bt_rows.specs.declared.event.TaskSpec.{TaskSpec}
+use Rattle.batch_model.specs.Finding.{or_else}
 use Rattle.batch_model.specs.Runs.{is_present, is_busy_for, is_main, ending_of}
-use Rattle.batch_model.specs.Variants.{State, JobRow, TaskRow, TaskStage, Active, Placed, Completed, Closed, ByTermination, ByWall, Ending, RunRow}
+use Rattle.batch_model.specs.Variants.{State, JobRow, TaskRow, TaskStage, Active, Placed, Completed, Closed, ByTermination, Ending, RunRow}
 
 abbrev pub is_active : TaskStage → Bool
 is_active Active = true
@@ -51,6 +52,10 @@ main_run s task = find (λ run. is_present task run && is_main run.kind) s.runs
 abbrev pub main_ending : State → TaskRow → Option Ending
 main_ending s task = option_and_then (λ run. ending_of run.state) (main_run s task)
 
+-- how the present attempt ended: by a failed coordination, or else as its main run did
+abbrev pub attempt_ending : State → TaskRow → Option Ending
+attempt_ending s task = or_else task.fail (main_ending s task)
+
 -- the limit of retries is the task's own, or else its job's
 abbrev pub retry_limit : JobRow → TaskRow → ℤ
 retry_limit job task = unwrap_or task.retries job.retries
@@ -67,9 +72,9 @@ completed closing task = record (cleared task) { stage = Completed; closed = Som
 abbrev pub terminated : ℕ → TaskRow → TaskRow
 terminated now task = completed (record { how = ByTermination; success = false; satisfies = false; at = now }) task
 
--- a task whose wall time is over has no success, and without exit conditions does not satisfy its dependents
-abbrev pub timed_out : ℕ → TaskRow → TaskRow
-timed_out now task = completed (record { how = ByWall; success = false; satisfies = false; at = now }) task
+-- active again, after this number of failures
+abbrev pub again : ℕ → TaskRow → TaskRow
+again failed task = record (cleared task) { stage = Active; failures = failed }
 
 -- a task is added active
 abbrev pub new_task : List ℕ → TaskSpec → TaskRow

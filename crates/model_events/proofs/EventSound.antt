@@ -2,32 +2,35 @@
 use Rattle.std.proofs.Common.{◌≡◌, ℕ, ◌≤◌, true, List, ◌∷◌, is_some, unwrap_or, inl, inr, refl}
 use Rattle.bt_base.specs.Moments.{last_moment}
 use Rattle.bt_rows.specs.declared.event.EventKind.{EventKind}
-use Rattle.bt_rows.specs.declared.event.EventKind.TheVariants.{AddPool, AddJob, PatchJob, DisableJob, EnableJob, TerminateJob, DeleteJob, AddTask, AddTasks, Take, End}
+use Rattle.bt_rows.specs.declared.event.EventKind.TheVariants.{AddPool, AddJob, PatchJob, DisableJob, EnableJob, TerminateJob, DeleteJob, AddTask, AddTasks}
+use Rattle.bt_rows.specs.declared.event.EventKind.TheVariants.{DeleteTask, TerminateTask, ReactivateTask, Take, End}
 use Rattle.bt_rows.specs.declared.event.JobSpec.{JobSpec}
 use Rattle.bt_rows.specs.declared.event.TaskSpec.{TaskSpec}
 use Rattle.bt_rows.specs.declared.refusal.Refusal.{Refusal}
-use Rattle.bt_rows.specs.declared.refusal.Refusal.TheVariants.{PoolNotFound, JobNotFound, RunNotFound, JobStateRefuses}
+use Rattle.bt_rows.specs.declared.refusal.Refusal.TheVariants.{PoolNotFound, JobNotFound, TaskNotFound, RunNotFound, JobStateRefuses}
 use Rattle.bt_rows.specs.declared.reply.Reply.TheVariants.{Refused}
 use Rattle.bt_rows.specs.Ranges.{is_event_in_range}
 use Rattle.batch_model.specs.Steps.{refuse_if}
-use Rattle.batch_model.specs.Rows.{pool_of, job_of, run_of, add_pool_row, add_job_row, put_job}
+use Rattle.batch_model.specs.Rows.{pool_of, job_of, task_of, run_of, add_pool_row, add_job_row, put_job, put_task}
 use Rattle.batch_model.specs.Jobs.{is_past, job_in, new_job}
 use Rattle.batch_model.specs.Stops.{disable, close, terminate}
 use Rattle.batch_model.specs.Pools.{new_pool}
 use Rattle.batch_model.specs.Events.{add_pool_refusals, add_job, add_job_in, add_job_refusals, task_refusals, task_added, add_task, add_each, accept_all}
 use Rattle.batch_model.specs.Events.{patched, patch_refusals, patch_job, disable_refusals, disable_job, enable_refusals, enable_job, user_terminate}
-use Rattle.batch_model.specs.Events.{terminate_refusals, terminate_job, delete_refusals, delete_job}
+use Rattle.batch_model.specs.Events.{for_row, terminate_refusals, terminate_job, delete_refusals, delete_job}
 use Rattle.batch_model.specs.Events.{add_tasks, add_tasks_refusals, take_refusals, run_taken, take_run, end_refusals, run_ended, end_run, event_now, event_step}
-use Rattle.batch_model.specs.Events.{at_moment}
+use Rattle.batch_model.specs.Events.{task_deleted, delete_found, delete_task_refusals, delete_task, task_terminated, terminate_task_refusals, terminate_found}
+use Rattle.batch_model.specs.Events.{terminate_task, reactivated, reactivate_refusals, reactivate_found, reactivate_task_refusals, reactivate_task, at_moment}
 use Rattle.batch_model.specs.Sound.{IsSound}
 use Rattle.batch_model.specs.Variants.{State, Enabling, Deleting}
 use Rattle.model_lists.proofs.Tests.{passes_or_not}
-use Rattle.model_events.proofs.Keeping.{for_row_keeps, Leaves, given_leaves, answer_leaves, for_row_leaves}
+use Rattle.model_events.proofs.Keeping.{for_row_keeps, Leaves, leaves_if_accepted, given_leaves, answer_leaves, for_row_leaves}
 use Rattle.model_events.proofs.MomentPassed.{sound_at_moment}
 use Rattle.model_events.proofs.PoolAdded.{add_pool_kept}
 use Rattle.model_events.proofs.JobAdded.{add_job_kept}
 use Rattle.model_events.proofs.JobsChanged.{patch_job_kept, disable_job_kept, enable_job_kept, terminate_job_kept, delete_job_kept}
 use Rattle.model_events.proofs.TaskAdded.{add_task_kept, add_tasks_kept}
+use Rattle.model_events.proofs.TasksChanged.{delete_task_kept, terminate_task_kept, reactivate_task_kept}
 use Rattle.model_events.proofs.RunTaken.{take_kept}
 use Rattle.model_events.proofs.RunEnded.{end_kept}
 
@@ -51,6 +54,12 @@ module _ (seats : ℕ) (s : State) (h : IsSound seats s) where
       for_row_keeps (IsSound seats) s h JobNotFound (add_task s spec) (job_of s job) (λ row. add_task_kept seats s job spec row k h)
   sound_now (AddTasks job specs) k =
       for_row_keeps (IsSound seats) s h JobNotFound (add_tasks s specs) (job_of s job) (λ row. add_tasks_kept seats s job specs row k h)
+  sound_now (DeleteTask job task) k =
+      for_row_keeps (IsSound seats) s h JobNotFound (delete_task s task) (job_of s job) (λ row found. delete_task_kept seats s task row h)
+  sound_now (TerminateTask job task) k =
+      for_row_keeps (IsSound seats) s h JobNotFound (terminate_task s task) (job_of s job) (λ row found. terminate_task_kept seats s task row h)
+  sound_now (ReactivateTask job task) k =
+      for_row_keeps (IsSound seats) s h JobNotFound (reactivate_task s task) (job_of s job) (λ row found. reactivate_task_kept seats s task row h)
   sound_now (Take run) k = for_row_keeps (IsSound seats) s h RunNotFound (take_run s) (run_of s run) (λ row. take_kept seats s run row h)
   sound_now (End run ending) k = for_row_keeps (IsSound seats) s h RunNotFound (end_run s ending) (run_of s run) (λ row. end_kept seats s run ending row h)
   sound_now other k = h
@@ -99,6 +108,21 @@ module _ (s : State) where
       for_row_leaves s JobNotFound (add_task s spec) (job_of s job)
       (λ row. answer_leaves s (refuse_if (is_past row.state) (JobStateRefuses row.state) ∷ task_refusals s row spec) 201 (task_added s row spec))
   refused_now (AddTasks job specs) = tasks_leave specs job
+  refused_now (DeleteTask job task) =
+      for_row_leaves s JobNotFound (delete_task s task) (job_of s job)
+      (λ row. given_leaves s (for_row s TaskNotFound (delete_found s) (task_of s row.id task))
+      (for_row_leaves s TaskNotFound (delete_found s) (task_of s row.id task) (λ one. leaves_if_accepted s (task_deleted s one) 200))
+      (delete_task_refusals row))
+  refused_now (TerminateTask job task) =
+      for_row_leaves s JobNotFound (terminate_task s task) (job_of s job)
+      (λ row. for_row_leaves s TaskNotFound (terminate_found s) (task_of s row.id task)
+      (λ one. answer_leaves s (terminate_task_refusals one) 204 (task_terminated s one)))
+  refused_now (ReactivateTask job task) =
+      for_row_leaves s JobNotFound (reactivate_task s task) (job_of s job)
+      (λ row. given_leaves s (for_row s TaskNotFound (reactivate_found s) (task_of s row.id task))
+      (for_row_leaves s TaskNotFound (reactivate_found s) (task_of s row.id task)
+      (λ one. answer_leaves s (reactivate_refusals one) 204 (put_task (reactivated one) s)))
+      (reactivate_task_refusals row))
   refused_now (Take run) = for_row_leaves s RunNotFound (take_run s) (run_of s run) (λ row. answer_leaves s (take_refusals row) 200 (run_taken s row))
   refused_now (End run ending) =
       for_row_leaves s RunNotFound (end_run s ending) (run_of s run) (λ row. answer_leaves s (end_refusals row) 200 (run_ended s ending row))

@@ -4,6 +4,7 @@ pub mod PoolAdded
 pub mod JobAdded
 pub mod JobsChanged
 pub mod TaskAdded
+pub mod TasksChanged
 pub mod take
 pub mod RunTaken
 pub mod end

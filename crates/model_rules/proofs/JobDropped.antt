@@ -37,7 +37,7 @@ use Rattle.model_tables.proofs.NotBuilt.{is_built}
 use Rattle.model_tables.proofs.RunsMove.{slots_suffice}
 use Rattle.model_tables.proofs.StartsKept.{is_good_start, starts_on, few_still}
 use Rattle.model_tables.proofs.TasksStopped.{settled_alike}
-use Rattle.model_rules.proofs.Rules.{less_placed}
+use Rattle.model_tables.proofs.TaskMoved.{less_placed}
 
 -- ids
 

@@ -76,20 +76,26 @@ module _ (seats : ℕ) (s : State) (h : IsSound seats s) where
   pub job_valid : (test : JobRow → Bool) (job : JobRow) → find test s.jobs ≡ Some job → is_job_valid s.moment job ≡ true
   job_valid test job found = each_found (is_job_valid s.moment) test job s.jobs found h.limited.rows.jobs
 
-  -- jobs have fewer steps if the one that is found has
-  pub fewer_steps : (test : JobRow → Bool) (job row : JobRow) → find test s.jobs ≡ Some job → row.id ≡ job.id
-      → steps_of_job row.state < steps_of_job job.state → jobs_left (put_job row s) < jobs_left s
-  fewer_steps test job row found ids less =
+  -- the steps of jobs with a row in the place of the one that is found
+  pub steps_put : (test : JobRow → Bool) (job row : JobRow) → find test s.jobs ≡ Some job → row.id ≡ job.id
+      → jobs_left (put_job row s) + steps_of_job job.state ≡ jobs_left s + steps_of_job row.state
+  steps_put test job row found ids =
       let first = found_first same_job same_job_equiv test job s.jobs h.consistent.keys.jobs found in
       let total : jobs_left (put_job (record row { id = job.id }) s) + steps_of_job job.state ≡ jobs_left s + steps_of_job row.state =
       sum_by-put_row same_job same_job_equiv job s.jobs h.consistent.keys.jobs first (λ (one : JobRow). steps_of_job one.state)
       (record row { id = job.id }) (λ x. refl)
       in
       let same_row : record row { id = job.id } ≡ row = by_id row.id job.id ids in
-      subst (λ (r : JobRow). jobs_left (put_job r s) < jobs_left s) same_row (omega (arith, total, less))
+      subst (λ (r : JobRow). jobs_left (put_job r s) + steps_of_job job.state ≡ jobs_left s + steps_of_job row.state) same_row total
     where
       by_id : (a b : List ℕ) → a ≡ b → record row { id = b } ≡ record row { id = a }
       by_id a b e = rw e refl
+
+  -- jobs have fewer steps if the one that is found has
+  pub fewer_steps : (test : JobRow → Bool) (job row : JobRow) → find test s.jobs ≡ Some job → row.id ≡ job.id
+      → steps_of_job row.state < steps_of_job job.state → jobs_left (put_job row s) < jobs_left s
+  fewer_steps test job row found ids less =
+      let total = steps_put test job row found ids in omega (arith, total, less)
 
   -- U6
   pub enable_kept : (step : DueStep) → enable_first s ≡ Some step → IsDueKept seats s step

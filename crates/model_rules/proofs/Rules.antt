@@ -1,5 +1,5 @@
 -- What each due rule keeps, and how it is put together: which rows a rule comes from, and the first of several rules.
-use Rattle.std.proofs.Common.{◌≡◌, ℕ, Bool, true, false, not, ◌&&◌, List, [], ◌∷◌, Option, Some, None, find, is_some, option_map, option_and_then, ◌⊎◌}
+use Rattle.std.proofs.Common.{◌≡◌, ℕ, Bool, true, false, List, [], ◌∷◌, Option, Some, None, find, is_some, option_map, option_and_then, ◌⊎◌}
 use Rattle.std.proofs.Common.{inl, inr, refl}
 use Rattle.bt_base.proofs.Turns.{lex_lt}
 use Rattle.batch_model.specs.Finding.{or_else, first_of, find_map, only_if}
@@ -67,9 +67,3 @@ module _ {A : Type 0} (Q : A → Type 0) where
   first_gives [] all y e = cc
   first_gives (None ∷ others) all y e = first_gives others all.1 y e
   first_gives (Some one ∷ others) all y e = all.0 y e
-
--- a job that is quiet under which less is placed places nothing still
-pub less_placed : (quiet before after : Bool) → (before ≡ false → after ≡ false) → not (quiet && before) ≡ true → not (quiet && after) ≡ true
-less_placed true true after give k = cc
-less_placed true false after give k = rw (give refl) refl
-less_placed false before after give k = refl

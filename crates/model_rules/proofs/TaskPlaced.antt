@@ -19,7 +19,8 @@ use Rattle.batch_model.specs.WallTimes.{can_be_asked}
 use Rattle.batch_model.specs.Nodes.{is_usable, is_in_pool}
 use Rattle.batch_model.specs.Slots.{held_slots, has_free}
 use Rattle.batch_model.specs.Preps.{is_prepared, new_prep, waits_for_preparation, has_preparation, has_completed_preparation, is_prepared_on}
-use Rattle.batch_model.specs.Placing.{is_placeable, is_ready, placed, begin_preparation, prepare_with, prepare, first_state, place, places_tasks, has_turn, choice, place_task, place_in, place_of_job, has_placing, is_above, next_job, place_first}
+use Rattle.batch_model.specs.Placing.{is_placeable, placed, begin_preparation, prepare_with, prepare, first_state, place, places_tasks, has_turn, choice, place_task, place_in}
+use Rattle.batch_model.specs.Placing.{place_of_job, has_placing, is_above, next_job, place_first}
 use Rattle.batch_model.specs.Steps.{DueStep}
 use Rattle.batch_model.specs.Measure.{steps_of_task, can_time_out, ends_left, tasks_left, rank}
 use Rattle.batch_model.specs.Sound.{IsSound, has_no_end_yet, UnendedRunsHaveNoEnd, has_node_row, has_prep_where, is_completed_prep, prepare_the_same, waits_in, is_prepared_run}
@@ -38,7 +39,7 @@ use Rattle.model_tables.proofs.JobRunAdded.{slots_after, is_not_present}
 use Rattle.model_tables.proofs.StartsKept.{starts_run_added}
 use Rattle.model_rules.proofs.place.Limits.{limited_placed}
 use Rattle.model_rules.proofs.place.Slots.{has_place, places_task}
-use Rattle.model_rules.proofs.place.NodeChosen.{best_first, chosen_fits, chosen_first}
+use Rattle.model_rules.proofs.place.NodeChosen.{is_candidate, placeable_candidate, best_first, chosen_fits, chosen_first}
 use Rattle.model_rules.proofs.place.Prepared.{goes_on, sound_prepare, place_is}
 use Rattle.model_rules.proofs.Rules.{IsDueKept, from_map, from_then, from_only_if, from_first}
 use Rattle.model_rules.proofs.place.Consistent.{placeable_active, active_counts, placed_with, new_run_present, held_more, consistent_placed}
@@ -99,7 +100,7 @@ steps_at_most s node task state other =
 
 -- a task less is to be placed, and jobs, pools and ends are as they were
 placed_falls : (seats : ℕ) (s : State) (job : JobRow) (node : NodeRow) (task : TaskRow) (state : RunState) → is_unended state ≡ true → (test : TaskRow → Bool)
-    → IsSound seats s → find test s.tasks ≡ Some task → is_placeable job task ≡ true → lex_lt (rank (placed_with s node task state)) (rank s) ≡ true
+    → IsSound seats s → find test s.tasks ≡ Some task → is_candidate job task ≡ true → lex_lt (rank (placed_with s node task state)) (rank s) ≡ true
 placed_falls seats s job node task state going test h f can =
     let active : is_active task.stage ≡ true = placeable_active job task can in
     let first = found_first same_task same_task_equiv test task s.tasks h.consistent.keys.tasks f in
@@ -138,7 +139,7 @@ first_going false = refl
 
 module _ (seats : ℕ) (s : State) (h : IsSound seats s) (job : JobRow) (pool : PoolRow) (node : NodeRow) (task : TaskRow)
     (most : s.next_run ≤ last_number + 1) (job_found : find (λ (other : JobRow). same_job other job) s.jobs ≡ Some job) (active : is_job_active job.state ≡ true)
-    (pool_found : pool_of s job.pool ≡ Some pool) (test : TaskRow → Bool) (found : find test s.tasks ≡ Some task) (can : is_placeable job task ≡ true)
+    (pool_found : pool_of s job.pool ≡ Some pool) (test : TaskRow → Bool) (found : find test s.tasks ≡ Some task) (can : is_candidate job task ≡ true)
     (first_node : find (λ (other : NodeRow). same_node other node) s.nodes ≡ Some node) (of_pool : is_in_pool pool.id node ≡ true)
     (free : nat_le (held_slots s node.number + task.slots) pool.slots ≡ true) where
   -- the state of the new run
@@ -154,7 +155,7 @@ module _ (seats : ℕ) (s : State) (h : IsSound seats s) (job : JobRow) (pool : 
 
   -- the task is one of the job
   of_job : same task.job job.id ≡ true
-  of_job = and_first (is_in_job job.id task) (is_ready task) can
+  of_job = and_first (is_in_job job.id task) (is_active task.stage) can
 
   -- a run of the job waits for its preparation as the job does
   waits : waits_for_preparation job ≡ false → waits_in s run ≡ false
@@ -241,7 +242,10 @@ module _ (seats : ℕ) (s : State) (h : IsSound seats s) (job : JobRow) (pool : 
 module _ (seats : ℕ) (s : State) (h : IsSound seats s) where
   module _ (job : JobRow) (pool : PoolRow) (node : NodeRow) (task : TaskRow) (left : has_number_left s.next_run ≡ true)
       (job_found : find (λ (other : JobRow). same_job other job) s.jobs ≡ Some job) (plain : places_tasks s job ≡ true) (pool_found : pool_of s job.pool ≡ Some pool)
-      (found : find (has_place s job pool) s.tasks ≡ Some task) (can : is_placeable job task ≡ true) (chosen : choice s job pool task.slots ≡ Some node) where
+      (found : find (has_place s job pool) s.tasks ≡ Some task) (ready : is_placeable s job task ≡ true) (chosen : choice s job pool task.slots ≡ Some node) where
+    can : is_candidate job task ≡ true
+    can = placeable_candidate s job task ready
+
     active : is_job_active job.state ≡ true
     active = and_first (is_job_active job.state) (has_turn s job) plain
 
@@ -348,7 +352,9 @@ module _ (seats : ℕ) (s : State) (h : IsSound seats s) where
         record {
           sound = kept.sound;
           falls = kept.falls;
-          places = places_task seats s h.consistent job pool node task job_found pool_found found can chosen (place s job task node).state kept.more;
+          places =
+              places_task seats s h.consistent job pool node task job_found pool_found found ready chosen active h.starts.usable
+              (place s job task node).state kept.more;
           ends = tt;
           releases = tt;
         }
@@ -365,7 +371,7 @@ module _ (seats : ℕ) (s : State) (h : IsSound seats s) where
       let pool = from_then (place_in s job.0) (pool_of s job.0.pool) step plain.1 in
       let kept = from_only_if (not pool.0.deleting) (find_map (place_task s job.0 pool.0) s.tasks) step pool.1 in
       let task = from_first (place_task s job.0 pool.0) s.tasks step kept.1 in
-      let ready = from_only_if (is_placeable job.0 task.0) (option_map (place s job.0 task.0) (choice s job.0 pool.0 task.0.slots)) step task.1 in
+      let ready = from_only_if (is_placeable s job.0 task.0) (option_map (place s job.0 task.0) (choice s job.0 pool.0 task.0.slots)) step task.1 in
       let node = from_map (place s job.0 task.0) (choice s job.0 pool.0 task.0.slots) step ready.1 in
       subst (IsDueKept seats s) {x = place s job.0 task.0 node.0} node.1
       (placed_kept job.0 pool.0 node.0 task.0 left.0 there plain.0 pool.2 task.2 ready.0 node.2)

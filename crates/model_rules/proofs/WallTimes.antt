@@ -43,7 +43,7 @@ not_beside true = refl
 not_beside false = refl
 
 -- a run that can be asked to stop after it was halted could before
-asked_before : (now : ℕ) (run : RunRow) → can_be_asked (halted now run) ≡ true → can_be_asked run ≡ true
+pub asked_before : (now : ℕ) (run : RunRow) → can_be_asked (halted now run) ≡ true → can_be_asked run ≡ true
 asked_before now run h = by_state run.state h
   where
     off : {P : Type 0} (a b : Bool) → ((a && false) && b) ≡ true → P
@@ -62,7 +62,7 @@ asked_before now run h = by_state run.state h
     by_state Withdrawn k = k
 
 -- a job that is not past has more steps than a terminating one
-open_steps : (state : JobState) → not (is_past state) ≡ true → 1 < steps_of_job state
+pub open_steps : (state : JobState) → not (is_past state) ≡ true → 1 < steps_of_job state
 open_steps JobActive h = omega arith
 open_steps Disabling h = omega arith
 open_steps Disabled h = omega arith

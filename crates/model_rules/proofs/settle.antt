@@ -1,2 +1,2 @@
 -- The rule that settles a task, by parts.
-pub mod SettledRows
+pub mod JobActed

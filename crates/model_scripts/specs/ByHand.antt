@@ -6,7 +6,7 @@ use Rattle.bt_rows.specs.declared.event.EventKind.TheVariants.{AddPool, AddJob, 
 use Rattle.bt_rows.specs.declared.reply.Reply.{Reply}
 use Rattle.bt_rows.specs.declared.reply.Reply.TheVariants.{Status, Refused}
 use Rattle.bt_rows.specs.declared.refusal.Refusal.TheVariants as refusal
-use Rattle.bt_rows.specs.declared.due.Outcome.TheVariants.{Success, Failure, Again}
+use Rattle.bt_rows.specs.declared.due.Outcome.TheVariants.{Deleted, Success, Failure, Again}
 use Rattle.bt_rows.specs.declared.due.JobEnd.TheVariants.{Kept, Removed}
 use Rattle.bt_rows.specs.declared.due.ResizeEnd.TheVariants.{Reached, TimedOut}
 use Rattle.bt_rows.specs.declared.due.Due.{Due}
@@ -234,14 +234,13 @@ wants = None ∷ Some WantRequeue ∷ Some WantTerminate ∷ Some WantWall ∷ S
 abbrev pub dues_by_want : List (Option Due)
 dues_by_want = map (λ want. due_of (with_wanted want over)) wants
 
--- a wanted deletion is not built yet
 abbrev pub all_by_want : List (Option Due)
 all_by_want =
     Some (TaskSettled (codes "j") (codes "t") Success)
     ∷ Some (TaskSettled (codes "j") (codes "t") (Again 2))
     ∷ Some (TaskSettled (codes "j") (codes "t") Failure)
     ∷ Some (TaskSettled (codes "j") (codes "t") Failure)
-    ∷ None
+    ∷ Some (TaskSettled (codes "j") (codes "t") Deleted)
     ∷ []
 
 -- a task that runs is not requeued yet

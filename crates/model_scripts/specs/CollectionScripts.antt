@@ -1,5 +1,5 @@
 -- Collections of tasks that are added at once.
-use Rattle.std.specs.Prelude.{ℕ, List, [], ◌∷◌, ◌++◌, map, replicate, Some, None, codes, false}
+use Rattle.std.specs.Prelude.{ℕ, List, [], ◌∷◌, ◌++◌, map, replicate, Some, None, codes, true, false}
 use Rattle.bt_rows.specs.declared.event.EventKind.TheVariants.{AddPool, AddJob, AddTask, AddTasks}
 use Rattle.bt_rows.specs.declared.event.TaskSpec.{TaskSpec}
 use Rattle.bt_rows.specs.declared.reply.Element.TheVariants.{Added, NotAdded}
@@ -8,7 +8,7 @@ use Rattle.bt_rows.specs.declared.reply.Reply.TheVariants.{Status, Refused, Elem
 use Rattle.bt_rows.specs.declared.refusal.Refusal.TheVariants as refusal
 use Rattle.bt_rows.specs.declared.due.ResizeEnd.TheVariants.{Reached}
 use Rattle.bt_rows.specs.declared.due.Due.TheVariants.{PoolResized, NodeAdded, TaskPlaced}
-use Rattle.batch_model.specs.Variants.{State, Steady, Usable, JobActive, Terminating, JobCompleted, Deleting, Active, Placed, TaskRun, Queued}
+use Rattle.batch_model.specs.Variants.{State, Steady, Usable, JobActive, Terminating, JobCompleted, Deleting, JobRow, Active, Placed, TaskRun, Queued}
 use Rattle.batch_model.specs.Events.{event_step}
 use Rattle.model_scripts.specs.Scripts.{Call, at, Line, line, Sheet, state_after}
 use Rattle.model_scripts.specs.ByHand.{reply_to, with_jobs_in, job_states, moved_to}
@@ -105,13 +105,17 @@ after_too_long = (event_step 7 (AddTasks (codes "j") (tasks_of_one_id 101)) job_
 abbrev pub job_alone_later : State
 job_alone_later = moved_to 7 job_alone
 
+-- the same job, if its tasks may depend on each other
+abbrev pub chaining_job : State
+chaining_job = record job_alone { jobs = map (λ (job : JobRow). record job { deps = true }) job_alone.jobs }
+
 -- a task that depends on so many ids of 64 characters
 abbrev pub needing_task : List ℕ → ℕ → TaskSpec
 needing_task name count = record (task_body name) { needs = replicate count (replicate 64 97) }
 
 abbrev pub reply_to_long_needs : Reply
 reply_to_long_needs =
-    reply_to job_alone
+    reply_to chaining_job
     (AddTasks (codes "j") (needing_task (codes "a") 1001 ∷ needing_task (codes "b") 1000 ∷ needing_task (codes "b") 1001 ∷ []))
 
 abbrev pub all_long_needs : Reply

@@ -3,6 +3,8 @@ pub mod Bodies
 pub mod ByHand
 pub mod Checks
 pub mod CollectionScripts
+pub mod ConditionScripts
+pub mod DependencyScripts
 pub mod EndingScripts
 pub mod FirstPath
 pub mod JobScripts
@@ -12,9 +14,11 @@ pub mod PlacingScripts
 pub mod PoolScripts
 pub mod PreparationScripts
 pub mod ReleaseScripts
+pub mod RetryScripts
 pub mod Scripts
 pub mod SlotScripts
 pub mod StartScripts
 pub mod StartsByHand
+pub mod TaskEventScripts
 pub mod TickScripts
 pub mod WallTimeScripts

@@ -47,7 +47,7 @@ pub fn resizes_end_in_two_ways()
     ensures steady { row.due_of_late_steady ≡ None }
 {}
 
-/// A wanted requeue, termination or end at the wall time goes before the ending of the main run, and waits until no run of the
+/// A wanted requeue, termination, deletion or end at the wall time goes before the ending of the main run, and waits until no run of the
 /// attempt is unended.
 pub fn a_wanted_requeue_goes_first()
     ensures ended { row.dues_by_want ≡ row.all_by_want }

@@ -6,7 +6,7 @@ ghost use Rattle.model_scripts.specs.Scripts.{lines_of, rows_after};
 ghost use Rattle.model_scripts.specs.Checks.{is_good};
 ghost use Rattle.model_scripts.specs.LaterScripts as row;
 
-/// A task with dependencies or with instances is not placed yet, and holds up none.
+/// A task with instances is not placed yet, and holds up none.
 pub fn tasks_are_not_placed_yet()
     ensures lines { lines_of row.unplaced_tasks ≡ row.unplaced_tasks_lines }
     ensures rows { rows_after row.unplaced_tasks ≡ row.unplaced_tasks_rows }
@@ -18,19 +18,6 @@ pub fn pools_that_scale_are_not_read_yet()
     ensures lines { lines_of row.unheeded_pools ≡ row.unheeded_pools_lines }
     ensures rows { rows_after row.unheeded_pools ≡ row.unheeded_pools_rows }
     ensures good { is_good row.unheeded_pools ≡ true }
-{}
-
-/// A task with retries or exit conditions, or of a job that heeds failures, is not settled yet.
-pub fn retries_are_not_made_yet()
-    ensures lines { lines_of row.unsettled_tasks ≡ row.unsettled_tasks_lines }
-    ensures rows { rows_after row.unsettled_tasks ≡ row.unsettled_tasks_rows }
-    ensures good { is_good row.unsettled_tasks ≡ true }
-{}
-
-/// A task with exit conditions, or of a job that heeds failures, is stopped for its wall time and not settled yet.
-pub fn stopped_tasks_are_not_settled_yet()
-    ensures lines { lines_of row.unsettled_stops ≡ row.unsettled_stops_lines }
-    ensures good { is_good row.unsettled_stops ≡ true }
 {}
 
 /// Events that are not read yet.

@@ -9,10 +9,14 @@ pub mod StartsKept
 pub mod PrepsKept
 pub mod JobPut
 pub mod TasksStopped
+pub mod TaskMoved
+pub mod TaskDropped
 pub mod RunsHalted
 pub mod JobRunAdded
 pub mod PrepsChanged
 pub mod PrepsHalted
 pub mod JobsStopped
 pub mod OneStopped
+pub mod NoneWaiting
+pub mod StopAfterPut
 pub mod WellFormedTables

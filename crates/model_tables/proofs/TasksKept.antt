@@ -14,9 +14,10 @@ use Rattle.model_lists.proofs.RowLists.{each_weaker, any_weaker}
 use Rattle.model_lists.proofs.MappedRows.{each_map, any_map, distinct_map, sum_fewer}
 use Rattle.model_tables.proofs.RunsMove.{slots_suffice}
 
--- the task at a stage, with marks and a closing
+-- the task at a stage, with its failures, marks and a closing
 pub record Marks : Type 0 where
   pub stage : TaskStage
+  pub failures : ℕ
   pub wanted : Option Want
   pub fail : Option Ending
   pub started : Option ℕ
@@ -27,6 +28,7 @@ abbrev pub marked : (TaskRow → Marks) → TaskRow → TaskRow
 marked marks task =
     record task {
       stage = (marks task).stage;
+      failures = (marks task).failures;
       wanted = (marks task).wanted;
       fail = (marks task).fail;
       started = (marks task).started;

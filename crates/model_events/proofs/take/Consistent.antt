@@ -157,7 +157,8 @@ module _ (now : ℕ) (run : RunRow) where
 
   -- the other marks stay
   abbrev with_start : TaskRow → Marks
-  with_start task = record { stage = task.stage; wanted = task.wanted; fail = task.fail; started = started_at task; closed = task.closed }
+  with_start task =
+      record { stage = task.stage; failures = task.failures; wanted = task.wanted; fail = task.fail; started = started_at task; closed = task.closed }
 
   -- the placed task itself
   start_here : (task : TaskRow) (b p : Bool) → p ≡ true

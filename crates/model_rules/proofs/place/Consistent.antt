@@ -16,7 +16,7 @@ use Rattle.batch_model.specs.Nodes.{is_in_pool}
 use Rattle.batch_model.specs.Runs.{is_coordination, is_work, is_unended, is_run_of_task, ending_of, work_run, is_busy_for}
 use Rattle.batch_model.specs.Tasks.{is_active, is_placed, is_completed, is_undisturbed, is_busy, main_ending, is_in_job}
 use Rattle.batch_model.specs.Slots.{owns, holds_on, held_slots}
-use Rattle.batch_model.specs.Placing.{is_placeable, placed, is_ready}
+use Rattle.batch_model.specs.Placing.{placed}
 use Rattle.batch_model.specs.Sound.{IsConsistent, has_node_while_unended, belongs, can_be_settled, fits_nodes, names_no_task, has_slots_for}
 use Rattle.batch_model.specs.WellFormed.{has_fitting_marks, is_closed_if_completed, has_job_row, has_named_job, is_task_of_attempt, has_named_task}
 use Rattle.batch_model.specs.WellFormed.{are_one_attempt}
@@ -28,6 +28,7 @@ use Rattle.model_lists.proofs.ChangedRows.{changed, each_change, each_change_sam
 use Rattle.model_lists.proofs.DistinctLists.{distinct_append, distinct_change, each_with_key}
 use Rattle.model_lists.proofs.KeyedLists.{put_is_change, sum_by-fewer}
 use Rattle.model_lists.proofs.NextNumbers.{below_other, below_next, below_own_next, is_itself}
+use Rattle.model_rules.proofs.place.NodeChosen.{is_candidate}
 
 -- lists and numbers
 
@@ -127,9 +128,9 @@ ending_kept : (p : RunRow → Bool) (runs : List RunRow) (run : RunRow) (o : Opt
 ending_kept p runs run None e h = cc
 ending_kept p runs run (Some main) e h = rw (find_append_old p runs run main e) h
 
--- a task that can be placed is active
-pub placeable_active : (job : JobRow) (task : TaskRow) → is_placeable job task ≡ true → is_active task.stage ≡ true
-placeable_active job task h = and_first _ _ (and_first _ _ (and_first _ _ (and_second (is_in_job job.id task) (is_ready task) h)))
+-- such a task is active
+pub placeable_active : (job : JobRow) (task : TaskRow) → is_candidate job task ≡ true → is_active task.stage ≡ true
+placeable_active job task h = and_second (is_in_job job.id task) (is_active task.stage) h
 
 -- an active task isn't completed
 pub active_counts : (stage : TaskStage) → is_active stage ≡ true → is_completed stage ≡ false
@@ -149,7 +150,7 @@ new_run_present s node task state going =
     (and_true (and_true (and_true (same_equiv.refl task.job) (same_equiv.refl task.id)) ((Decides-eqb (task.attempt + 1) (task.attempt + 1)).1 refl)) going)
 
 module _ (seats : ℕ) (s : State) (job : JobRow) (node : NodeRow) (task : TaskRow) (state : RunState) (going : is_unended state ≡ true) (test : TaskRow → Bool)
-    (h : IsConsistent seats s) (f : find test s.tasks ≡ Some task) (can : is_placeable job task ≡ true) where
+    (h : IsConsistent seats s) (f : find test s.tasks ≡ Some task) (can : is_candidate job task ≡ true) where
   -- the tables after the step, and the new run
   abbrev after : State
   after = placed_with s node task state

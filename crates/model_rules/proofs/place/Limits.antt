@@ -11,9 +11,9 @@ use Rattle.bt_rows.proofs.DistinctRows.{found_first}
 use Rattle.batch_model.specs.Finding.{last_number}
 use Rattle.batch_model.specs.Rows.{is_task}
 use Rattle.batch_model.specs.Runs.{work_run}
-use Rattle.batch_model.specs.Tasks.{is_in_job, is_placed_in}
+use Rattle.batch_model.specs.Tasks.{is_active, is_in_job, is_placed_in}
 use Rattle.batch_model.specs.Jobs.{is_job_active, is_quiet}
-use Rattle.batch_model.specs.Placing.{is_ready, is_placeable, placed}
+use Rattle.batch_model.specs.Placing.{placed}
 use Rattle.batch_model.specs.Limits.{task_limit}
 use Rattle.batch_model.specs.Sound.{IsWithinLimits}
 use Rattle.batch_model.specs.WellFormed.{is_task_in_range, is_task_valid, is_run_valid, has_no_placed_if_quiet}
@@ -26,7 +26,8 @@ use Rattle.model_lists.proofs.DistinctLists.{each_with_key}
 use Rattle.model_lists.proofs.NextNumbers.{is_not_after_itself, tested}
 use Rattle.model_lists.proofs.Lengths.{change_keeps_length}
 use Rattle.model_rules.proofs.place.Consistent.{placed_with}
-use Rattle.model_rules.proofs.Rules.{less_placed}
+use Rattle.model_tables.proofs.TaskMoved.{less_placed}
+use Rattle.model_rules.proofs.place.NodeChosen.{is_candidate}
 
 -- a task that is placed
 
@@ -52,7 +53,7 @@ active_loud Deleting h = refl
 
 module _ (s : State) (job : JobRow) (node : NodeRow) (task : TaskRow) (state : RunState) (test : JobRow → Bool) (task_test : TaskRow → Bool) (h : IsWithinLimits s)
     (keys : AreDistinct same_job s.jobs) (there : find test s.jobs ≡ Some job) (active : is_job_active job.state ≡ true) (f : find task_test s.tasks ≡ Some task)
-    (can : is_placeable job task ≡ true) where
+    (can : is_candidate job task ≡ true) where
   -- the tables after the step, and the new run
   abbrev after : State
   after = placed_with s node task state
@@ -88,7 +89,7 @@ module _ (s : State) (job : JobRow) (node : NodeRow) (task : TaskRow) (state : R
 
   -- the task is one of the job
   of_job : same task.job job.id ≡ true
-  of_job = and_first (is_in_job job.id task) (is_ready task) can
+  of_job = and_first (is_in_job job.id task) (is_active task.stage) can
 
   -- a job with the id of this one isn't quiet
   loud : (other : JobRow) → (not (same_job other job) || not (is_quiet other.state)) ≡ true → same task.job other.id ≡ true → not (is_quiet other.state) ≡ true

@@ -1,14 +1,26 @@
 -- The node that is chosen for a task: it fits, and it is the one with its number.
-use Rattle.std.proofs.Common.{◌≡◌, ℕ, Bool, true, false, not, List, [], ◌∷◌, Option, Some, None, cond, ◌⊎◌, inl, inr, refl, subst}
+use Rattle.std.proofs.Common.{◌≡◌, ℕ, Bool, true, false, not, ◌&&◌, List, [], ◌∷◌, Option, Some, None, is_none, cond, ◌⊎◌, inl, inr, refl, subst}
 use Rattle.std.specs.List.{list_any, find, filter}
 use Rattle.std.specs.Cmp.{IsEquivalence}
 use Rattle.bt_rows.specs.Keys.{same_node, same_node_equiv}
 use Rattle.bt_rows.specs.Lists.{AreDistinct}
 use Rattle.batch_model.specs.Finding.{Each, best}
-use Rattle.batch_model.specs.Placing.{fits, precedes, choice}
-use Rattle.batch_model.specs.Variants.{State, JobRow, PoolRow, NodeRow}
-use Rattle.model_lists.proofs.Tests.{not_true}
+use Rattle.batch_model.specs.Tasks.{is_active, is_in_job}
+use Rattle.batch_model.specs.Readiness.{is_unblocked, is_ready}
+use Rattle.batch_model.specs.Placing.{is_placeable, fits, precedes, choice}
+use Rattle.batch_model.specs.Variants.{State, JobRow, PoolRow, NodeRow, TaskRow}
+use Rattle.model_lists.proofs.Tests.{and_true, and_first, and_second, not_true}
 use Rattle.model_lists.proofs.RowLists.{each_head, each_tail, each_found, any_none}
+
+-- an active task of the job
+abbrev pub is_candidate : JobRow → TaskRow → Bool
+is_candidate job task = is_in_job job.id task && is_active task.stage
+
+-- a task that can be placed is one
+pub placeable_candidate : (s : State) (job : JobRow) (task : TaskRow) → is_placeable s job task ≡ true → is_candidate job task ≡ true
+placeable_candidate s job task h =
+    and_true (and_first (is_in_job job.id task) (is_ready s task) (and_first _ (is_none task.multi) h))
+    (and_first (is_active task.stage) (is_unblocked s task) (and_second (is_in_job job.id task) (is_ready s task) (and_first _ (is_none task.multi) h)))
 
 module _ {R : Type 0} (before : R → R → Bool) where
   -- the better of a row and the best of the others
