@@ -1,0 +1,16 @@
+pub mod LastingRuns
+pub mod MadeRuns
+pub mod RunsKept
+pub mod RunEnds
+pub mod RunsByEvents
+pub mod ReleasesByEvents
+pub mod TakesOfPresent
+pub mod KeptFailures
+pub mod FailuresByEvents
+pub mod StartsByEvents
+pub mod DueCases
+pub mod LastingByDues
+pub mod ReleasesByDues
+pub mod FailuresByDues
+pub mod RunsByDues
+pub mod StartsByDues

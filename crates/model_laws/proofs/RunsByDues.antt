@@ -1,0 +1,53 @@
+-- A due step gives new numbers to the runs that it makes, and an ended run stays ended.
+use Rattle.std.proofs.Common.{◌≡◌, ℕ, ◌<◌, ◌≤◌, Bool, true, false, ◌&&◌, nat_eq, Some, refl, arith}
+use Rattle.std.proofs.lemmas.Bool.Decides.{nat_tests}
+use Rattle.batch_model.specs.Dues.{due_step}
+use Rattle.batch_model.specs.Rows.{is_run}
+use Rattle.batch_model.specs.Sound.{IsSound}
+use Rattle.batch_model.specs.Steps.{DueStep}
+use Rattle.batch_model.specs.Variants.{State}
+use Rattle.model_laws.specs.Runs.{KeepsRuns}
+use Rattle.model_laws.proofs.LastingByDues.{stays, counter_by_due, RefusesNew, no_more_by_due}
+use Rattle.model_laws.proofs.LastingRuns.{number_lasts, is_open_run, open_lasts, still_gone, still_closed}
+
+-- the first of two tests does not pass
+first_fails : (a b : Bool) → a ≡ false → (a && b) ≡ false
+first_fails true b e = cc
+first_fails false b e = refl
+
+-- a higher number is another
+other_number : (number next given : ℕ) → number < next → next ≤ given → nat_eq given number ≡ false
+other_number number next given h k = grind (arith, nat_tests)
+
+module _ (s : State) where
+  -- no new run has such a number
+  refuses_number : (number : ℕ) → number < s.next_run → RefusesNew (is_run number) s
+  refuses_number number old = record {
+    release = λ node job release. other_number number s.next_run s.next_run old (stays s.next_run s.next_run refl);
+    start = λ seat pool start. other_number number s.next_run s.next_run old (stays s.next_run s.next_run refl);
+    preparation = λ job node preparation absent. other_number number s.next_run s.next_run old (stays s.next_run s.next_run refl);
+    work = λ node task t state later. other_number number s.next_run t.next_run old later;
+  }
+
+  -- so none has it and has not ended
+  refuses_open : (number : ℕ) → number < s.next_run → RefusesNew (is_open_run number) s
+  refuses_open number old =
+      let refuses : RefusesNew (is_run number) s = refuses_number number old in
+      record {
+        release = λ node job release. first_fails _ _ (refuses.release node job release);
+        start = λ seat pool start. first_fails _ _ (refuses.start seat pool start);
+        preparation = λ job node preparation absent. first_fails _ _ (refuses.preparation job node preparation absent);
+        work = λ node task t state later. first_fails _ _ (refuses.work node task t state later);
+      }
+
+-- each number is given once, and each run ends once
+pub due_keeps_runs : (seats : ℕ) (s : State) (step : DueStep) → IsSound seats s → due_step seats s ≡ Some step → KeepsRuns s step.state
+due_keeps_runs seats s step h e = record {
+  counter = counter_by_due seats s step e;
+  gone =
+      λ number old gone_before.
+      still_gone number s step.state (no_more_by_due (is_run number) (number_lasts number) seats s step (refuses_number s number old) e) gone_before;
+  closed =
+      λ number old closed_before.
+      still_closed number s step.state (no_more_by_due (is_open_run number) (open_lasts number) seats s step (refuses_open s number old) e) closed_before;
+}
