@@ -1,7 +1,9 @@
 pub mod FoundJobs
 pub mod AnsweredTasks
+pub mod DroppedTasks
+pub mod FoundTasks
 pub mod FoundPreps
 pub mod EndingPuts
-pub mod FirstToSettle
 pub mod EndedPreparations
+pub mod FewFailures
 pub mod PreparationPuts

@@ -130,20 +130,21 @@ pub fn enable_job(alloc: Global, tables: &Tables, now: u64, id: &Id) -> Result<P
     }
 }
 
-/// The plan of the status 202 and of these changes after that of the last moment.
-fn accept_listed(
+/// The plan of a status and of these changes after that of the last moment.
+pub fn accept_listed(
     alloc: Global,
     tables: &Tables,
     now: u64,
+    status: u16,
     changes: Vec<Change>,
 ) -> Result<Plan, NoMemory>
-    ensures { IfOk result (IsPlanOf (accept 202 (apply_changes changes.items (with_moment now tables.now.state))) tables.now.state) }
+    ensures { IfOk result (IsPlanOf (accept status (apply_changes changes.items (with_moment now tables.now.state))) tables.now.state) }
 {
-    reply_listed(alloc, tables, now, Reply::Status(202), changes)
+    reply_listed(alloc, tables, now, Reply::Status(status), changes)
 }
 
 /// Whether the job is active, disabling or disabled.
-fn can_disable(state: JobState) -> bool
+pub fn can_disable(state: JobState) -> bool
     ensures { result ≡ can_disable state }
 {
     matches!(
@@ -168,7 +169,7 @@ fn disable_found(
         return Err(Fail::Why(Refusal::JobStateRefuses(job.state)));
     }
     let changes = disable(alloc, tables, now, option, job)?;
-    Ok(accept_listed(alloc, tables, now, changes)?)
+    Ok(accept_listed(alloc, tables, now, 202, changes)?)
 }
 
 /// The answer to `disable-job`.
@@ -224,7 +225,7 @@ fn terminate_found(
     }
     let why = reason_or_usual(alloc, reason)?;
     let changes = close(alloc, tables, now, JobState::Terminating, why, job)?;
-    Ok(accept_listed(alloc, tables, now, changes)?)
+    Ok(accept_listed(alloc, tables, now, 202, changes)?)
 }
 
 /// The answer to `terminate-job`.
@@ -262,7 +263,7 @@ fn delete_found(
     }
     let why = user_terminate(alloc)?;
     let changes = close(alloc, tables, now, JobState::Deleting, why, job)?;
-    Ok(accept_listed(alloc, tables, now, changes)?)
+    Ok(accept_listed(alloc, tables, now, 202, changes)?)
 }
 
 /// The answer to `delete-job`.

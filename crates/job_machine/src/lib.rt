@@ -3,6 +3,7 @@
 //! What it answers is defined in `batch_model`.
 #![tactic(auto)]
 
+mod actions;
 mod change;
 mod collection;
 mod ending;
@@ -10,7 +11,10 @@ mod job;
 mod machine;
 mod preparing;
 mod preps;
+mod removal;
 mod settle;
 mod task;
+mod task_events;
+mod task_rows;
 
 pub use machine::{next_due, plan_event};

@@ -4,7 +4,7 @@ ghost use Rattle.batch_model.specs.Dues.{job_step};
 ghost use Rattle.batch_model.specs.Events.{event_now};
 ghost use Rattle.batch_model.specs.Finding.{Each};
 ghost use Rattle.batch_model.specs.Sound.{IsSound, NumbersAreNew, names_no_task};
-ghost use Rattle.batch_model.specs.WellFormed.{KeysAreDistinct};
+ghost use Rattle.batch_model.specs.WellFormed.{CountsAreInRange, KeysAreDistinct, RowsAreValid, TasksAreFitting};
 ghost use Rattle.machine_plans.specs.Plans.{IsAnswer, IsRule, with_moment};
 ghost use Rattle.job_machine.specs.Owners.{is_of_jobs};
 
@@ -14,6 +14,7 @@ use crate::ending::end_run;
 use crate::job::add_job;
 use crate::settle::settle_first;
 use crate::task::add_task;
+use crate::task_events::{delete_task, reactivate_task, terminate_task};
 use bt_base::{Fail, NoMemory};
 use bt_rows::event::{Event, EventKind};
 use bt_rows::plan::{Plan, View};
@@ -35,12 +36,17 @@ use std::alloc::Global;
 /// - `enable-job`: `JobNotFound`, `JobStateRefuses` if the job is not disabled;
 /// - `terminate-job`: `JobNotFound`, `JobStateRefuses` if the job is terminating, completed or deleting;
 /// - `delete-job`: `JobNotFound`, `JobStateRefuses` if the job is deleting;
-/// - `add-task`: `JobNotFound`, `JobStateRefuses` if the job is terminating, completed or deleting, `TaskExists`,
-///   `DependencyListTooLong`, and `TableFull` if there are as many tasks as the limit;
+/// - `add-task`: `JobNotFound`, `JobStateRefuses` if the job is terminating, completed or deleting, `TaskExists`, `DependenciesOff` if
+///   the task depends on others, or states whether those that depend on it may go on, and the job's tasks may not depend on others,
+///   `DependencyListTooLong`, `JobActionOff` if the task states what becomes of its job, and the job does not ask for such actions, and
+///   `TableFull` if there are as many tasks as the limit;
 /// - `add-tasks`: `JobNotFound`, `JobStateRefuses`, `CollectionTooLong`; then each element is answered as `add-task` answers it,
 ///   and a refused element keeps no other from being added;
-/// - `end`: `RunNotFound`, `RunAlreadyEnded`, `RunWithdrawn`, `RunNotTaken`;
-/// - each other event of jobs and tasks is not built, and refused as `UnreadableBody`.
+/// - `delete-task`: `JobNotFound`, `JobStateRefuses` if the job is deleting, `TaskNotFound`;
+/// - `terminate-task`: `JobNotFound`, `TaskNotFound`, `TaskCompleted`;
+/// - `reactivate-task`: `JobNotFound`, `JobStateRefuses` if the job is terminating, completed or deleting, `TaskNotFound`, and
+///   `TaskNotReactivable` if the task is not completed, or had success;
+/// - `end`: `RunNotFound`, `RunAlreadyEnded`, `RunWithdrawn`, `RunNotTaken`.
 ///
 /// The only other error is out of memory.
 pub fn plan_event(alloc: Global, view: &View, event: &Event) -> Result<Plan, Fail<Refusal>>
@@ -63,10 +69,14 @@ pub fn plan_event(alloc: Global, view: &View, event: &Event) -> Result<Plan, Fai
         EventKind::AddTasks(job, specs) => {
             add_tasks(alloc, view.tables, view.now, job, specs.as_slice())
         }
+        EventKind::DeleteTask(job, task) => delete_task(alloc, view.tables, view.now, job, task),
+        EventKind::TerminateTask(job, task) => {
+            terminate_task(alloc, view.tables, view.now, job, task)
+        }
+        EventKind::ReactivateTask(job, task) => {
+            reactivate_task(alloc, view.tables, view.now, job, task)
+        }
         EventKind::End(number, ending) => { end_run(alloc, view, *number, *ending) }
-        EventKind::DeleteTask(_, _)
-        | EventKind::TerminateTask(_, _)
-        | EventKind::ReactivateTask(_, _) => Err(Fail::Why(Refusal::UnreadableBody)),
         _ => unreachable!(),
     }
 }
@@ -82,6 +92,9 @@ pub fn next_due(alloc: Global, indexed: &IndexedTables) -> Result<Option<Plan>, 
     requires keys { KeysAreDistinct indexed.now.state }
     requires numbers { NumbersAreNew indexed.now.state }
     requires apart { Each names_no_task indexed.now.state.runs }
+    requires fitting { TasksAreFitting indexed.now.state }
+    requires rows { RowsAreValid indexed.now.state }
+    requires counts { CountsAreInRange indexed.now.state }
     ensures { IfOk result (IsRule (job_step indexed.now.state) indexed.now.state) }
 {
     let tables = indexed.tables();

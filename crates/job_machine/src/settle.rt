@@ -1,36 +1,36 @@
-//! U5, the due step that settles a placed task whose present attempt has no unended run: it is active again if its requeue is
-//! wanted, completed as terminated if its termination is, completed as one whose wall time is over if that end is, and else completed
-//! as its main run ended.
-ghost use Rattle.std.specs.Prelude.{◌≡◌, IfOk, Some, find};
-ghost use Rattle.std.specs.Option.{option_copied};
+//! U5, the due step that settles a placed task whose present attempt has no unended run. A wanted end decides: the task is dropped with
+//! its runs, completed as terminated, completed since its wall time is over, or active again. If none is wanted, it is completed as its
+//! attempt ended, or active again with one failure more while its failures are below the limit of its retries. A completion by an ending
+//! or by the wall time may disable or terminate the task's job.
+ghost use Rattle.std.specs.Prelude.{◌≡◌, Some, IfOk};
+ghost use Rattle.std.specs.Option.{option_map};
 ghost use Rattle.bt_rows.specs.declared.due.Due.TheVariants.{TaskSettled};
-ghost use Rattle.batch_model.specs.Tasks.{main_ending, cleared, completed, terminated, timed_out, retry_limit};
-ghost use Rattle.batch_model.specs.Rows.{job_of};
-ghost use Rattle.batch_model.specs.Endings.{closed_by};
-ghost use Rattle.batch_model.specs.Settling.{is_over, has_no_conditions, is_zero_limit, is_tried_once, has_plain_job, is_to_complete, outcome_of, complete, wants_requeue, is_to_requeue, active_again, requeue, wants_termination, is_to_terminate, terminate_task, wants_wall_end, has_job_without_actions, is_to_time_out, time_out_task, is_to_settle, complete_as_ended, settle};
 ghost use Rattle.batch_model.specs.Dues.{settle_first};
-ghost use Rattle.batch_model.specs.WellFormed.{KeysAreDistinct};
+ghost use Rattle.batch_model.specs.Finding.{Each, is_below};
+ghost use Rattle.batch_model.specs.Rows.{job_of, put_task};
+ghost use Rattle.batch_model.specs.Settling.{outcome_of, settle, settle_again, settle_by, settle_completed, settle_deleted, settle_ending, settle_failed, settle_terminated, settle_timed_out, settled};
+ghost use Rattle.batch_model.specs.Sound.{names_no_task};
+ghost use Rattle.batch_model.specs.Tasks.{attempt_ending, main_ending, retry_limit};
+ghost use Rattle.batch_model.specs.WellFormed.{CountsAreInRange, KeysAreDistinct, RowsAreValid, TasksAreFitting};
 ghost use Rattle.machine_plans.specs.Plans.{IsPlanOf, IsRule, answer_of_step};
+ghost use Rattle.job_machine.specs.Settled.{IsFirstOver};
 
-use bt_base::{Duplicate, NoMemory};
+use crate::actions::complete;
+use crate::removal::drop_changes;
+use crate::task_rows::{again, terminated};
+use bt_base::{Duplicate, List, NoMemory};
 use bt_rows::due::{Due, Outcome};
 use bt_rows::job::JobRow;
 use bt_rows::plan::Plan;
+use bt_rows::reply::Reply;
 use bt_rows::run::Ending;
 use bt_rows::tables::{Change, Tables};
-use bt_rows::task::{Closed, How, TaskRow, TaskStage, Want};
-use job_rules::is_undisturbed;
+use bt_rows::task::{Closed, How, TaskRow, Want};
+use dependency_counts::condition;
 use machine_index::IndexedTables;
 use machine_plans::step_one;
 use std::alloc::Global;
-use table_scans::{ending_of, is_placed, is_success};
-
-/// Whether the task is placed, and no run of its present attempt is unended.
-fn is_over(indexed: &IndexedTables, task: &TaskRow) -> bool
-    ensures { result ≡ is_over indexed.now.state task.now }
-{
-    is_placed(task.stage) && !indexed.is_busy(task)
-}
+use table_scans::{ending_of, is_success};
 
 /// How the main run of the task's present attempt ended, if it did.
 fn main_ending(indexed: &IndexedTables, task: &TaskRow) -> Option<Ending>
@@ -42,159 +42,35 @@ fn main_ending(indexed: &IndexedTables, task: &TaskRow) -> Option<Ending>
     }
 }
 
-/// Whether the task lists no exit conditions.
-fn has_no_conditions(task: &TaskRow) -> bool
-    ensures { result ≡ has_no_conditions task.now }
+/// How the task's present attempt ended, if it did: by a failed coordination, or else as its main run did.
+fn attempt_ending(indexed: &IndexedTables, task: &TaskRow) -> Option<Ending>
+    ensures { result ≡ attempt_ending indexed.now.state task.now }
 {
-    task.codes.as_slice().is_empty()
-        && task.ranges.as_slice().is_empty()
-        && task.launch.is_none()
-        && task.other.is_none()
+    match task.fail {
+        Some(ending) => Some(ending),
+        None => main_ending(indexed, task),
+    }
 }
 
-/// Whether a failure of the task is final.
-fn is_zero_limit(retries: i32) -> bool
-    ensures { result ≡ is_zero_limit retries }
-{
-    retries == 0
-}
-
-/// The greatest number of retries of the task: its own limit, or else its job's; -1 is no limit.
+/// The limit of the task's retries: its own, or else its job's; -1 is no limit.
 fn retry_limit(job: &JobRow, task: &TaskRow) -> i32
     ensures { result ≡ retry_limit job.now task.now }
 {
     task.retries.unwrap_or(job.retries)
 }
 
-/// Whether the job takes no actions on failures, and the task is not tried again.
-fn is_tried_once(task: &TaskRow, job: &JobRow) -> bool
-    ensures { result ≡ is_tried_once task.now job.now }
+/// Whether the number of failures is below the limit; -1 is no limit.
+fn is_below(failures: u64, limit: i32) -> bool
+    ensures { result ≡ is_below failures limit }
 {
-    !job.on_fail && is_zero_limit(retry_limit(job, task))
-}
-
-/// Whether the task's job takes no actions, and the task is not tried again.
-fn has_plain_job(tables: &Tables, task: &TaskRow) -> bool
-    ensures { result ≡ has_plain_job tables.now.state task.now }
-{
-    match tables.find_job(&task.job) {
-        None => false,
-        Some(job) => is_tried_once(task, job),
+    if limit < 0 {
+        limit == -1
+    } else {
+        failures < limit as u64
     }
 }
 
-/// Whether the task is over, and is to be completed as its main run ended.
-fn is_to_complete(indexed: &IndexedTables, task: &TaskRow) -> bool
-    ensures { result ≡ is_to_complete indexed.now.state task.now }
-{
-    is_over(indexed, task)
-        && is_undisturbed(task)
-        && has_no_conditions(task)
-        && has_plain_job(indexed.tables(), task)
-        && main_ending(indexed, task).is_some()
-}
-
-/// Whether a requeue of the task is wanted.
-fn wants_requeue(wanted: Option<Want>) -> bool
-    ensures { result ≡ wants_requeue wanted }
-{
-    wanted == Some(Want::Requeue)
-}
-
-/// Whether the task is over, and is to be active again.
-fn is_to_requeue(indexed: &IndexedTables, task: &TaskRow) -> bool
-    ensures { result ≡ is_to_requeue indexed.now.state task.now }
-{
-    is_over(indexed, task) && wants_requeue(task.wanted)
-}
-
-/// Whether a termination of the task is wanted.
-fn wants_termination(wanted: Option<Want>) -> bool
-    ensures { result ≡ wants_termination wanted }
-{
-    wanted == Some(Want::Terminate)
-}
-
-/// Whether the task is over, and is to be completed as terminated.
-fn is_to_terminate(indexed: &IndexedTables, task: &TaskRow) -> bool
-    ensures { result ≡ is_to_terminate indexed.now.state task.now }
-{
-    is_over(indexed, task) && wants_termination(task.wanted)
-}
-
-/// Whether the end of the task at its wall time is wanted.
-fn wants_wall_end(wanted: Option<Want>) -> bool
-    ensures { result ≡ wants_wall_end wanted }
-{
-    wanted == Some(Want::Wall)
-}
-
-/// Whether the task's job takes no actions when tasks fail.
-fn has_job_without_actions(tables: &Tables, task: &TaskRow) -> bool
-    ensures { result ≡ has_job_without_actions tables.now.state task.now }
-{
-    match tables.find_job(&task.job) {
-        None => false,
-        Some(job) => !job.on_fail,
-    }
-}
-
-/// Whether the task is over, and is to be completed as one whose wall time is over.
-fn is_to_time_out(indexed: &IndexedTables, task: &TaskRow) -> bool
-    ensures { result ≡ is_to_time_out indexed.now.state task.now }
-{
-    is_over(indexed, task)
-        && wants_wall_end(task.wanted)
-        && has_no_conditions(task)
-        && has_job_without_actions(indexed.tables(), task)
-}
-
-/// Whether the task is to be requeued, terminated, timed out or completed.
-fn is_to_settle(indexed: &IndexedTables, task: &TaskRow) -> bool
-    ensures { result ≡ is_to_settle indexed.now.state task.now }
-{
-    is_to_requeue(indexed, task)
-        || is_to_terminate(indexed, task)
-        || is_to_time_out(indexed, task)
-        || is_to_complete(indexed, task)
-}
-
-/// The first task that is to be settled, by a look at all tasks.
-fn search_to_settle<'a>(indexed: &'a IndexedTables) -> Option<&'a TaskRow>
-    ensures { option_copied result ≡ find (is_to_settle indexed.now.state) indexed.now.state.tasks }
-{
-    indexed
-        .tables()
-        .tasks()
-        .find(|task| is_to_settle(indexed, task))
-}
-
-/// The first task that is to be settled. A task that is over and is not to be settled is one of a kind that is not built: then all
-/// tasks are looked at.
-fn first_to_settle<'a>(indexed: &'a IndexedTables) -> Option<&'a TaskRow>
-    ensures { option_copied result ≡ find (is_to_settle indexed.now.state) indexed.now.state.tasks }
-{
-    match indexed.first_over() {
-        None => None,
-        Some(task) if is_to_settle(indexed, task) => Some(task),
-        Some(_) => search_to_settle(indexed),
-    }
-}
-
-/// How a task is closed whose main run ended in this way at `now`, in milliseconds since 1970.
-fn closed_by(now: u64, ending: Ending) -> Closed
-    ensures { result ≡ closed_by now ending }
-{
-    let success = is_success(ending);
-    Closed {
-        how: How::Ended(ending),
-        success,
-        satisfies: success,
-        at: now,
-    }
-}
-
-/// The outcome in the line of a task that ended with success or without.
+/// The outcome in the line of a task that is completed, with success or without.
 fn outcome_of(success: bool) -> Outcome
     ensures { result ≡ outcome_of success }
 {
@@ -205,36 +81,6 @@ fn outcome_of(success: bool) -> Outcome
     }
 }
 
-/// The task with no end wanted and no start failed.
-fn cleared(task: &TaskRow) -> Result<TaskRow, NoMemory>
-    ensures { IfOk result (λ row. row ≡ cleared task.now) }
-{
-    let mut row = task.copy()?;
-    row.wanted = None;
-    row.fail = None;
-    row.started = None;
-    Ok(row)
-}
-
-/// The task, completed and closed in this way.
-fn completed(closed: Closed, task: &TaskRow) -> Result<TaskRow, NoMemory>
-    ensures { IfOk result (λ row. row ≡ completed closed task.now) }
-{
-    let mut row = cleared(task)?;
-    row.stage = TaskStage::Completed;
-    row.closed = Some(closed);
-    Ok(row)
-}
-
-/// The task, active again with the failures that it has.
-fn active_again(task: &TaskRow) -> Result<TaskRow, NoMemory>
-    ensures { IfOk result (λ row. row ≡ active_again task.now) }
-{
-    let mut row = cleared(task)?;
-    row.stage = TaskStage::Active;
-    Ok(row)
-}
-
 /// The line that tells what became of the task.
 fn settled(task: &TaskRow, outcome: Outcome) -> Result<Due, NoMemory>
     ensures { IfOk result (λ due. due ≡ TaskSettled task.now.job task.now.id outcome) }
@@ -243,119 +89,235 @@ fn settled(task: &TaskRow, outcome: Outcome) -> Result<Due, NoMemory>
     Ok(Due::TaskSettled(job, task.id.copy()?, outcome))
 }
 
-/// The plan that completes the task as its main run ended.
-fn complete(
+/// The plan that puts this row in the place of the task's.
+fn put_settled(
     alloc: Global,
     tables: &Tables,
     task: &TaskRow,
-    ending: Ending,
+    outcome: Outcome,
+    row: TaskRow,
 ) -> Result<Plan, NoMemory>
-    requires keys { KeysAreDistinct tables.now.state }
-    requires found { find (is_to_settle tables.now.state) tables.now.state.tasks ≡ Some task.now }
-    ensures { IfOk result (IsPlanOf (answer_of_step (complete tables.now.state task.now ending)) tables.now.state) }
+    requires over { IsFirstOver tables.now.state task.now }
+    requires job { row.job ≡ task.now.job }
+    requires id { row.id ≡ task.now.id }
+    ensures { IfOk result (IsPlanOf (answer_of_step (settled task.now outcome (put_task row tables.now.state))) tables.now.state) }
 {
-    let due = settled(task, outcome_of(is_success(ending)))?;
-    let row = completed(closed_by(tables.moment(), ending), task)?;
+    let due = settled(task, outcome)?;
     step_one(alloc, due, Change::PutTask(row))
 }
 
-/// The plan that completes the task, if its main run ended.
-fn complete_as_ended(
-    alloc: Global,
-    indexed: &IndexedTables,
-    task: &TaskRow,
-) -> Result<Option<Plan>, NoMemory>
-    requires keys { KeysAreDistinct indexed.now.state }
-    requires found { find (is_to_settle indexed.now.state) indexed.now.state.tasks ≡ Some task.now }
-    ensures { IfOk result (IsRule (complete_as_ended indexed.now.state task.now) indexed.now.state) }
+/// The plan that drops the task with its runs.
+fn settle_deleted(alloc: Global, tables: &Tables, task: &TaskRow) -> Result<Plan, NoMemory>
+    requires { IsFirstOver tables.now.state task.now }
+    ensures { IfOk result (IsPlanOf (answer_of_step (settle_deleted tables.now.state task.now)) tables.now.state) }
 {
-    match main_ending(indexed, task) {
-        None => Ok(None),
-        Some(ending) => Ok(Some(complete(alloc, indexed.tables(), task, ending)?)),
-    }
+    let due = settled(task, Outcome::Deleted)?;
+    let changes = drop_changes(alloc, tables, task)?;
+    Ok(Plan {
+        reply: Reply::Step(due),
+        changes: List::of_vec(changes),
+    })
 }
 
-/// The plan that makes the task active again.
-fn requeue(alloc: Global, tables: &Tables, task: &TaskRow) -> Result<Plan, NoMemory>
-    requires keys { KeysAreDistinct tables.now.state }
-    requires found { find (is_to_settle tables.now.state) tables.now.state.tasks ≡ Some task.now }
-    ensures { IfOk result (IsPlanOf (answer_of_step (requeue tables.now.state task.now)) tables.now.state) }
+/// The plan that completes the task as terminated, whatever its exit options.
+fn settle_terminated(alloc: Global, tables: &Tables, task: &TaskRow) -> Result<Plan, NoMemory>
+    requires { IsFirstOver tables.now.state task.now }
+    ensures { IfOk result (IsPlanOf (answer_of_step (settle_terminated tables.now.state task.now)) tables.now.state) }
 {
-    let due = settled(task, Outcome::Again(task.failures))?;
-    step_one(alloc, due, Change::PutTask(active_again(task)?))
-}
-
-/// The task, completed as terminated at `now`, in milliseconds since 1970.
-fn terminated(now: u64, task: &TaskRow) -> Result<TaskRow, NoMemory>
-    ensures { IfOk result (λ row. row ≡ terminated now task.now) }
-{
-    let closed = Closed {
-        how: How::Terminated,
-        success: false,
-        satisfies: false,
-        at: now,
-    };
-    completed(closed, task)
-}
-
-/// The plan that completes the task as terminated.
-fn terminate_task(alloc: Global, tables: &Tables, task: &TaskRow) -> Result<Plan, NoMemory>
-    requires keys { KeysAreDistinct tables.now.state }
-    requires found { find (is_to_settle tables.now.state) tables.now.state.tasks ≡ Some task.now }
-    ensures { IfOk result (IsPlanOf (answer_of_step (terminate_task tables.now.state task.now)) tables.now.state) }
-{
-    let due = settled(task, Outcome::Failure)?;
     let row = terminated(tables.moment(), task)?;
-    step_one(alloc, due, Change::PutTask(row))
+    put_settled(alloc, tables, task, Outcome::Failure, row)
 }
 
-/// The task, completed as one whose wall time is over at `now`, in milliseconds since 1970.
-fn timed_out(now: u64, task: &TaskRow) -> Result<TaskRow, NoMemory>
-    ensures { IfOk result (λ row. row ≡ timed_out now task.now) }
+/// The plan that makes the task active again after this number of failures.
+fn settle_again(
+    alloc: Global,
+    tables: &Tables,
+    task: &TaskRow,
+    failures: u64,
+) -> Result<Plan, NoMemory>
+    requires { IsFirstOver tables.now.state task.now }
+    ensures { IfOk result (IsPlanOf (answer_of_step (settle_again tables.now.state task.now failures)) tables.now.state) }
 {
+    let row = again(failures, task)?;
+    put_settled(alloc, tables, task, Outcome::Again(failures), row)
+}
+
+/// The plan that completes the task since its wall time is over, by its exit options for an ending without code.
+fn settle_timed_out(
+    alloc: Global,
+    tables: &Tables,
+    job: &JobRow,
+    task: &TaskRow,
+) -> Result<Plan, NoMemory>
+    requires over { IsFirstOver tables.now.state task.now }
+    requires there { job_of tables.now.state job.now.id ≡ Some job.now }
+    ensures { IfOk result (IsPlanOf (answer_of_step (settle_timed_out tables.now.state job.now task.now)) tables.now.state) }
+{
+    let options = condition(task, Ending::NoCode);
     let closed = Closed {
         how: How::Wall,
         success: false,
-        satisfies: false,
-        at: now,
+        satisfies: options.satisfies,
+        at: tables.moment(),
     };
-    completed(closed, task)
-}
-
-/// The plan that completes the task as one whose wall time is over.
-fn time_out_task(alloc: Global, tables: &Tables, task: &TaskRow) -> Result<Plan, NoMemory>
-    requires keys { KeysAreDistinct tables.now.state }
-    requires found { find (is_to_settle tables.now.state) tables.now.state.tasks ≡ Some task.now }
-    ensures { IfOk result (IsPlanOf (answer_of_step (time_out_task tables.now.state task.now)) tables.now.state) }
-{
     let due = settled(task, Outcome::Failure)?;
-    let row = timed_out(tables.moment(), task)?;
-    step_one(alloc, due, Change::PutTask(row))
+    let changes = complete(alloc, tables, job, task, closed, options.job)?;
+    Ok(Plan {
+        reply: Reply::Step(due),
+        changes: List::of_vec(changes),
+    })
 }
 
-/// The plan that settles the task: a wanted end goes before the ending of the main run.
-fn settle(alloc: Global, indexed: &IndexedTables, task: &TaskRow) -> Result<Option<Plan>, NoMemory>
-    requires keys { KeysAreDistinct indexed.now.state }
-    requires found { find (is_to_settle indexed.now.state) indexed.now.state.tasks ≡ Some task.now }
-    ensures { IfOk result (IsRule (settle indexed.now.state task.now) indexed.now.state) }
+/// The plan that completes the task as its attempt ended, with success or without, by its exit options for the ending.
+fn settle_completed(
+    alloc: Global,
+    tables: &Tables,
+    job: &JobRow,
+    task: &TaskRow,
+    ending: Ending,
+    success: bool,
+) -> Result<Plan, NoMemory>
+    requires over { IsFirstOver tables.now.state task.now }
+    requires there { job_of tables.now.state job.now.id ≡ Some job.now }
+    ensures { IfOk result (IsPlanOf (answer_of_step (settle_completed tables.now.state job.now task.now ending success)) tables.now.state) }
 {
-    if is_to_requeue(indexed, task) {
-        Ok(Some(requeue(alloc, indexed.tables(), task)?))
-    } else if is_to_terminate(indexed, task) {
-        Ok(Some(terminate_task(alloc, indexed.tables(), task)?))
-    } else if is_to_time_out(indexed, task) {
-        Ok(Some(time_out_task(alloc, indexed.tables(), task)?))
+    let options = condition(task, ending);
+    let closed = Closed {
+        how: How::Ended(ending),
+        success,
+        satisfies: options.satisfies,
+        at: tables.moment(),
+    };
+    let due = settled(task, outcome_of(success))?;
+    let changes = complete(alloc, tables, job, task, closed, options.job)?;
+    Ok(Plan {
+        reply: Reply::Step(due),
+        changes: List::of_vec(changes),
+    })
+}
+
+/// The plan that settles the task after its attempt failed: while its failures are below the limit of its retries, it is active again
+/// with one failure more, and else it is completed.
+fn settle_failed(
+    alloc: Global,
+    tables: &Tables,
+    job: &JobRow,
+    task: &TaskRow,
+    ending: Ending,
+) -> Result<Plan, NoMemory>
+    requires over { IsFirstOver tables.now.state task.now }
+    requires there { job_of tables.now.state job.now.id ≡ Some job.now }
+    ensures { IfOk result (IsPlanOf (answer_of_step (settle_failed tables.now.state job.now task.now ending)) tables.now.state) }
+{
+    if is_below(task.failures, retry_limit(job, task)) {
+        settle_again(alloc, tables, task, task.failures + 1)
     } else {
-        complete_as_ended(alloc, indexed, task)
+        settle_completed(alloc, tables, job, task, ending, false)
     }
 }
 
-/// The plan that settles the first task that is to be settled.
+/// The plan that settles the task after its attempt ended. A launch error is not tried again.
+fn settle_ending(
+    alloc: Global,
+    tables: &Tables,
+    job: &JobRow,
+    task: &TaskRow,
+    ending: Ending,
+) -> Result<Plan, NoMemory>
+    requires over { IsFirstOver tables.now.state task.now }
+    requires there { job_of tables.now.state job.now.id ≡ Some job.now }
+    ensures { IfOk result (IsPlanOf (answer_of_step (settle_ending tables.now.state job.now task.now ending)) tables.now.state) }
+{
+    if is_success(ending) {
+        settle_completed(alloc, tables, job, task, ending, true)
+    } else if ending == Ending::NotStarted {
+        settle_completed(alloc, tables, job, task, ending, false)
+    } else {
+        settle_failed(alloc, tables, job, task, ending)
+    }
+}
+
+/// The plan that settles the task as its attempt ended, if it did.
+fn settle_attempt(
+    alloc: Global,
+    indexed: &IndexedTables,
+    job: &JobRow,
+    task: &TaskRow,
+) -> Result<Option<Plan>, NoMemory>
+    requires over { IsFirstOver indexed.now.state task.now }
+    requires there { job_of indexed.now.state job.now.id ≡ Some job.now }
+    ensures { IfOk result (IsRule (option_map (settle_ending indexed.now.state job.now task.now) (attempt_ending indexed.now.state task.now)) indexed.now.state) }
+{
+    match attempt_ending(indexed, task) {
+        None => Ok(None),
+        Some(ending) => {
+            let tables = indexed.tables();
+            Ok(Some(settle_ending(alloc, tables, job, task, ending)?))
+        }
+    }
+}
+
+/// The plan of this wanted end of the task.
+fn settle_wanted(
+    alloc: Global,
+    tables: &Tables,
+    job: &JobRow,
+    task: &TaskRow,
+    want: Want,
+) -> Result<Plan, NoMemory>
+    requires over { IsFirstOver tables.now.state task.now }
+    requires there { job_of tables.now.state job.now.id ≡ Some job.now }
+    ensures { IfOk result (λ plan. IsRule (settle_by (Some want) tables.now.state job.now task.now) tables.now.state (Some plan)) }
+{
+    match want {
+        Want::Delete => settle_deleted(alloc, tables, task),
+        Want::Terminate => settle_terminated(alloc, tables, task),
+        Want::Wall => settle_timed_out(alloc, tables, job, task),
+        Want::Requeue => settle_again(alloc, tables, task, task.failures),
+    }
+}
+
+/// The plan that settles the task, which is one of the job: a wanted end goes before the ending of the attempt.
+fn settle_by(
+    alloc: Global,
+    indexed: &IndexedTables,
+    job: &JobRow,
+    task: &TaskRow,
+) -> Result<Option<Plan>, NoMemory>
+    requires over { IsFirstOver indexed.now.state task.now }
+    requires there { job_of indexed.now.state job.now.id ≡ Some job.now }
+    ensures { IfOk result (IsRule (settle_by task.now.wanted indexed.now.state job.now task.now) indexed.now.state) }
+{
+    match task.wanted {
+        None => settle_attempt(alloc, indexed, job, task),
+        Some(want) => {
+            let tables = indexed.tables();
+            Ok(Some(settle_wanted(alloc, tables, job, task, want)?))
+        }
+    }
+}
+
+/// The plan that settles the task.
+fn settle(alloc: Global, indexed: &IndexedTables, task: &TaskRow) -> Result<Option<Plan>, NoMemory>
+    requires { IsFirstOver indexed.now.state task.now }
+    ensures { IfOk result (IsRule (settle indexed.now.state task.now) indexed.now.state) }
+{
+    match indexed.tables().find_job(&task.job) {
+        None => Ok(None),
+        Some(job) => settle_by(alloc, indexed, job, task),
+    }
+}
+
+/// The plan that settles the first task that is over. The only error is out of memory.
 pub fn settle_first(alloc: Global, indexed: &IndexedTables) -> Result<Option<Plan>, NoMemory>
-    requires { KeysAreDistinct indexed.now.state }
+    requires keys { KeysAreDistinct indexed.now.state }
+    requires apart { Each names_no_task indexed.now.state.runs }
+    requires fitting { TasksAreFitting indexed.now.state }
+    requires rows { RowsAreValid indexed.now.state }
+    requires counts { CountsAreInRange indexed.now.state }
     ensures { IfOk result (IsRule (settle_first indexed.now.state) indexed.now.state) }
 {
-    match first_to_settle(indexed) {
+    match indexed.first_over() {
         None => Ok(None),
         Some(task) => settle(alloc, indexed, task),
     }

@@ -1,8 +1,9 @@
 //! Events of tasks.
 ghost use Rattle.std.specs.Prelude.{◌≡◌, not, nat_le, length, IfOk, is_some, false};
 ghost use Rattle.std.specs.List.{list_any};
+ghost use Rattle.std.specs.Option.{option_map_or};
 ghost use Rattle.bt_rows.specs.declared.refusal.Refusal.TheVariants.{JobNotFound};
-ghost use Rattle.batch_model.specs.Events.{accept, add_task, for_row, has_long_needs, task_refusals};
+ghost use Rattle.batch_model.specs.Events.{accept, add_task, for_row, has_given, has_long_needs, task_refusals, uses_dependencies};
 ghost use Rattle.batch_model.specs.Finding.{first_of};
 ghost use Rattle.batch_model.specs.Limits.{needs_limit, task_limit};
 ghost use Rattle.batch_model.specs.Rows.{is_task, job_of, task_of, add_task_row};
@@ -10,6 +11,7 @@ ghost use Rattle.batch_model.specs.Tasks.{new_task};
 ghost use Rattle.batch_model.specs.WellFormed.{needs_length};
 ghost use Rattle.machine_plans.specs.Plans.{IsAnswer, IsPlanOf, with_moment};
 ghost use Rattle.job_machine.specs.Collections.{with_tasks};
+ghost use Rattle.job_machine.specs.Stated.{is_stated};
 
 use bt_base::{Duplicate, Fail, Id, NoMemory};
 use bt_rows::event::TaskSpec;
@@ -18,7 +20,7 @@ use bt_rows::limits::{DEPENDENCY_ID_LIMIT, TASK_LIMIT};
 use bt_rows::plan::Plan;
 use bt_rows::refusal::{Refusal, Table};
 use bt_rows::tables::{Change, Tables};
-use bt_rows::task::{TaskRow, TaskStage};
+use bt_rows::task::{Given, TaskRow, TaskStage};
 use job_rules::is_past;
 use machine_plans::accept_one;
 use std::alloc::Global;
@@ -55,8 +57,70 @@ fn is_full(tables: &Tables, added: &[TaskRow]) -> bool
     added.len() as u64 >= room
 }
 
-/// Why the job does not take the task after those that are added before it, if it does not: `TaskExists`,
-/// `DependencyListTooLong` or `TableFull`, in this order.
+/// What exit options may state.
+#[derive(Clone, Copy)]
+pub enum Stated {
+    /// Whether dependent tasks may go on (Azure: dependencyAction).
+    DependencyAction,
+    /// What becomes of the job (Azure: jobAction).
+    JobAction,
+}
+
+/// Whether the exit options state it.
+fn is_stated(stated: Stated, options: &Given) -> bool
+    ensures { result ≡ is_stated stated options.now }
+{
+    match stated {
+        Stated::DependencyAction => options.satisfies.is_some(),
+        Stated::JobAction => options.job.is_some(),
+    }
+}
+
+/// Whether there are exit options that state it.
+fn is_stated_if_given(stated: Stated, options: Option<Given>) -> bool
+    ensures { result ≡ option_map_or (is_stated stated) options false }
+{
+    match options {
+        None => false,
+        Some(options) => is_stated(stated, &options),
+    }
+}
+
+/// Whether exit options for a single exit code state it.
+fn is_stated_for_code(stated: Stated, codes: &[(i32, Given)]) -> bool
+    ensures { result ≡ list_any (λ entry. is_stated stated entry.1) codes.now }
+{
+    codes.iter().any(|entry| is_stated(stated, &entry.1))
+}
+
+/// Whether exit options for a range of exit codes state it.
+fn is_stated_for_range(stated: Stated, ranges: &[(i32, i32, Given)]) -> bool
+    ensures { result ≡ list_any (λ entry. is_stated stated entry.2) ranges.now }
+{
+    ranges.iter().any(|entry| is_stated(stated, &entry.2))
+}
+
+/// Whether exit options of the task state it.
+fn has_given(stated: Stated, spec: &TaskSpec) -> bool
+    ensures { result ≡ has_given (is_stated stated) spec.now }
+{
+    is_stated_for_code(stated, spec.codes.as_slice())
+        || is_stated_for_range(stated, spec.ranges.as_slice())
+        || is_stated_if_given(stated, spec.launch)
+        || is_stated_if_given(stated, spec.other)
+}
+
+/// Whether the task depends on others, or states whether those that depend on it may go on.
+fn uses_dependencies(spec: &TaskSpec) -> bool
+    ensures { result ≡ uses_dependencies spec.now }
+{
+    !spec.needs.as_slice().is_empty()
+        || !spec.spans.as_slice().is_empty()
+        || has_given(Stated::DependencyAction, spec)
+}
+
+/// Why the job does not take the task after those that are added before it, if it does not: `TaskExists`, `DependenciesOff`,
+/// `DependencyListTooLong`, `JobActionOff` or `TableFull`, in this order.
 pub fn task_refusal(
     tables: &Tables,
     added: &[TaskRow],
@@ -68,8 +132,14 @@ pub fn task_refusal(
     if is_known(tables, added, &job.id, &spec.id) {
         return Some(Refusal::TaskExists);
     }
+    if uses_dependencies(spec) && !job.deps {
+        return Some(Refusal::DependenciesOff);
+    }
     if has_long_needs(spec) {
         return Some(Refusal::DependencyListTooLong);
+    }
+    if has_given(Stated::JobAction, spec) && !job.on_fail {
+        return Some(Refusal::JobActionOff);
     }
     if is_full(tables, added) {
         return Some(Refusal::TableFull(Table::Tasks, TASK_LIMIT));

@@ -14,10 +14,10 @@ use Rattle.machine_index.specs.Attempts.{HasRuns}
 use Rattle.machine_index.specs.Held.{SumsView, HasHeld}
 use Rattle.machine_index.specs.Indexed.{IsIndexed}
 use Rattle.machine_index.specs.Over.{AreOver, IsRunStep, over_rank, place_named, place_of_run, with_rank}
-use Rattle.machine_index.specs.Ready.{AreItemsOf}
+use Rattle.machine_index.specs.Active.{AreItemsOf}
 use Rattle.machine_index.specs.Timed.{AreTimed}
 use Rattle.machine_index.proofs.OverRanks.{over_step}
-use Rattle.machine_index.proofs.ReadyItems.{items_length}
+use Rattle.machine_index.proofs.ActiveItems.{items_length}
 use Rattle.machine_index.proofs.RunSteps.{found_at, step_put, step_clear}
 use Rattle.machine_index.proofs.TimedRanks.{timed_length}
 
@@ -25,9 +25,9 @@ use Rattle.machine_index.proofs.TimedRanks.{timed_length}
 pub indexed_at : (tasks others : List (Option TaskRow)) (slots placed : List (Option RunRow)) (view : ChainsView) (groups : GroupsView) (ranks : Ranks) (sums : SumsView) (times : Ranks)
     → others ≡ tasks → placed ≡ slots → HasRuns view slots → AreItemsOf tasks groups.items → AreOver (rows slots) tasks ranks.items
     → HasHeld sums (rows tasks) slots → AreTimed tasks times.items → IsIndexed others placed view groups ranks sums times
-indexed_at tasks others slots placed view groups ranks sums times e f runs ready over held timed = record {
+indexed_at tasks others slots placed view groups ranks sums times e f runs active over held timed = record {
   runs = rw f runs;
-  ready = rw e ready;
+  active = rw e active;
   over = rw (e, f) over;
   held = rw (e, f) held;
   timed = rw e timed;
@@ -129,16 +129,16 @@ pub indexed_kept : (tasks others : List (Option TaskRow)) (slots placed : List (
     → others ≡ tasks → placed ≡ slots → (HasRuns view slots → HasRuns changed slots) → grouped.items ≡ groups.items → ranked.items ≡ ranks.items
     → (HasHeld sums (rows tasks) slots → HasHeld summed (rows tasks) slots) → timed.items ≡ times.items → IsIndexed tasks slots view groups ranks sums times
     → IsIndexed others placed changed grouped ranked summed timed
-indexed_kept tasks others slots placed view changed groups grouped ranks ranked sums summed times timed e f runs ready over held later indexed =
-    indexed_at tasks others slots placed changed grouped ranked summed timed e f (runs indexed.runs) (rw ready indexed.ready) (rw over indexed.over) (held indexed.held) (rw later indexed.timed)
+indexed_kept tasks others slots placed view changed groups grouped ranks ranked sums summed times timed e f runs active over held later indexed =
+    indexed_at tasks others slots placed changed grouped ranked summed timed e f (runs indexed.runs) (rw active indexed.active) (rw over indexed.over) (held indexed.held) (rw later indexed.timed)
 
 -- a place that was found is one of the parts'
-pub within_ready : (test : TaskRow → Bool) (place : Option ℕ) (tasks : List (Option TaskRow)) (groups : GroupsView) → place ≡ place_of test tasks → AreItemsOf tasks groups.items
+pub within_active : (test : TaskRow → Bool) (place : Option ℕ) (tasks : List (Option TaskRow)) (groups : GroupsView) → place ≡ place_of test tasks → AreItemsOf tasks groups.items
     → IfSome place (λ at. at < length groups.items)
-within_ready test None tasks groups e ready = tt
-within_ready test (Some at) tasks groups e ready =
+within_active test None tasks groups e active = tt
+within_active test (Some at) tasks groups e active =
     let within = place_of_within test tasks at (sym e) in
-    let long = items_length tasks groups.items ready in
+    let long = items_length tasks groups.items active in
     omega (arith, within, long)
 
 pub within_over : (test : TaskRow → Bool) (place : Option ℕ) (tasks : List (Option TaskRow)) (ranks : List ℕ) → place ≡ place_of test tasks → length ranks ≡ length tasks

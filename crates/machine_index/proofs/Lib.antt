@@ -7,6 +7,6 @@ pub mod LowestPlaces
 pub mod RunPlaces
 pub mod NextPlaces
 pub mod OverRanks
-pub mod ReadyItems
+pub mod ActiveItems
 pub mod RunSteps
 pub mod TimedRanks

@@ -9,7 +9,7 @@ use Rattle.text_chains.specs.Chains.{ChainsView}
 use Rattle.batch_model.specs.Variants.{TaskRow, RunRow}
 use Rattle.machine_index.specs.Attempts.{HasRuns}
 use Rattle.machine_index.specs.Held.{SumsView, kept_sum, run_held, is_owned, IsCounted, HasHeld, HasKeys}
-use Rattle.machine_index.specs.Ready.{AreItemsOf}
+use Rattle.machine_index.specs.Active.{AreItemsOf}
 use Rattle.machine_index.proofs.HeldSums.{run_added}
 use Rattle.machine_index.proofs.IndexedSteps.{free_push, none_there, held_none}
 use Rattle.machine_index.proofs.OverRanks.{slot_push_same}

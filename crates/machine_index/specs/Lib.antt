@@ -2,5 +2,5 @@ pub mod Attempts
 pub mod Held
 pub mod Indexed
 pub mod Over
-pub mod Ready
+pub mod Active
 pub mod Timed

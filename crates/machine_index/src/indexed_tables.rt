@@ -9,12 +9,12 @@ ghost use Rattle.batch_model.specs.Slots.{held_slots};
 ghost use Rattle.batch_model.specs.Tasks.{is_busy, main_run};
 ghost use Rattle.batch_model.specs.Variants.{TaskRow, RunRow};
 ghost use Rattle.machine_index.specs.Over.{AreOver, place_of_run};
-ghost use Rattle.machine_index.specs.Ready.{AreItemsOf, is_ready_within};
+ghost use Rattle.machine_index.specs.Active.{AreItemsOf, is_active_within};
 ghost use Rattle.machine_index.specs.Timed.{AreTimed, is_overdue};
 
+use crate::active_tasks::ActiveTasks;
 use crate::held_slots::HeldSlots;
 use crate::placed_tasks::{PlacedTasks, place_of_run};
-use crate::ready_tasks::ReadyTasks;
 use crate::runs_of_attempts::RunsOfAttempts;
 use crate::timed_tasks::TimedTasks;
 use bt_base::{Id, List, Moment, NoMemory};
@@ -31,7 +31,7 @@ use std::marker::Model;
 pub struct IndexedTables {
     tables: Tables,
     runs: RunsOfAttempts,
-    ready: ReadyTasks,
+    active: ActiveTasks,
     over: PlacedTasks,
     held: HeldSlots,
     timed: TimedTasks,
@@ -45,7 +45,7 @@ impl Model for IndexedTables {
 
     ghost view = { λ i. record { state = i.tables.state; room = i.room } };
 
-    ghost invariant = { λ i. IsIndexed i.tables.task_slots i.tables.run_slots i.runs i.ready i.over i.held i.timed × HasRoom i.room i.tables.room i.runs.room i.ready.room i.over.room i.held.room i.timed.room };
+    ghost invariant = { λ i. IsIndexed i.tables.task_slots i.tables.run_slots i.runs i.active i.over i.held i.timed × HasRoom i.room i.tables.room i.runs.room i.active.room i.over.room i.held.room i.timed.room };
 }
 
 /// The place of the task that the run at this place names.
@@ -59,14 +59,14 @@ fn task_of_run_at(tables: &Tables, place: usize) -> Option<usize>
 }
 
 /// Follows a task that is removed from this place, if there is one.
-fn clear_ready(ready: &mut ReadyTasks, place: Option<usize>)
-    requires { IfSome place (λ at. at < length ready.old.items) }
-    ensures items { (slots : List (Option TaskRow)) → AreItemsOf slots ready.old.items → AreItemsOf (clear_at place slots) ready.new.items }
-    ensures room { ready.new.room ≡ ready.old.room }
+fn clear_active(active: &mut ActiveTasks, place: Option<usize>)
+    requires { IfSome place (λ at. at < length active.old.items) }
+    ensures items { (slots : List (Option TaskRow)) → AreItemsOf slots active.old.items → AreItemsOf (clear_at place slots) active.new.items }
+    ensures room { active.new.room ≡ active.old.room }
 {
     match place {
         None => {}
-        Some(place) => ready.clear(place),
+        Some(place) => active.clear(place),
     }
 }
 
@@ -101,14 +101,14 @@ impl IndexedTables {
     {
         tables.places_known();
         let runs = RunsOfAttempts::of_tables(alloc, &tables)?;
-        let ready = ReadyTasks::of_tables(alloc, &tables)?;
+        let active = ActiveTasks::of_tables(alloc, &tables)?;
         let over = PlacedTasks::of_tables(alloc, &tables, &runs)?;
         let held = HeldSlots::of_tables(alloc, &tables)?;
         let timed = TimedTasks::of_tables(alloc, &tables)?;
         Ok(IndexedTables {
             tables,
             runs,
-            ready,
+            active,
             over,
             held,
             timed,
@@ -155,7 +155,7 @@ impl IndexedTables {
         self.room = 0;
         self.tables.reserve(changes)?;
         self.runs.reserve(additional)?;
-        self.ready.reserve(additional)?;
+        self.active.reserve(additional)?;
         self.over.reserve(additional)?;
         self.held.reserve(additional)?;
         self.timed.reserve(additional)?;
@@ -174,7 +174,7 @@ impl IndexedTables {
         self.tables.places_known();
         self.tables.keys_known();
         self.held.release_task(&self.tables, &self.runs, place);
-        self.ready.put(before, &task);
+        self.active.put(before, &task);
         self.over.put(&self.tables, &self.runs, before, &task);
         self.timed.put(before, &task);
         self.tables.apply_one(Change::PutTask(task));
@@ -193,7 +193,7 @@ impl IndexedTables {
         let place = before.unwrap_or(self.tables.task_place_count());
         self.tables.keys_known();
         self.held.release_task(&self.tables, &self.runs, place);
-        clear_ready(&mut self.ready, before);
+        clear_active(&mut self.active, before);
         clear_over(&mut self.over, before);
         clear_timed(&mut self.timed, before);
         self.tables.apply_one(Change::DropTask(key));
@@ -293,11 +293,11 @@ impl IndexedTables {
         self.timed.first(&self.tables, now)
     }
 
-    /// The first ready task of the job that asks for at most so many slots. None if there is none.
-    pub fn first_ready(&self, job: &Id, most: u8) -> Option<&TaskRow>
-        ensures { option_copied result ≡ find (is_ready_within job.now most) self.now.state.tasks }
+    /// The first active task of the job, without instances, that asks for at most so many slots. None if there is none.
+    pub fn first_active(&self, job: &Id, most: u8) -> Option<&TaskRow>
+        ensures { option_copied result ≡ find (is_active_within job.now most) self.now.state.tasks }
     {
-        self.ready.first(&self.tables, job, most)
+        self.active.first(&self.tables, job, most)
     }
 
     /// Whether a run of the task's present attempt has not ended.

@@ -2,19 +2,19 @@
 //! Places are those of the tables' tasks and runs.
 #![tactic(auto)]
 
+mod active_tasks;
 mod attempt_text;
 mod held_slots;
 mod indexed_tables;
 mod node_sums;
 mod placed_tasks;
-mod ready_tasks;
 mod row_tests;
 mod runs_of_attempts;
 mod timed_tasks;
 
+pub use active_tasks::ActiveTasks;
 pub use held_slots::HeldSlots;
 pub use indexed_tables::IndexedTables;
 pub use placed_tasks::{PlacedTasks, place_of_run};
-pub use ready_tasks::ReadyTasks;
 pub use runs_of_attempts::RunsOfAttempts;
 pub use timed_tasks::TimedTasks;

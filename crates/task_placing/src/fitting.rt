@@ -4,10 +4,13 @@ ghost use Rattle.std.specs.List.{find, list_any};
 ghost use Rattle.std.specs.Option.{option_copied};
 ghost use Rattle.batch_model.specs.Placing.{choice};
 ghost use Rattle.batch_model.specs.WellFormed.{KeysAreDistinct};
+ghost use Rattle.machine_index.specs.Active.{is_active_within};
 ghost use Rattle.slot_ledger.specs.Ledgers.{chosen};
 ghost use Rattle.task_placing.specs.Entries.{ledger_for};
-ghost use Rattle.task_placing.specs.Fitting.{IsPoolRow, fits_by, open_pool};
+ghost use Rattle.task_placing.specs.Fitting.{IsPoolRow, fits_by, is_ready_within, open_pool};
 
+use crate::readiness::is_unblocked;
+use bt_base::Id;
 use bt_rows::job::JobRow;
 use bt_rows::node::NodeRow;
 use bt_rows::pool::PoolRow;
@@ -15,6 +18,7 @@ use bt_rows::tables::Tables;
 use bt_rows::task::TaskRow;
 use machine_index::IndexedTables;
 use slot_ledger::Ledger;
+use table_scans::is_active;
 
 /// Whether a node of the pool has `need` slots free.
 fn has_room(ledger: &Ledger, pool: &PoolRow, need: u8) -> bool
@@ -44,6 +48,44 @@ pub fn open_pool<'a>(tables: &'a Tables, job: &JobRow) -> Option<&'a PoolRow>
     Some(pool)
 }
 
+/// Whether the task is an active one of the job, without instances, that asks for at most `most` slots.
+fn is_active_within(job: &Id, most: u8, task: &TaskRow) -> bool
+    ensures { result ≡ is_active_within job.now most task.now }
+{
+    is_active(task.stage) && task.multi.is_none() && task.slots <= most && task.job.same(job)
+}
+
+/// Whether the task is a ready one of the job, without instances, that asks for at most `most` slots.
+fn is_ready_within(tables: &Tables, job: &Id, most: u8, task: &TaskRow) -> bool
+    requires { KeysAreDistinct tables.now.state }
+    ensures { result ≡ is_ready_within tables.now.state job.now most task.now }
+{
+    is_active_within(job, most, task) && is_unblocked(tables, task)
+}
+
+/// The first ready task of the job, without instances, that asks for at most `most` slots, by a look at all tasks.
+fn search_ready<'a>(tables: &'a Tables, job: &Id, most: u8) -> Option<&'a TaskRow>
+    requires { KeysAreDistinct tables.now.state }
+    ensures { option_copied result ≡ find (is_ready_within tables.now.state job.now most) tables.now.state.tasks }
+{
+    tables
+        .tasks()
+        .find(|task| is_ready_within(tables, job, most, task))
+}
+
+/// The first ready task of the job, without instances, that asks for at most `most` slots. It looks at all tasks only if the first
+/// active one of these still waits for others.
+fn first_ready<'a>(indexed: &'a IndexedTables, job: &Id, most: u8) -> Option<&'a TaskRow>
+    requires { KeysAreDistinct indexed.now.state }
+    ensures { option_copied result ≡ find (is_ready_within indexed.now.state job.now most) indexed.now.state.tasks }
+{
+    match indexed.first_active(job, most) {
+        None => None,
+        Some(task) if is_unblocked(indexed.tables(), task) => Some(task),
+        Some(_) => search_ready(indexed.tables(), job, most),
+    }
+}
+
 /// The first task of the job that fits: the first ready one that asks for no more slots than are free on a node of the pool.
 pub fn first_fitting<'a>(
     indexed: &'a IndexedTables,
@@ -51,11 +93,12 @@ pub fn first_fitting<'a>(
     job: &JobRow,
     pool: &PoolRow,
 ) -> Option<&'a TaskRow>
-    ensures { option_copied result ≡ find (fits_by ledger.now job.now pool.now) indexed.now.state.tasks }
+    requires { KeysAreDistinct indexed.now.state }
+    ensures { option_copied result ≡ find (fits_by indexed.now.state ledger.now job.now pool.now) indexed.now.state.tasks }
 {
     match ledger.most_free(&pool.id) {
         None => None,
-        Some(most) => indexed.first_ready(&job.id, most),
+        Some(most) => first_ready(indexed, &job.id, most),
     }
 }
 

@@ -1,3 +1,4 @@
+pub mod AfterPut
 pub mod HaltMade
 pub mod JobStops
 pub mod RunOfStopped

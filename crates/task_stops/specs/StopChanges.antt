@@ -1,5 +1,5 @@
 -- The changes that stop tasks: a put for each run that is halted, and one for each task that is stopped.
-use Rattle.std.specs.Prelude.{ℕ, Bool, ◌&&◌, List, [], ◌∷◌, ◌++◌, Option, Some}
+use Rattle.std.specs.Prelude.{ℕ, Bool, not, ◌&&◌, List, [], ◌∷◌, ◌++◌, Option, Some}
 use Rattle.bt_rows.specs.declared.event.DisableTasks.{DisableTasks}
 use Rattle.bt_rows.specs.declared.event.DisableTasks.TheVariants.{Requeue, Terminate, Wait}
 use Rattle.bt_rows.specs.declared.tables.Change.{Change}
@@ -15,13 +15,18 @@ use Rattle.batch_model.specs.Variants.{State, JobRow, JobState, Disabling, TaskR
 use Rattle.row_changes.specs.Puts.{puts_of}
 use Rattle.task_stops.specs.HaltChanges.{halt_changes}
 use Rattle.task_stops.specs.declared.stop.Stopped.{Stopped}
-use Rattle.task_stops.specs.declared.stop.Stopped.TheVariants.{OfJob, One, WaitingFor}
+use Rattle.task_stops.specs.declared.stop.Stopped.TheVariants.{OfJob, One, WaitingFor, OthersOfJob}
 
--- the task is of the job, or is the one, or waits for the preparation
+-- a task of the job, and not the one with these ids
+abbrev pub is_other_in_job : List ℕ → List ℕ → List ℕ → TaskRow → Bool
+is_other_in_job job of_job id task = is_in_job job task && not (is_task of_job id task)
+
+-- the task is of the job, or is the one, or waits for the preparation, or is of the job and not the one
 abbrev pub is_among : State → Stopped → TaskRow → Bool
 is_among s (OfJob job) = is_in_job job
 is_among s (One key) = is_task key.job key.id
 is_among s (WaitingFor prep) = is_waiting_on s prep
+is_among s (OthersOfJob job key) = is_other_in_job job key.job key.id
 
 -- the task is stopped, and the run is of its present attempt
 abbrev pub stopped_test : (TaskRow → Bool) → RunRow → TaskRow → Bool

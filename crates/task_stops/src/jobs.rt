@@ -30,7 +30,7 @@ pub fn job_in(state: JobState, job: &JobRow) -> Result<JobRow, NoMemory>
 }
 
 /// The job in this state for a reason.
-fn job_for(state: JobState, reason: Text, job: &JobRow) -> Result<JobRow, NoMemory>
+pub fn job_for(state: JobState, reason: Text, job: &JobRow) -> Result<JobRow, NoMemory>
     ensures { IfOk result (λ row. row ≡ job_for state reason job.now) }
 {
     let mut row = job_in(state, job)?;

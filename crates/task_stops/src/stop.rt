@@ -3,6 +3,7 @@ ghost use Rattle.std.specs.Prelude.{◌≡◌, ◌&&◌, ◌++◌, Some, IfOk, O
 ghost use Rattle.std.specs.List.{list_any};
 ghost use Rattle.bt_rows.specs.declared.tables.Change.TheVariants.{PutRun, PutTask};
 ghost use Rattle.batch_model.specs.Preparing.{is_waiting_on, waits_on};
+ghost use Rattle.batch_model.specs.Rows.{is_task};
 ghost use Rattle.batch_model.specs.Runs.{is_present};
 ghost use Rattle.batch_model.specs.Stops.{is_stopped, is_run_of_stopped};
 ghost use Rattle.batch_model.specs.WellFormed.{KeysAreDistinct};
@@ -26,6 +27,8 @@ pub enum Stopped {
     One(TaskKey),
     /// The tasks of which a run of the present attempt waits for the preparation.
     WaitingFor(PrepRow),
+    /// All tasks of a job but for one.
+    OthersOfJob(Id, TaskKey),
 }
 
 /// Whether the run waits for the preparation.
@@ -56,14 +59,22 @@ fn is_waiting_on(tables: &Tables, prep: &PrepRow, task: &TaskRow) -> bool
     task.job.same(&prep.job) && has_waiting_run(tables, prep, task)
 }
 
+/// Whether the task is the one with this key.
+fn has_key(key: &TaskKey, task: &TaskRow) -> bool
+    ensures { result ≡ is_task key.now.job key.now.id task.now }
+{
+    task.job.same(&key.job) && task.id.same(&key.id)
+}
+
 /// Whether the task is among these.
 fn is_among(tables: &Tables, which: &Stopped, task: &TaskRow) -> bool
     ensures { result ≡ is_among tables.now.state which.now task.now }
 {
     match which {
         Stopped::OfJob(job) => task.job.same(job),
-        Stopped::One(key) => task.job.same(&key.job) && task.id.same(&key.id),
+        Stopped::One(key) => has_key(key, task),
         Stopped::WaitingFor(prep) => is_waiting_on(tables, prep, task),
+        Stopped::OthersOfJob(job, key) => task.job.same(job) && !has_key(key, task),
     }
 }
 

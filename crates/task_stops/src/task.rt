@@ -6,6 +6,7 @@ ghost use Rattle.batch_model.specs.Rows.{is_task};
 ghost use Rattle.batch_model.specs.Stops.{stop};
 ghost use Rattle.batch_model.specs.Variants.{WantRequeue};
 ghost use Rattle.batch_model.specs.WellFormed.{KeysAreDistinct};
+ghost use Rattle.machine_plans.specs.Plans.{with_moment};
 ghost use Rattle.task_stops.specs.StopChanges.{stop_changes};
 ghost use Rattle.task_stops.specs.declared.stop.Stopped.TheVariants.{One};
 
@@ -39,6 +40,24 @@ pub fn stop_task(
     let which = only(task)?;
     let mut changes = Vec::new(alloc);
     push_stop(&mut changes, tables, tables.moment(), &which, want)?;
+    Ok(changes)
+}
+
+/// The changes that stop the task at `now`, in milliseconds since 1970, if it is placed: the end is wanted of it, and the runs of its
+/// present attempt are halted. The only error is out of memory.
+pub fn stop_task_at(
+    alloc: Global,
+    tables: &Tables,
+    now: u64,
+    task: &TaskRow,
+    want: Want,
+) -> Result<Vec<Change>, NoMemory>
+    requires { KeysAreDistinct tables.now.state }
+    ensures { IfOk result (λ changes. apply_changes changes.items (with_moment now tables.now.state) ≡ stop (is_task task.now.job task.now.id) want (with_moment now tables.now.state)) }
+{
+    let which = only(task)?;
+    let mut changes = Vec::new(alloc);
+    push_stop(&mut changes, tables, now, &which, want)?;
     Ok(changes)
 }
 

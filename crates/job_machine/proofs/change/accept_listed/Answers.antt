@@ -9,5 +9,5 @@ pub returns : goal.returns
 returns c =
     let s = c.args.tables.now.state in
     let changes = c.args.changes.items in
-    moved_plan c.reply_listed.result c.args.now (accept 202 (apply_changes changes (with_moment c.args.now s))) s changes (λ refusal e. absurd (cc))
+    moved_plan c.reply_listed.result c.args.now (accept c.args.status (apply_changes changes (with_moment c.args.now s))) s changes (λ refusal e. absurd (cc))
     c.reply_listed.ensures.reply c.reply_listed.ensures.changes refl

@@ -3,7 +3,7 @@ use Rattle.std.specs.Option.{unwrap_or}
 use Rattle.kept_table.specs.Slots.{slot_at, rows, clear_at}
 use Rattle.batch_model.specs.Variants.{TaskRow}
 use Rattle.machine_index.specs.Attempts.{HasRuns}
-use Rattle.machine_index.specs.Ready.{AreItemsOf}
+use Rattle.machine_index.specs.Active.{AreItemsOf}
 use Rattle.machine_index.specs.Timed.{AreTimed}
 use Rattle.machine_index.proofs.IndexedSteps.{within_named, over_after, clear_step, held_cleared}
 use Rattle.machine_index.proofs.RunPlaces.{runs_cleared}
@@ -36,7 +36,7 @@ invariant_of-self c =
     c.apply_one.ensures.runs ∙ sym (ap (λ (p : Option ℕ). clear_at p t.run_slots) c.run_place-before.ensures) in (
       record {
         runs = subst (HasRuns s.runs) (sym placed) (runs_cleared s.runs t.run_slots before old.runs);
-        ready = subst (λ (ts : List (Option TaskRow)). AreItemsOf ts s.ready.items) (sym c.apply_one.ensures.tasks) old.ready;
+        active = subst (λ (ts : List (Option TaskRow)). AreItemsOf ts s.active.items) (sym c.apply_one.ensures.tasks) old.active;
         over =
             over_after (slot_at t.run_slots c.unwrap_or-place.result) None t.run_slots new.run_slots t.task_slots new.task_slots new.state.runs c.task_of_run_at-old_task.result None s.over.items
             c.refresh.new.self.items c.refresh.new.self.items c.keys_known.ensures.tasks (clear_step before c.unwrap_or-place.result t.run_slots new.run_slots place placed) c.apply_one.ensures.tasks

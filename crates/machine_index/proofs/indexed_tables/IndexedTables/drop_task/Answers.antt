@@ -2,13 +2,13 @@ use Rattle.std.proofs.Common.{◌≡◌, Option, ℕ, length, sym, ap, ◌∙◌
 use Rattle.std.specs.Option.{unwrap_or}
 use Rattle.kept_table.specs.Slots.{rows, clear_at}
 use Rattle.bt_rows.specs.Keys.{task_has_ids}
-use Rattle.machine_index.proofs.IndexedSteps.{within_ready, within_over, within_timed, held_without, indexed_at}
+use Rattle.machine_index.proofs.IndexedSteps.{within_active, within_over, within_timed, held_without, indexed_at}
 use Rattle.machine_index.proofs.indexed_tables.IndexedTables.drop_task.Goals as goal
 
-pub clear_ready-requires : goal.clear_ready-requires
-clear_ready-requires c =
+pub clear_active-requires : goal.clear_active-requires
+clear_active-requires c =
     let s = c.self.inside in
-    within_ready (task_has_ids c.args.key.job c.args.key.id) c.task_place-before.result s.tables.task_slots s.ready c.task_place-before.ensures c.self.invariant.0.ready
+    within_active (task_has_ids c.args.key.job c.args.key.id) c.task_place-before.result s.tables.task_slots s.active c.task_place-before.ensures c.self.invariant.0.active
 
 pub clear_over-requires : goal.clear_over-requires
 clear_over-requires c =
@@ -30,8 +30,8 @@ invariant_of-self c =
     let place : c.unwrap_or-place.result ≡ unwrap_or before (length t.task_slots) = c.unwrap_or-place.ensures ∙ ap (unwrap_or before) c.task_place_count.ensures in
     let placed : new.task_slots ≡ clear_at before t.task_slots =
     c.apply_one.ensures.tasks ∙ sym (ap (λ (p : Option ℕ). clear_at p t.task_slots) c.task_place-before.ensures) in (
-      indexed_at (clear_at before t.task_slots) new.task_slots t.run_slots new.run_slots s.runs c.clear_ready.new.ready c.clear_over.new.over c.release_task.new.self c.clear_timed.new.timed placed
-          c.apply_one.ensures.runs old.runs (c.clear_ready.ensures.items t.task_slots old.ready) (c.clear_over.ensures.ranks (rows t.run_slots) t.task_slots old.over)
+      indexed_at (clear_at before t.task_slots) new.task_slots t.run_slots new.run_slots s.runs c.clear_active.new.active c.clear_over.new.over c.release_task.new.self c.clear_timed.new.timed placed
+          c.apply_one.ensures.runs old.runs (c.clear_active.ensures.items t.task_slots old.active) (c.clear_over.ensures.ranks (rows t.run_slots) t.task_slots old.over)
           (held_without c.release_task.new.self before t.task_slots t.run_slots c.unwrap_or-place.result place c.release_task.ensures.held)
           (c.clear_timed.ensures.ranks t.task_slots old.timed),
       search rules,

@@ -9,7 +9,7 @@ invariant_of-result c =
     let t = c.args.tables in (
       record {
         runs = c.in_ok-runs.ensures;
-        ready = c.in_ok-ready.ensures;
+        active = c.in_ok-active.ensures;
         over = subst (λ (rs : List RunRow). AreOver rs t.task_slots c.in_ok-over.over.items) (sym c.places_known.ensures.runs) c.in_ok-over.ensures;
         held = subst (λ (ts : List TaskRow). HasHeld c.in_ok-held.held ts t.run_slots) (sym c.places_known.ensures.tasks) c.in_ok-held.ensures;
         timed = c.in_ok-timed.ensures;

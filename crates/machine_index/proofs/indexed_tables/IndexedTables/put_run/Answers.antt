@@ -4,7 +4,7 @@ use Rattle.kept_table.specs.Slots.{slot_at, rows, put_at}
 use Rattle.batch_model.specs.Variants.{TaskRow}
 use Rattle.machine_index.specs.Attempts.{HasRuns}
 use Rattle.machine_index.specs.Held.{HasHeld}
-use Rattle.machine_index.specs.Ready.{AreItemsOf}
+use Rattle.machine_index.specs.Active.{AreItemsOf}
 use Rattle.machine_index.specs.Timed.{AreTimed}
 use Rattle.machine_index.proofs.IndexedSteps.{within_named, within_again, over_after, put_step, held_beside_run}
 use Rattle.machine_index.proofs.indexed_tables.IndexedTables.put_run.Goals as goal
@@ -45,7 +45,7 @@ invariant_of-self c =
     c.apply_one.ensures.runs ∙ sym (ap (λ (p : Option ℕ). put_at p c.args.run t.run_slots) c.run_place-before.ensures) in (
       record {
         runs = subst (HasRuns c.add.new.self) (sym placed) (c.add.ensures.runs t.run_slots before place old.runs);
-        ready = subst (λ (ts : List (Option TaskRow)). AreItemsOf ts s.ready.items) (sym c.apply_one.ensures.tasks) old.ready;
+        active = subst (λ (ts : List (Option TaskRow)). AreItemsOf ts s.active.items) (sym c.apply_one.ensures.tasks) old.active;
         over =
             over_after (slot_at t.run_slots c.unwrap_or-place.result) (Some c.args.run) t.run_slots new.run_slots t.task_slots new.task_slots new.state.runs c.task_of_run_at-old_task.result
             c.place_of_run-new_task.result s.over.items c.refresh.new.self.items c.refresh-2.new.self.items c.keys_known.ensures.tasks

@@ -2,13 +2,13 @@ use Rattle.std.proofs.Common.{◌≡◌, Option, ℕ, length, sym, ap, ◌∙◌
 use Rattle.std.specs.Option.{unwrap_or}
 use Rattle.kept_table.specs.Slots.{put_at}
 use Rattle.bt_rows.specs.Keys.{task_has_ids}
-use Rattle.machine_index.proofs.IndexedSteps.{within_ready, within_over, within_timed, held_beside}
+use Rattle.machine_index.proofs.IndexedSteps.{within_active, within_over, within_timed, held_beside}
 use Rattle.machine_index.proofs.indexed_tables.IndexedTables.put_task.Goals as goal
 
 pub put-requires-clause-place : goal.put-requires-clause-place
 put-requires-clause-place c =
     let s = c.self.inside in
-    within_ready (task_has_ids c.args.task.job c.args.task.id) c.task_place-before.result s.tables.task_slots s.ready c.task_place-before.ensures c.self.invariant.0.ready
+    within_active (task_has_ids c.args.task.job c.args.task.id) c.task_place-before.result s.tables.task_slots s.active c.task_place-before.ensures c.self.invariant.0.active
 
 pub put-requires-2-clause-place : goal.put-requires-2-clause-place
 put-requires-2-clause-place c =

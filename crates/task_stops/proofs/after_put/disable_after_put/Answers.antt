@@ -1,0 +1,22 @@
+use Rattle.std.proofs.Common.{◌∷◌, [], ◌++◌, ◌∙◌, ap}
+use Rattle.bt_rows.specs.declared.event.DisableTasks.TheVariants.{Requeue}
+use Rattle.bt_rows.specs.declared.tables.Change.TheVariants.{PutJob}
+use Rattle.bt_rows.specs.Changes.{apply_changes}
+use Rattle.batch_model.specs.Rows.{put_task}
+use Rattle.batch_model.specs.Tasks.{is_in_job}
+use Rattle.batch_model.specs.Variants.{WantRequeue}
+use Rattle.task_stops.specs.StopChanges.{stop_changes}
+use Rattle.task_stops.proofs.AfterPut.{keys_put}
+use Rattle.task_stops.proofs.JobStops.{disabled_made}
+use Rattle.task_stops.proofs.after_put.disable_after_put.Goals as goal
+
+pub returns : goal.returns
+returns c =
+    let s = c.args.tables.now.state in
+    let row = c.args.row.now in
+    let job = c.args.job.now in
+    ap (λ changes. apply_changes changes (put_task row s))
+    (c.in_ok-push_stop_after_put.ensures
+    ∙ ap (λ changes. changes ++ stop_changes (is_in_job job.id) WantRequeue s.moment (put_task row s))
+    (c.in_ok-changes.ensures.items ∙ ap (λ put. PutJob put ∷ []) c.in_ok-disabling.ensures))
+    ∙ disabled_made (put_task row s) (keys_put row s c.requires.keys) job c.requires.there s.moment Requeue
