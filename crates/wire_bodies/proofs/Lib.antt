@@ -1,1 +1,2 @@
+pub mod ItemCounts
 pub mod ItemsRead

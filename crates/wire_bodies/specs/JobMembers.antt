@@ -2,15 +2,15 @@
 use Rattle.std.specs.Prelude.{ℤ, pos, negsuc, Bool, Option, Some, None, Result, Ok, Err, option_map, if◌then◌else◌}
 use Rattle.serde_json.specs.Data.{Data}
 use Rattle.bt_base.specs.Fails.{◌>>=◌}
-use Rattle.bt_rows.specs.declared.limits.TheConstants.{LEAST_PRIORITY, GREATEST_PRIORITY}
+use Rattle.bt_rows.specs.declared.limits.TheConstants.{LEAST_PRIORITY, GREATEST_PRIORITY, RETRY_LIMIT}
 use Rattle.bt_rows.specs.declared.member.Member.TheVariants as names
 use Rattle.bt_rows.specs.declared.event.Limits.{Limits}
 use Rattle.bt_rows.specs.declared.refusal.Refusal.{Refusal}
 use Rattle.bt_rows.specs.declared.refusal.Refusal.TheVariants.{InvalidPropertyValue}
 use Rattle.bt_rows.specs.Ranges.{passes_if_some, is_parallel}
 use Rattle.wire_members.specs.Durations.{duration_member}
-use Rattle.wire_members.specs.Members.{signed_if, word_if, object_member, unbuilt_member}
-use Rattle.wire_members.specs.Words.{all_tasks_word, is_terminating}
+use Rattle.wire_members.specs.Members.{signed_if, signed_member, word_if, object_member}
+use Rattle.wire_members.specs.Words.{all_tasks_word, failure_word, is_terminating, is_performing}
 
 -- a priority, -1,000 to 1,000
 abbrev pub priority_if : Data → Result (Option ℤ) Refusal
@@ -26,12 +26,12 @@ parallel_if d = do
   limit ← signed_if (Some d) names.MaxParallelTasks (negsuc 0) (pos 2147483647)
   unless_zero limit
 
--- the limits that the members of an object are: a wall time, by default none, and no retries
+-- the limits that the members of an object are: a wall time, by default none, and retries, by default none
 unfoldable pub limits_in : Data → Result Limits Refusal
 limits_in d = do
   wall ← duration_member (Some d) names.MaxWallClockTime
-  _ ← unbuilt_member (Some d) names.MaxTaskRetryCount
-  Ok (record { retries = pos 0; wall = wall })
+  retries ← signed_member (Some d) names.MaxTaskRetryCount (negsuc 0) RETRY_LIMIT (pos 0)
+  Ok (record { retries = retries; wall = wall })
 
 -- limits, if their object is there
 unfoldable pub limits_of : Option Data → Result (Option Limits) Refusal
@@ -51,3 +51,9 @@ unfoldable pub on_all_if : Data → Result (Option Bool) Refusal
 on_all_if d = do
   action ← word_if all_tasks_word (Some d) names.OnAllTasksComplete
   Ok (option_map is_terminating action)
+
+-- whether the job takes the actions of its tasks' exit options
+unfoldable pub on_fail_if : Data → Result (Option Bool) Refusal
+on_fail_if d = do
+  action ← word_if failure_word (Some d) names.OnTaskFailure
+  Ok (option_map is_performing action)

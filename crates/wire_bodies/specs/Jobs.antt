@@ -7,8 +7,8 @@ use Rattle.bt_rows.specs.declared.event.JobSpec.{JobSpec}
 use Rattle.bt_rows.specs.declared.event.Limits.{Limits}
 use Rattle.bt_rows.specs.declared.refusal.Refusal.{Refusal}
 use Rattle.wire_members.specs.Body.{object_of}
-use Rattle.wire_members.specs.Members.{id_member, object_member, unbuilt_member}
-use Rattle.wire_bodies.specs.JobMembers.{priority_if, parallel_if, limits_if, on_all_if}
+use Rattle.wire_members.specs.Members.{id_member, flag_member, object_member}
+use Rattle.wire_bodies.specs.JobMembers.{priority_if, parallel_if, limits_if, on_all_if, on_fail_if}
 use Rattle.wire_bodies.specs.JobTasks.{preparation_if, release_if}
 
 -- no wall time and no retries, if there are no limits
@@ -22,14 +22,14 @@ job_in d = do
   priority ← priority_if d
   parallel ← parallel_if d
   limits ← limits_if d
-  _ ← unbuilt_member (Some d) names.UsesTaskDependencies
+  deps ← flag_member (Some d) names.UsesTaskDependencies false
   on_all ← on_all_if d
-  _ ← unbuilt_member (Some d) names.OnTaskFailure
+  on_fail ← on_fail_if d
   prep ← preparation_if d
   release ← release_if (is_some prep) d
   place ← object_member (Some d) names.PoolInfo
   pool ← id_member place names.PoolId
-  Ok (id, record { pool = pool; priority = unwrap_or priority (pos 0); parallel = unwrap_or parallel (negsuc 0); retries = (limits_or_none limits).retries; wall = (limits_or_none limits).wall; deps = false; on_all = unwrap_or on_all false; on_fail = false; prep = prep; release = release })
+  Ok (id, record { pool = pool; priority = unwrap_or priority (pos 0); parallel = unwrap_or parallel (negsuc 0); retries = (limits_or_none limits).retries; wall = (limits_or_none limits).wall; deps = deps; on_all = unwrap_or on_all false; on_fail = unwrap_or on_fail false; prep = prep; release = release })
 
 -- the job that the bytes of a body are, and its id
 unfoldable pub job_of : List ℕ → Result (List ℕ × JobSpec) Refusal

@@ -1,4 +1,6 @@
 pub mod Collections
+pub mod Dependencies
+pub mod ExitConditions
 pub mod Items
 pub mod JobChanges
 pub mod JobMembers

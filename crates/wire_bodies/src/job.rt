@@ -5,7 +5,7 @@ ghost use Rattle.bt_base.specs.Fails.{Gives};
 ghost use Rattle.bt_rows.specs.Ranges.{is_job_spec_in_range, are_limits_in_range, is_retry_limit, is_duration, passes_if_some};
 ghost use Rattle.wire_bodies.specs.Jobs.{limits_or_none, job_in, job_of};
 
-use crate::job_member::{limits_if, on_all_if, parallel_if, priority_if};
+use crate::job_member::{limits_if, on_all_if, on_fail_if, parallel_if, priority_if};
 use crate::job_task::{preparation_if, release_if};
 use bt_base::{Fail, Id};
 use bt_rows::event::{JobSpec, Limits};
@@ -13,7 +13,7 @@ use bt_rows::member::Member;
 use bt_rows::refusal::Refusal;
 use serde_json::Value;
 use std::alloc::Global;
-use wire_members::{id_member, object_member, read_object, unbuilt_member};
+use wire_members::{flag_member, id_member, object_member, read_object};
 
 /// The limits; no wall time and no retries if there are none.
 fn limits_or_none(limits: Option<Limits>) -> Limits
@@ -38,9 +38,9 @@ fn job(alloc: Global, body: &Value) -> Result<(Id, JobSpec), Fail<Refusal>>
     let priority = priority_if(body)?;
     let parallel = parallel_if(body)?;
     let limits = limits_if(body)?;
-    unbuilt_member(Some(body), Member::UsesTaskDependencies)?;
+    let deps = flag_member(Some(body), Member::UsesTaskDependencies, false)?;
     let on_all = on_all_if(body)?;
-    unbuilt_member(Some(body), Member::OnTaskFailure)?;
+    let on_fail = on_fail_if(body)?;
     let prep = preparation_if(alloc, body)?;
     let release = release_if(alloc, prep.is_some(), body)?;
     let place = object_member(Some(body), Member::PoolInfo)?;
@@ -54,9 +54,9 @@ fn job(alloc: Global, body: &Value) -> Result<(Id, JobSpec), Fail<Refusal>>
             parallel: parallel.unwrap_or(-1),
             retries: limits.retries,
             wall: limits.wall,
-            deps: false,
+            deps,
             on_all: on_all.unwrap_or(false),
-            on_fail: false,
+            on_fail: on_fail.unwrap_or(false),
             prep,
             release,
         },
@@ -67,14 +67,17 @@ fn job(alloc: Global, body: &Value) -> Result<(Id, JobSpec), Fail<Refusal>>
 ///
 /// - `priority` from -1,000 to 1,000 (0);
 /// - `maxParallelTasks` from 1 to 2,147,483,647, or -1 for no limit (-1);
-/// - `constraints` with `maxWallClockTime`, a duration of at most 36,500 days (no limit);
+/// - `constraints` with `maxWallClockTime`, a duration of at most 36,500 days (no limit), and `maxTaskRetryCount` from -1, for no
+///   limit, to 1,000,000 (0);
+/// - `usesTaskDependencies` (false);
 /// - `onAllTasksComplete`, which is `noaction` or `terminatejob` in upper or lower case (`noaction`);
+/// - `onTaskFailure`, which is `noaction` or `performexitoptionsjobaction` in upper or lower case (`noaction`);
 /// - `jobPreparationTask`, as `preparation_if` reads it (none);
 /// - `jobReleaseTask`, as `release_if` reads it (none).
 ///
-/// Bytes that are not a JSON object are `UnreadableBody`. A member that is of a wrong kind or out of range, an absent `id` or
-/// `poolId` and a member that the service does not support yet are `InvalidPropertyValue` with its name; an absent `poolInfo` is
-/// refused as `poolId`. It fails with `Memory` when out of memory.
+/// Bytes that are not a JSON object are `UnreadableBody`. A member that is of a wrong kind or out of range, and an absent one that
+/// is required, are `InvalidPropertyValue` with its name; an absent `poolInfo` is refused as `poolId`. It fails with `Memory` when
+/// out of memory.
 #[tactic(auto, unfolding(crate::specs::Jobs::job_of))]
 pub fn read_job(alloc: Global, bytes: &[u8]) -> Result<(Id, JobSpec), Fail<Refusal>>
     ensures value { Gives result (job_of bytes.now) }

@@ -34,12 +34,12 @@ fn patch(body: &Value) -> Result<JobPatch, Fail<Refusal>>
 }
 
 /// The body of `patch-job` (Azure: Update Job): `priority` from -1,000 to 1,000, `maxParallelTasks` from 1 to 2,147,483,647 or
-/// -1 for no limit, `constraints` with `maxWallClockTime`, a duration of at most 36,500 days, and `onAllTasksComplete`, which is
-/// `noaction` or `terminatejob` in upper or lower case. None of them is required, and an absent one has no default: it leaves the
-/// job as it is. Given `constraints` are given whole: without `maxWallClockTime` the job has no limit of time any more.
+/// -1 for no limit, `constraints` as for a job, and `onAllTasksComplete`, which is `noaction` or `terminatejob` in upper or lower
+/// case. None of them is required, and an absent one has no default: it leaves the job as it is. Given `constraints` are given
+/// whole: without `maxWallClockTime` the job has no limit of time any more, and without `maxTaskRetryCount` no retries.
 ///
-/// Bytes that are not a JSON object are `UnreadableBody`. A member that is of a wrong kind or out of range, and one that the
-/// service does not support yet, are `InvalidPropertyValue` with its name. It fails with `Memory` when out of memory.
+/// Bytes that are not a JSON object are `UnreadableBody`. A member that is of a wrong kind or out of range is
+/// `InvalidPropertyValue` with its name. It fails with `Memory` when out of memory.
 #[tactic(auto, unfolding(crate::specs::JobChanges::patch_of))]
 pub fn read_job_patch(alloc: Global, bytes: &[u8]) -> Result<JobPatch, Fail<Refusal>>
     ensures value { Gives result (patch_of bytes.now) }

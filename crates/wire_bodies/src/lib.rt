@@ -3,6 +3,8 @@
 #![tactic(auto)]
 
 mod collection;
+mod dependencies;
+mod exit_conditions;
 mod job;
 mod job_change;
 mod job_member;

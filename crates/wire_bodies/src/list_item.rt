@@ -1,5 +1,5 @@
 //! The items of a list member.
-ghost use Rattle.std.specs.Prelude.{◌≡◌, true, Bool, Result, IfOk};
+ghost use Rattle.std.specs.Prelude.{◌≡◌, true, Bool, Result, length, IfOk};
 ghost use Rattle.std.specs.List.{list_all};
 ghost use Rattle.serde_json.specs.Data.{Data};
 ghost use Rattle.serde_json.specs.View.{view, items_view};
@@ -36,6 +36,7 @@ pub fn read_items<T: ListItem>(
     values: &[Value],
 ) -> Result<List<T>, Fail<Refusal>>
     ensures value { Gives result (items_in (T.item_in list) (items_view values.now)) }
+    ensures count { IfOk result (λ items. length items ≡ length values.now) }
     ensures kept { IfOk result (λ items. list_all T.is_in_range items ≡ true) }
 {
     let mut items = Vec::new(alloc);

@@ -5,16 +5,18 @@ ghost use Rattle.bt_base.specs.Fails.{Gives};
 ghost use Rattle.bt_rows.specs.Ranges.{is_task_spec_in_range};
 ghost use Rattle.wire_bodies.specs.Tasks.{task_in, task_of};
 
-use bt_base::{Fail, List};
+use crate::dependencies::dependencies_in;
+use crate::exit_conditions::conditions_in;
+use bt_base::Fail;
 use bt_rows::event::TaskSpec;
-use bt_rows::limits::{DEFAULT_RETENTION, SLOT_LIMIT};
+use bt_rows::limits::{DEFAULT_RETENTION, RETRY_LIMIT, SLOT_LIMIT};
 use bt_rows::member::Member;
 use bt_rows::refusal::Refusal;
 use serde_json::Value;
 use std::alloc::Global;
 use wire_members::{
     command_member, count_member, duration_member, id_member, object_member, read_object,
-    unbuilt_member,
+    signed_if, unbuilt_member,
 };
 
 /// The task that the members of an object are.
@@ -33,35 +35,40 @@ pub fn task(alloc: Global, body: &Value) -> Result<TaskSpec, Fail<Refusal>>
         1,
     )?;
     let part = object_member(Some(body), Member::Constraints)?;
-    unbuilt_member(part, Member::MaxTaskRetryCount)?;
+    let retries = signed_if(part, Member::MaxTaskRetryCount, -1, RETRY_LIMIT)?;
     let wall = duration_member(part, Member::MaxWallClockTime)?;
     unbuilt_member(part, Member::RetentionTime)?;
-    unbuilt_member(Some(body), Member::ExitConditions)?;
-    unbuilt_member(Some(body), Member::DependsOn)?;
+    let exits = conditions_in(alloc, object_member(Some(body), Member::ExitConditions)?)?;
+    let depends = dependencies_in(alloc, object_member(Some(body), Member::DependsOn)?)?;
     unbuilt_member(Some(body), Member::MultiInstanceSettings)?;
     Ok(TaskSpec {
         id,
         line,
         slots: slots as u8,
-        retries: None,
+        retries,
         wall,
         retention: Some(DEFAULT_RETENTION),
-        codes: List::empty(alloc),
-        ranges: List::empty(alloc),
-        launch: None,
-        other: None,
-        needs: List::empty(alloc),
-        spans: List::empty(alloc),
+        codes: exits.codes,
+        ranges: exits.ranges,
+        launch: exits.launch,
+        other: exits.other,
+        needs: depends.needs,
+        spans: depends.spans,
         multi: None,
     })
 }
 
-/// The body of `add-task` (Azure: Create Task): `id`, `commandLine`, `requiredSlots` from 1 to 8 (default 1), and `constraints`
-/// with `maxWallClockTime`, a duration of at most 36,500 days (default no limit).
+/// The body of `add-task` (Azure: Create Task): `id`, `commandLine`, and the members below, with their defaults.
 ///
-/// Bytes that are not a JSON object are `UnreadableBody`. A member that is of a wrong kind or out of range, an absent `id` or
-/// `commandLine` and a member that the service does not support yet are `InvalidPropertyValue` with its name. It fails with
-/// `Memory` when out of memory.
+/// - `requiredSlots` from 1 to 8 (1);
+/// - `constraints` with `maxTaskRetryCount` from -1, for no limit, to 1,000,000 (the job's), and `maxWallClockTime`, a duration of
+///   at most 36,500 days (no limit);
+/// - `exitConditions`, as `conditions_in` reads them (none);
+/// - `dependsOn`, as `dependencies_in` reads it (nothing).
+///
+/// Bytes that are not a JSON object are `UnreadableBody`. A member that is of a wrong kind or out of range, an absent one that is
+/// required and a member that the service does not support yet are `InvalidPropertyValue` with its name. It fails with `Memory`
+/// when out of memory.
 #[tactic(auto, unfolding(crate::specs::Tasks::task_of))]
 pub fn read_task(alloc: Global, bytes: &[u8]) -> Result<TaskSpec, Fail<Refusal>>
     ensures value { Gives result (task_of bytes.now) }

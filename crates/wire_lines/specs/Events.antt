@@ -14,7 +14,7 @@ use Rattle.wire_bodies.specs.Jobs.{job_of}
 use Rattle.wire_bodies.specs.JobChanges.{patch_of, disable_of, reason_of}
 use Rattle.wire_bodies.specs.Tasks.{task_of}
 use Rattle.wire_bodies.specs.Collections.{collection_of}
-use Rattle.wire_lines.specs.Parts.{two_parts, one_part}
+use Rattle.wire_lines.specs.Parts.{two_parts, just_two, one_part}
 
 -- the value; if there is none, the line is not a valid request
 abbrev pub or_unreadable : {A : Type 0} → Option A → Result A Refusal
@@ -39,6 +39,14 @@ job_and_body text = do
   parts ← or_unreadable (two_parts text)
   job ← id_argument parts.0
   Ok (job, parts.1)
+
+-- the ids of a job and of a task of it, which are the only arguments of a line
+unfoldable pub job_and_task : List ℕ → Result (List ℕ × List ℕ) Refusal
+job_and_task text = do
+  parts ← or_unreadable (just_two text)
+  job ← id_argument parts.0
+  task ← id_argument parts.1
+  Ok (job, task)
 
 -- a body
 unfoldable pub add_job : List ℕ → Result EventKind Refusal
@@ -102,3 +110,21 @@ add_tasks text = do
   parts ← job_and_body text
   tasks ← collection_of parts.1
   Ok (events.AddTasks parts.0 tasks)
+
+-- a job and a task
+unfoldable pub delete_task : List ℕ → Result EventKind Refusal
+delete_task text = do
+  ids ← job_and_task text
+  Ok (events.DeleteTask ids.0 ids.1)
+
+-- a job and a task
+unfoldable pub terminate_task : List ℕ → Result EventKind Refusal
+terminate_task text = do
+  ids ← job_and_task text
+  Ok (events.TerminateTask ids.0 ids.1)
+
+-- a job and a task
+unfoldable pub reactivate_task : List ℕ → Result EventKind Refusal
+reactivate_task text = do
+  ids ← job_and_task text
+  Ok (events.ReactivateTask ids.0 ids.1)

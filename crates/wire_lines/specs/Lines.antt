@@ -15,7 +15,7 @@ use Rattle.wire_lines.specs.declared.line.LineWord.{LineWord}
 use Rattle.wire_lines.specs.declared.line.LineWord.TheVariants as words
 use Rattle.wire_lines.specs.Parts.{two_parts, just_two}
 use Rattle.wire_lines.specs.Endings.{moment_in, ending_in}
-use Rattle.wire_lines.specs.Events.{or_unreadable, add_job, patch_job, disable_job, enable_job, terminate_job, delete_job, add_task, add_tasks}
+use Rattle.wire_lines.specs.Events.{or_unreadable, add_job, patch_job, disable_job, enable_job, terminate_job, delete_job, add_task, add_tasks, delete_task, terminate_task, reactivate_task}
 use Rattle.wire_numbers.specs.Numbers.{number_in}
 
 -- the text of a word
@@ -29,6 +29,9 @@ word_text words.TerminateJob = codes "terminate-job"
 word_text words.DeleteJob = codes "delete-job"
 word_text words.AddTask = codes "add-task"
 word_text words.AddTasks = codes "add-tasks"
+word_text words.DeleteTask = codes "delete-task"
+word_text words.TerminateTask = codes "terminate-task"
+word_text words.ReactivateTask = codes "reactivate-task"
 word_text words.Take = codes "take"
 word_text words.End = codes "end"
 
@@ -36,7 +39,7 @@ word_text words.End = codes "end"
 abbrev pub all_words : List LineWord
 all_words =
     words.AddPool ∷ words.AddJob ∷ words.PatchJob ∷ words.DisableJob ∷ words.EnableJob ∷ words.TerminateJob ∷ words.DeleteJob
-    ∷ words.AddTask ∷ words.AddTasks ∷ words.Take ∷ words.End ∷ []
+    ∷ words.AddTask ∷ words.AddTasks ∷ words.DeleteTask ∷ words.TerminateTask ∷ words.ReactivateTask ∷ words.Take ∷ words.End ∷ []
 
 -- the word with this text
 unfoldable pub word_in : List ℕ → Option LineWord
@@ -55,6 +58,9 @@ event_with words.TerminateJob text = terminate_job text
 event_with words.DeleteJob text = delete_job text
 event_with words.AddTask text = add_task text
 event_with words.AddTasks text = add_tasks text
+event_with words.DeleteTask text = delete_task text
+event_with words.TerminateTask text = terminate_task text
+event_with words.ReactivateTask text = reactivate_task text
 event_with words.Take text = do
   run ← or_unreadable (number_in text)
   Ok (events.Take run)

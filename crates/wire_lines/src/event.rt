@@ -3,8 +3,9 @@ ghost use Rattle.std.specs.Prelude.{◌≡◌, true, IfOk};
 ghost use Rattle.bt_base.specs.Fails.{Gives, GivesAs};
 ghost use Rattle.bt_rows.specs.Ranges.{is_event_in_range};
 ghost use Rattle.wire_lines.specs.Events.{id_argument, lone_id, job_and_body, add_job, add_task, add_tasks, patch_job, disable_job, enable_job, terminate_job, delete_job};
+ghost use Rattle.wire_lines.specs.Events.{job_and_task, delete_task, terminate_task, reactivate_task};
 
-use crate::parts::{split_one, split_two};
+use crate::parts::{split_just_two, split_one, split_two};
 use bt_base::{Fail, Id, text_of};
 use bt_rows::event::EventKind;
 use bt_rows::member::Member;
@@ -48,6 +49,17 @@ fn job_and_body(alloc: Global, text: &[u8]) -> Result<(Id, &[u8]), Fail<Refusal>
     let (job, body) = split_two(text).ok_or(UNREADABLE)?;
     let job = id_argument(alloc, job)?;
     Ok((job, body))
+}
+
+/// The ids of a job and of a task of it, which are the only arguments of a line.
+#[tactic(auto, unfolding(crate::specs::Events::job_and_task))]
+fn job_and_task(alloc: Global, text: &[u8]) -> Result<(Id, Id), Fail<Refusal>>
+    ensures { Gives result (job_and_task text.now) }
+{
+    let (job, task) = split_just_two(text).ok_or(UNREADABLE)?;
+    let job = id_argument(alloc, job)?;
+    let task = id_argument(alloc, task)?;
+    Ok((job, task))
 }
 
 /// The event of `add-job` with this body.
@@ -132,4 +144,34 @@ pub fn add_tasks(alloc: Global, text: &[u8]) -> Result<EventKind, Fail<Refusal>>
 {
     let (job, tasks) = job_and_body(alloc, text)?;
     Ok(EventKind::AddTasks(job, read_collection(alloc, tasks)?))
+}
+
+/// The event of `delete-task` with these arguments.
+#[tactic(auto, unfolding(crate::specs::Events::delete_task))]
+pub fn delete_task(alloc: Global, text: &[u8]) -> Result<EventKind, Fail<Refusal>>
+    ensures value { Gives result (delete_task text.now) }
+    ensures kept { IfOk result (λ kind. is_event_in_range kind ≡ true) }
+{
+    let (job, task) = job_and_task(alloc, text)?;
+    Ok(EventKind::DeleteTask(job, task))
+}
+
+/// The event of `terminate-task` with these arguments.
+#[tactic(auto, unfolding(crate::specs::Events::terminate_task))]
+pub fn terminate_task(alloc: Global, text: &[u8]) -> Result<EventKind, Fail<Refusal>>
+    ensures value { Gives result (terminate_task text.now) }
+    ensures kept { IfOk result (λ kind. is_event_in_range kind ≡ true) }
+{
+    let (job, task) = job_and_task(alloc, text)?;
+    Ok(EventKind::TerminateTask(job, task))
+}
+
+/// The event of `reactivate-task` with these arguments.
+#[tactic(auto, unfolding(crate::specs::Events::reactivate_task))]
+pub fn reactivate_task(alloc: Global, text: &[u8]) -> Result<EventKind, Fail<Refusal>>
+    ensures value { Gives result (reactivate_task text.now) }
+    ensures kept { IfOk result (λ kind. is_event_in_range kind ≡ true) }
+{
+    let (job, task) = job_and_task(alloc, text)?;
+    Ok(EventKind::ReactivateTask(job, task))
 }

@@ -6,8 +6,8 @@ ghost use Rattle.wire_lines.specs.Lines.{event_with, event_with_arguments, event
 
 use crate::ending::{read_ending, read_moment};
 use crate::event::{
-    UNREADABLE, add_job, add_task, add_tasks, delete_job, disable_job, enable_job, patch_job,
-    terminate_job,
+    UNREADABLE, add_job, add_task, add_tasks, delete_job, delete_task, disable_job, enable_job,
+    patch_job, reactivate_task, terminate_job, terminate_task,
 };
 use crate::parts::{split_just_two, split_two};
 use bt_base::{Fail, Moment};
@@ -38,6 +38,12 @@ pub enum LineWord {
     AddTask,
     /// Tasks are added.
     AddTasks,
+    /// A task is deleted.
+    DeleteTask,
+    /// A task is terminated.
+    TerminateTask,
+    /// A task is made active again.
+    ReactivateTask,
     /// A run's child program is being started.
     Take,
     /// A run's child program has ended.
@@ -60,6 +66,9 @@ impl LineWord {
             LineWord::DeleteJob => "delete-job",
             LineWord::AddTask => "add-task",
             LineWord::AddTasks => "add-tasks",
+            LineWord::DeleteTask => "delete-task",
+            LineWord::TerminateTask => "terminate-task",
+            LineWord::ReactivateTask => "reactivate-task",
             LineWord::Take => "take",
             LineWord::End => "end",
         }
@@ -80,6 +89,9 @@ impl LineWord {
             LineWord::DeleteJob,
             LineWord::AddTask,
             LineWord::AddTasks,
+            LineWord::DeleteTask,
+            LineWord::TerminateTask,
+            LineWord::ReactivateTask,
             LineWord::Take,
             LineWord::End,
         ];
@@ -117,6 +129,9 @@ fn event_with(alloc: Global, word: LineWord, text: &[u8]) -> Result<EventKind, F
         LineWord::DeleteJob => delete_job(alloc, text),
         LineWord::AddTask => add_task(alloc, text),
         LineWord::AddTasks => add_tasks(alloc, text),
+        LineWord::DeleteTask => delete_task(alloc, text),
+        LineWord::TerminateTask => terminate_task(alloc, text),
+        LineWord::ReactivateTask => reactivate_task(alloc, text),
         LineWord::Take => Ok(EventKind::Take(read_number(text).ok_or(UNREADABLE)?)),
         LineWord::End => {
             let (run, ending) = split_just_two(text).ok_or(UNREADABLE)?;
@@ -179,10 +194,11 @@ fn is_skipped(line: &[u8]) -> bool
 /// - `add-pool BODY`, `add-job BODY`, `patch-job JOB BODY`, `disable-job JOB BODY`, `terminate-job JOB BODY`, `add-task JOB BODY`
 ///   and `add-tasks JOB BODY`, with a JSON object up to the end of the line as the body;
 /// - `terminate-job JOB`, `enable-job JOB` and `delete-job JOB`;
+/// - `delete-task JOB TASK`, `terminate-task JOB TASK` and `reactivate-task JOB TASK`;
 /// - `take RUN` and `end RUN ENDING`, with an exit code of 32 bits, `none` or `notstarted` as the ending;
 /// - `tick`.
 ///
-/// Any other line, and one of more than 1,048,576 bytes, is `UnreadableBody`; an invalid id of a job is
+/// Any other line, and one of more than 1,048,576 bytes, is `UnreadableBody`; an invalid id of a job or a task is
 /// `InvalidPropertyValue(Id)`, before the faults of the body after it. It fails with `Memory` when out of memory.
 #[tactic(auto, unfolding(crate::specs::Lines::line_of))]
 pub fn read_line(alloc: Global, line: &[u8]) -> Result<LineRequest, Fail<Refusal>>

@@ -141,6 +141,10 @@ required_list part name = required as_array part name
 abbrev pub object_item : Data → Member → Result Data Refusal
 object_item d name = or_invalid name (object_in d)
 
+-- an item that is an id; another one is refused under the list's name
+abbrev pub id_item : Data → Member → Result (List ℕ) Refusal
+id_item d name = or_invalid name (id_in d)
+
 -- ---- members that are not taken yet
 
 -- the refusal of a member, if it is there

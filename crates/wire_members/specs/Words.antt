@@ -9,6 +9,10 @@ use Rattle.bt_rows.specs.declared.event.DisableTasks.{DisableTasks}
 use Rattle.bt_rows.specs.declared.event.DisableTasks.TheVariants as disables
 use Rattle.wire_members.specs.declared.words.AllTasksAction.{AllTasksAction}
 use Rattle.wire_members.specs.declared.words.AllTasksAction.TheVariants.{NoAction, TerminateJob}
+use Rattle.wire_members.specs.declared.words.FailureAction.{FailureAction}
+use Rattle.wire_members.specs.declared.words.FailureAction.TheVariants as failures
+use Rattle.wire_members.specs.declared.words.DependencyAction.{DependencyAction}
+use Rattle.wire_members.specs.declared.words.DependencyAction.TheVariants.{Satisfy, Block}
 
 -- a `nodeFillType`
 unfoldable pub fill_word : List ℕ → Option Fill
@@ -36,6 +40,30 @@ all_tasks_word t =
 abbrev pub is_terminating : AllTasksAction → Bool
 is_terminating NoAction = false
 is_terminating TerminateJob = true
+
+-- an `onTaskFailure`
+unfoldable pub failure_word : List ℕ → Option FailureAction
+failure_word t =
+    if same t (codes "noaction") then Some failures.NoAction
+    else if same t (codes "performexitoptionsjobaction") then Some failures.PerformJobAction
+    else None
+
+-- the job takes the actions of its tasks' exit options
+abbrev pub is_performing : FailureAction → Bool
+is_performing failures.NoAction = false
+is_performing failures.PerformJobAction = true
+
+-- a `dependencyAction`
+unfoldable pub dependency_word : List ℕ → Option DependencyAction
+dependency_word t =
+    if same t (codes "satisfy") then Some Satisfy
+    else if same t (codes "block") then Some Block
+    else None
+
+-- dependent tasks may go on
+abbrev pub is_satisfying : DependencyAction → Bool
+is_satisfying Satisfy = true
+is_satisfying Block = false
 
 -- a `disableTasks`
 unfoldable pub disable_word : List ℕ → Option DisableTasks

@@ -6,8 +6,8 @@ ghost use Rattle.serde_json.specs.View.{view, items_view};
 ghost use Rattle.bt_base.specs.Fails.{Gives, GivesAs};
 ghost use Rattle.bt_base.specs.declared.fail.Fail.TheVariants.{Why};
 ghost use Rattle.bt_rows.specs.declared.refusal.Refusal.TheVariants.{InvalidPropertyValue};
-ghost use Rattle.wire_members.specs.Members.{member_of, or_invalid, count_in, signed_in, id_in, command_in};
-ghost use Rattle.wire_members.specs.Members.{count_member, required_count, signed_member, signed_if, required_signed, flag_member, text_member, id_member, command_member, object_member, required_object, list_member, required_list, object_item, unbuilt_member};
+ghost use Rattle.wire_members.specs.Members.{member_of, or_invalid, count_in, signed_in, command_in};
+ghost use Rattle.wire_members.specs.Members.{count_member, required_count, signed_member, signed_if, required_signed, flag_member, text_member, id_member, command_member, object_member, required_object, list_member, required_list, object_item, id_item, unbuilt_member};
 
 use bt_base::{CommandLine, Fail, Id, Text};
 use bt_rows::member::Member;
@@ -173,9 +173,9 @@ pub fn text_member(
     }
 }
 
-/// The id that the value is. Another value is refused under the name.
-fn id_of_value(alloc: Global, value: &Value, name: Member) -> Result<Id, Fail<Refusal>>
-    ensures { Gives result (or_invalid name (id_in (view value.now))) }
+/// An item of the list with this name, which has to be an id; else it is refused under the list's name.
+pub fn id_item(alloc: Global, value: &Value, name: Member) -> Result<Id, Fail<Refusal>>
+    ensures { Gives result (id_item (view value.now) name) }
 {
     let Some(text) = value.as_str() else {
         return Err(invalid_property(name));
@@ -193,7 +193,7 @@ pub fn id_member(alloc: Global, part: Option<&Value>, name: Member) -> Result<Id
 {
     match member(part, name) {
         None => Err(invalid_property(name)),
-        Some(value) => id_of_value(alloc, value, name),
+        Some(value) => id_item(alloc, value, name),
     }
 }
 

@@ -1,6 +1,7 @@
-//! The words of bodies (Azure: the values of nodeFillType, jobAction, onAllTasksComplete and disableTasks).
+//! The words of bodies (Azure: the values of nodeFillType, jobAction, onAllTasksComplete, onTaskFailure, dependencyAction and
+//! disableTasks).
 ghost use Rattle.std.specs.Prelude.{◌≡◌};
-ghost use Rattle.wire_members.specs.Words.{fill_word, job_action_word, all_tasks_word, disable_word, is_terminating};
+ghost use Rattle.wire_members.specs.Words.{fill_word, job_action_word, all_tasks_word, failure_word, dependency_word, disable_word, is_terminating, is_performing, is_satisfying};
 
 use crate::word::WordKind;
 use bt_base::is_same;
@@ -70,6 +71,78 @@ impl WordKind for AllTasksAction {
             Some(AllTasksAction::NoAction)
         } else if is_same(text, "terminatejob") {
             Some(AllTasksAction::TerminateJob)
+        } else {
+            None
+        }
+    }
+}
+
+/// What a job does when one of its tasks fails (Azure: onTaskFailure).
+#[derive(Clone, Copy, Debug, PartialEq, Eq)]
+pub enum FailureAction {
+    /// Nothing (Azure: noaction).
+    NoAction,
+    /// What the exit options of the task say (Azure: performexitoptionsjobaction).
+    PerformJobAction,
+}
+
+impl FailureAction {
+    /// Whether the job takes the actions of its tasks' exit options. It does not allocate.
+    pub fn is_performing(self) -> bool
+        ensures { result ≡ is_performing self }
+    {
+        match self {
+            FailureAction::NoAction => false,
+            FailureAction::PerformJobAction => true,
+        }
+    }
+}
+
+impl WordKind for FailureAction {
+    ghost of_text = { failure_word };
+
+    #[tactic(auto, unfolding(crate::specs::Words::failure_word))]
+    fn of_text(text: &str) -> Option<FailureAction> {
+        if is_same(text, "noaction") {
+            Some(FailureAction::NoAction)
+        } else if is_same(text, "performexitoptionsjobaction") {
+            Some(FailureAction::PerformJobAction)
+        } else {
+            None
+        }
+    }
+}
+
+/// What an ending of a task does to the tasks that depend on it (Azure: dependencyAction).
+#[derive(Clone, Copy, Debug, PartialEq, Eq)]
+pub enum DependencyAction {
+    /// They may go on (Azure: satisfy).
+    Satisfy,
+    /// They may not (Azure: block).
+    Block,
+}
+
+impl DependencyAction {
+    /// Whether dependent tasks may go on. It does not allocate.
+    pub fn is_satisfying(self) -> bool
+        ensures { result ≡ is_satisfying self }
+    {
+        match self {
+            DependencyAction::Satisfy => true,
+            DependencyAction::Block => false,
+        }
+    }
+}
+
+impl WordKind for DependencyAction {
+    ghost of_text = { dependency_word };
+
+    #[tactic(auto, unfolding(crate::specs::Words::dependency_word))]
+    fn of_text(text: &str) -> Option<DependencyAction> {
+        if is_same(text, "satisfy") {
+            Some(DependencyAction::Satisfy)
+        } else if is_same(text, "block") {
+            Some(DependencyAction::Block)
         } else {
             None
         }
