@@ -49,9 +49,12 @@ pub record IsDone (options : Options) (script : List ℕ) (seen : Observed) (sta
   pub begins : BeginsFrom options.seats seen.loaded opened
   pub history : List Entry
   pub legal : IsLegal options.seats opened history
-  -- at each moment of the history no node holds more slots than its pool has, each task is placed in free slots of its node,
-  -- a job is completed only where it has no placed task and no unended run, and has none while it is completed, and a release
-  -- run of a job is made on a node at most once, after its preparation was completed there
+  -- At each moment of the history no node holds more slots than its pool has. A task is placed only when it is ready, in free slots
+  -- of its node, and its run is taken only for its present attempt and after its job's preparation on the node, if that is waited
+  -- for. A run number is given once, and an ending of a run counts once. The failures of a task rise only by one, while they are
+  -- below the limit in force, and a start or preparation task is run again only within its retries. A job is completed only where
+  -- it has no placed task and no unended run, and has none while it is completed. A release run of a job is made on a node at most
+  -- once, after its preparation was completed there.
   pub laws : KeepsLaws options.seats opened history
   pub calls : map asked_of history ≡ take options.limit (calls_of (lines script))
   -- no due steps stopped because memory ran out
@@ -70,9 +73,7 @@ pub record IsBegun (options : Options) (script : List ℕ) (seen : Observed) : T
   pub begins : BeginsFrom options.seats seen.loaded opened
   pub history : List Entry
   pub legal : IsLegal options.seats opened history
-  -- at each moment of the history no node holds more slots than its pool has, each task is placed in free slots of its node,
-  -- a job is completed only where it has no placed task and no unended run, and has none while it is completed, and a release
-  -- run of a job is made on a node at most once, after its preparation was completed there
+  -- the same laws as of a script that was done
   pub laws : KeepsLaws options.seats opened history
   pub within : length history ≤ options.limit
   pub calls : map asked_of history ≡ take (length history) (calls_of (lines script))

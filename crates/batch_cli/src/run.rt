@@ -111,6 +111,10 @@ fn replay<R: Source, W: Sink, K: Keeper + Drop>(
 /// of each line before it makes the next call; then the tables. `formula` with its options reads a formula from the source to
 /// its end, evaluates it over no samples and no current values, and writes its results or its fault; it calls no keeper.
 ///
+/// At each moment of the history of a script the laws hold that stand at `Desk::call` of batch_desk: of slots, of ready tasks, of
+/// runs that are taken for the present attempt, of numbers that are given once and endings that count once, of retries within
+/// their limits, of jobs that end at rest, and of release runs that are made once (`laws` in `ran`).
+///
 /// If no count of faults can rise, as over objects that never fail, the last three clauses exclude the statuses of source, sink
 /// and keeper, and by `counted` of the history no call of it was left undone and no due steps were stopped by a fault.
 pub fn run_words<R: Source, W: Sink, K: Keeper + Drop>(

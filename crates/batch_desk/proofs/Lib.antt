@@ -1,8 +1,9 @@
 pub mod Causes
 pub mod DueRuns
+pub mod EndedOnce
 pub mod Entering
-pub mod ReleasesByEvents
-pub mod ReleasesByDues
+pub mod KeptThrough
 pub mod LawsHold
+pub mod MadeOnce
 pub mod Opened
 pub mod Saved

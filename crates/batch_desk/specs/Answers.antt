@@ -45,12 +45,12 @@ AnswersCall faults old new moment event (Done reply dues stop) =
     Enters old new (done_entry moment event reply (length dues) stop) (Done reply dues stop)
     × (stop ≡ FaultStop → Rose (faults old.keeper) (faults new.keeper))
 
--- what every desk is: its journal is a legal history from sound tables, which keeps the laws at every moment, its tables are
--- those after it, and its keeper tells them
+-- what every desk is: its journal is a legal history from sound tables, which keeps the laws, its tables are those after it, and
+-- its keeper tells them
 pub record IsInOrder {K : Type 0} (told : K → Option State) (faults : K → ℕ) (d : Desk K) : Type 0 where
   pub begun : IsSound d.seats d.opened
   pub legal : IsLegal d.seats d.opened d.entries
-  -- at each moment no node holds more slots than its pool has, and a completed job is at rest
+  -- those of slots, placed tasks, runs, retries and jobs at each moment, and that each run number is given once and each run ends once
   pub laws : KeepsLaws d.seats d.opened d.entries
   pub state : d.state ≡ after_all d.seats d.opened d.entries
   pub kept : Tells (told d.keeper) d.state

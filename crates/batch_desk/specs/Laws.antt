@@ -1,39 +1,54 @@
--- Laws that hold at every moment of a legal history.
-use Rattle.std.specs.Prelude.{◌≡◌, ◌≤◌, ℕ, max, List, ◌∷◌, ◌++◌, count_by, Option}
+-- Laws of a legal history.
+use Rattle.std.specs.Prelude.{◌≡◌, ◌≤◌, ℕ, max, List, ◌∷◌, ◌++◌, Option, Some}
+use Rattle.bt_rows.specs.declared.event.EventKind.{EventKind}
 use Rattle.bt_rows.specs.declared.refusal.Refusal.{Refusal}
-use Rattle.batch_model.specs.Laws.{HoldsWithinSlots, JobsEndAtRest, is_release_of, JobsReleaseOnce}
+use Rattle.batch_model.specs.Dues.{due_step}
+use Rattle.batch_model.specs.Events.{event_step}
+use Rattle.batch_model.specs.Laws.{HoldsWithinSlots, JobsEndAtRest, JobsReleaseOnce}
+use Rattle.batch_model.specs.Sound.{RunsBelong}
+use Rattle.batch_model.specs.Steps.{DueStep}
 use Rattle.batch_model.specs.Variants.{State}
+use Rattle.model_laws.specs.Releases.{releases_of}
+use Rattle.model_laws.specs.Retries.{EventRetries, DueRetries}
+use Rattle.model_laws.specs.Runs.{TakesPresent}
 use Rattle.batch_desk.specs.declared.entry.Entry.{Entry}
 use Rattle.batch_desk.specs.declared.entry.Mark.TheVariants.{Done}
 use Rattle.batch_desk.specs.History.{due_state, after_event, after_all}
+use Rattle.batch_desk.specs.Once.{MakesRunsOnce, EndsRunsOnce}
 
--- the tables that a history comes through: the opened ones, and those after the event of each call that was made and after
--- each of its due steps
+-- the tables that a history comes through: those before each call and after all, and those after the event of each call that was
+-- made and after each of its due steps
 pub data IsReached (seats : ℕ) (opened : State) (entries : List Entry) : State → Type 0 where
-  at_opening : IsReached seats opened entries opened
+  between_calls : (before rest : List Entry) → entries ≡ before ++ rest → IsReached seats opened entries (after_all seats opened before)
   in_call : (before : List Entry) (e : Entry) (rest : List Entry) (refusal : Option Refusal) (n : ℕ) → entries ≡ before ++ e ∷ rest → e.mark ≡ Done refusal →
       n ≤ e.dues → IsReached seats opened entries (due_state seats n (after_event (after_all seats opened before) e))
 
--- how many release runs of the job on the node are among the tables, whether they have ended or not
-abbrev pub releases_of : State → List ℕ → ℕ → ℕ
-releases_of s job node = count_by (is_release_of job node) s.runs
-
 -- the later tables have at most one release run of a job on a node, or no more than the earlier ones had; the runs of a job
--- go only with its row
+-- go only with its row or with their task
 abbrev pub HasFewReleases : State → State → Type 0
 HasFewReleases earlier later = (job : List ℕ) (node : ℕ) → releases_of later job node ≤ max (releases_of earlier job node) 1
 
--- What holds of the tables at each moment: no node holds more slots than its pool has, and the next due step that places a task
--- takes the slots that it requires from those that are free on a usable node of its job's pool; a completed job has no placed
--- task and no unended run, and the next due step that ends a job ends one without both; the next due step that makes a release
--- run of a job on a node makes the first one there, after the job's preparation was completed there, and more than one is only
--- where the opened tables had more.
+-- What holds of the tables at each moment, and of each step that may follow there. No node holds more slots than its pool has,
+-- and the next due step that places a task places one that is ready, on a usable node of its job's pool, in the slots that are
+-- free there. A completed job has no placed task and no unended run, and the next due step that ends a job ends one without both.
+-- The next due step that makes a release run of a job on a node makes the first one there, after the job's preparation was
+-- completed there, and more than one is only where the opened tables had more. An unended run of a task is of the present attempt
+-- of a placed task, and a `take` of it is accepted only so, after the preparation of its job on its node if that is waited for.
+-- The failures of a task rise only by a due step, by one, while they are below the limit in force, and begin at 0 if it is added
+-- or reactivated. A start or preparation run is made when its node or its preparation begins, and else only after a failure that
+-- left a retry.
 pub record HoldsLaws (seats : ℕ) (opened s : State) : Type 0 where
   pub slots : HoldsWithinSlots seats s
   pub ends : JobsEndAtRest seats s
   pub releases : JobsReleaseOnce seats s
   pub few : HasFewReleases opened s
+  pub belonging : RunsBelong s
+  pub takes : TakesPresent s
+  pub events : (moment : ℕ) (event : EventKind) → EventRetries s event (event_step moment event s).state
+  pub dues : (step : DueStep) → due_step seats s ≡ Some step → DueRetries s step
 
--- the laws hold at every moment of the history
-abbrev pub KeepsLaws : ℕ → State → List Entry → Type 0
-KeepsLaws seats opened entries = (s : State) → IsReached seats opened entries s → HoldsLaws seats opened s
+-- the laws hold at every moment of the history, each run number is given once, and each run ends once
+pub record KeepsLaws (seats : ℕ) (opened : State) (entries : List Entry) : Type 0 where
+  pub moments : (s : State) → IsReached seats opened entries s → HoldsLaws seats opened s
+  pub made : MakesRunsOnce seats opened entries
+  pub ended : EndsRunsOnce entries

@@ -3,4 +3,5 @@ pub mod Calls
 pub mod History
 pub mod Kept
 pub mod Laws
+pub mod Once
 pub mod Turns

@@ -186,9 +186,10 @@ impl<K: Keeper + Drop> Desk<K> {
     }
 
     /// Returns the keeper and the journal. The journal is a legal history, the keeper tells the tables after it, and
-    /// counted each keeper fault in it. At each moment of it the laws hold: no node holds more slots than its pool has, a
-    /// completed job has no placed task and no unended run, and a release run of a job is made on a node at most once, after its
-    /// preparation was completed there.
+    /// counted each keeper fault in it. At each moment of it the laws hold that stand at `call`: a task is placed only when it is
+    /// ready and in free slots, its run is taken only for the present attempt and after its preparation, a run number is given once
+    /// and an ending counts once, failures rise only by one and below the limit in force, start and preparation tasks are run again
+    /// only within their retries, and jobs end at rest and are released once on a node.
     pub fn close(self) -> (K, Journal)
         ensures keeper { result.0 ≡ self.keeper }
         ensures opened { result.1.opened.state ≡ self.opened }
@@ -217,9 +218,14 @@ impl<K: Keeper + Drop> Desk<K> {
     }
 
     /// Makes a call: the event, and then due steps until no rule applies or until one can't be made. Each is saved before
-    /// it is made. A full journal takes no call. At each moment of the history the laws hold: no node holds more slots than its
-    /// pool has, a completed job has no placed task and no unended run, and a release run of a job is made on a node at most once,
-    /// after its preparation was completed there.
+    /// it is made. A full journal takes no call.
+    ///
+    /// At each moment of the history the laws hold. No node holds more slots than its pool has. A task is placed only when it is
+    /// ready, and its run is taken only for the present attempt and after its job's preparation on the node, if that is waited
+    /// for. A run number is given once, and an ending of a run counts once. The failures of a task rise only by one, while they
+    /// are below the limit in force, and a start or preparation task is run again only within its retries. A completed job has no
+    /// placed task and no unended run. A release run of a job is made on a node at most once, after its preparation was completed
+    /// there.
     pub fn call(&mut self, alloc: Global, moment: Moment, event: Event) -> Answer
         ensures answers { AnswersCall K.faults self.old self.new moment event result }
         ensures same { HasSameOpening self.old self.new }
