@@ -1,0 +1,10 @@
+pub mod Texts
+pub mod Pools
+pub mod Nodes
+pub mod Jobs
+pub mod Tasks
+pub mod Runs
+pub mod Preps
+pub mod Samples
+pub mod Scales
+pub mod Rows

@@ -1,0 +1,19 @@
+use Rattle.std.proofs.Common.{true, sym, subst, ◌∙◌}
+use Rattle.row_keys.specs.Numbers.{number_at}
+use Rattle.tables_check.proofs.LabelSteps.{Splits, splits_first, splits_more}
+use Rattle.tables_check.proofs.labels.are_labels_rising.Goals as goal
+
+pub loop-sample-init : goal.loop-sample-init
+loop-sample-init c =
+    let labels = number_at c.new-labels.result in
+    let all = c.args.tables.now.state.samples in
+    subst (λ samples. Splits true labels samples all) (sym (c.into_iter-sample-iterator.ensures.into_iter_gives ∙ c.samples-sample-items.ensures))
+    (splits_first labels all c.new-labels.ensures)
+
+pub loop-sample-preserved : goal.loop-sample-preserved
+loop-sample-preserved c =
+    let all = c.args.tables.now.state.samples in
+    splits_more (number_at c.loop-sample.labels) (number_at c.put_label.new.labels) c.in-Some.sample.now c.next.new.self all
+    c.loop-sample.rising c.in_ok-above.above
+    c.in_ok-above.ensures.above c.in_ok-above.ensures.labels
+    (subst (λ samples. Splits c.loop-sample.rising (number_at c.loop-sample.labels) samples all) c.in-Some.ensures.steps c.loop-sample.invariant)

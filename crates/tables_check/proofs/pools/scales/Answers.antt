@@ -1,0 +1,10 @@
+use Rattle.std.proofs.Common.{sym}
+use Rattle.bt_rows.specs.Keys.{scale_has_pool}
+use Rattle.tables_check.proofs.Matching.{any_missed, any_found}
+use Rattle.tables_check.proofs.pools.scales.Goals as goal
+
+pub returns-in-None : goal.returns-in-None
+returns-in-None c = sym (any_missed (scale_has_pool c.args.pool.now) c.args.tables.now.state.scales (sym c.in-None.ensures))
+
+pub returns-in-Some : goal.returns-in-Some
+returns-in-Some c = sym (any_found (scale_has_pool c.args.pool.now) c.in-Some._row.now c.args.tables.now.state.scales (sym c.in-Some.ensures))

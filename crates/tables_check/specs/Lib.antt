@@ -1,0 +1,3 @@
+pub mod RowKeys
+pub mod Latest
+pub mod Rules
