@@ -3,6 +3,7 @@ ghost use Rattle.std.specs.Prelude.{◌≡◌, ◌≤◌, None, IfOk, IfErr, IfS
 ghost use Rattle.bt_rows.specs.Changes.{apply_changes};
 ghost use Rattle.batch_model.specs.Opening.{opening};
 ghost use Rattle.batch_model.specs.Sound.{IsSound};
+ghost use Rattle.machine_index.specs.Queued.{lowest_queued};
 ghost use Rattle.batch_keeper.specs.Told.{FailsWithCause};
 ghost use Rattle.batch_desk.specs.Kept.{Tells};
 ghost use Rattle.batch_desk.specs.Laws.{KeepsLaws};
@@ -169,6 +170,13 @@ impl<K: Keeper + Drop> Desk<K> {
         ensures sound { IsSound self.now.seats self.now.state }
     {
         self.saved.tables()
+    }
+
+    /// The least number of a queued run. None if no run is queued. It takes constant time, and does not allocate.
+    pub fn lowest_queued(&self) -> Option<u64>
+        ensures { result ≡ lowest_queued self.now.state.runs }
+    {
+        self.saved.lowest_queued()
     }
 
     /// The most calls that the journal takes.

@@ -5,6 +5,7 @@ ghost use Rattle.bt_rows.specs.declared.reply.Reply.TheVariants.{Step};
 ghost use Rattle.batch_model.specs.Dues.{due_step};
 ghost use Rattle.batch_model.specs.Events.{event_step};
 ghost use Rattle.batch_model.specs.Sound.{IsSound};
+ghost use Rattle.machine_index.specs.Queued.{lowest_queued};
 ghost use Rattle.batch_keeper.specs.Told.{FailsWithCause};
 ghost use Rattle.batch_desk.specs.Kept.{Tells};
 ghost use Rattle.batch_desk.specs.History.{due_state, due_list, StopsSo};
@@ -90,6 +91,13 @@ impl<K: Keeper + Drop> SavedMachine<K> {
         ensures sound { IsSound self.now.seats self.now.state }
     {
         self.machine.tables()
+    }
+
+    /// The least number of a queued run. None if no run is queued. It takes constant time, and does not allocate.
+    pub fn lowest_queued(&self) -> Option<u64>
+        ensures { result ≡ lowest_queued self.now.state.runs }
+    {
+        self.machine.lowest_queued()
     }
 
     /// How many seats there are.

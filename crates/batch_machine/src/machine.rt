@@ -8,6 +8,7 @@ ghost use Rattle.batch_model.specs.Dues.{due_step};
 ghost use Rattle.batch_model.specs.Events.{at_moment, event_step};
 ghost use Rattle.batch_model.specs.Sound.{IsSound};
 ghost use Rattle.batch_model.specs.WellFormed.{IsWellFormed};
+ghost use Rattle.machine_index.specs.Queued.{lowest_queued};
 ghost use Rattle.machine_plans.specs.Plans.{IsPlanOf, IsRule, moved_to};
 ghost use Rattle.batch_machine.specs.Machines.{IsMade, IsOpened};
 
@@ -72,6 +73,13 @@ impl Machine {
         ensures sound { IsSound self.now.seats self.now.state }
     {
         self.indexed.tables()
+    }
+
+    /// The least number of a queued run. None if no run is queued. It takes constant time, and does not allocate.
+    pub fn lowest_queued(&self) -> Option<u64>
+        ensures { result ≡ lowest_queued self.now.state.runs }
+    {
+        self.indexed.lowest_queued()
     }
 
     /// The reply to an event at a moment, and the changes that it makes. A refusal is a reply; it changes nothing but the

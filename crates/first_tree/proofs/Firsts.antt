@@ -29,7 +29,7 @@ first_at bound (x ∷ xs) (suc k) l p h =
     ∙ ap (option_map suc) (first_at bound xs k (omega arith) p (λ i low. h (suc i) (omega arith)))
 
 -- a rank is a leaf
-leaf_at : (nodes : List ℕ) (size len i : ℕ) → i < len → get_or (take len (drop size nodes)) i 0 ≡ get_or nodes (size + i) 0
+pub leaf_at : (nodes : List ℕ) (size len i : ℕ) → i < len → get_or (take len (drop size nodes)) i 0 ≡ get_or nodes (size + i) 0
 leaf_at nodes size len i l = get_or-take len (drop size nodes) i 0 l ∙ get_or-drop size nodes i 0
 
 -- the number of ranks

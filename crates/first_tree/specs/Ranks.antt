@@ -1,5 +1,5 @@
 -- What contracts see of a tree: the list of its ranks, and its room.
-use Rattle.std.specs.Prelude.{◌≡◌, ℕ, suc, ◌+◌, ◌-◌, ◌^◌, ◌<◌, ◌≤◌, List, [], ◌∷◌, length, drop, slice_index, nat_le, Option, Some, None, if◌then◌else◌}
+use Rattle.std.specs.Prelude.{◌≡◌, ℕ, suc, ◌+◌, ◌-◌, ◌^◌, ◌<◌, ◌≤◌, List, [], ◌∷◌, length, drop, slice_index, nat_le, min, Option, Some, None, if◌then◌else◌}
 use Rattle.std.specs.Option.{option_map}
 use Rattle.first_tree.specs.Nodes.{IsTree, IsPower}
 
@@ -16,6 +16,11 @@ no_rank = 2 ^ 64 - 1
 abbrev pub first_within : ℕ → List ℕ → Option ℕ
 first_within bound [] = None
 first_within bound (rank ∷ ranks) = if nat_le rank bound then Some 0 else option_map suc (first_within bound ranks)
+
+-- the least of the ranks, and no rank if there are none
+abbrev pub least_rank : List ℕ → ℕ
+least_rank [] = no_rank
+least_rank (rank ∷ ranks) = min rank (least_rank ranks)
 
 -- a tree over `size` leaves, of which the first `len` are ranks and the rest no rank
 pub record IsWhole (nodes : List ℕ) (size len : ℕ) : Type 0 where

@@ -1,7 +1,7 @@
 //! The tree over a list of ranks.
 ghost use Rattle.std.specs.Prelude.{◌≡◌, ◌+◌, ◌*◌, ◌<◌, ◌≤◌, ◌-◌, ◌^◌, length, drop, take, set, replicate, [], ◌∷◌, ◌++◌, slice_index, OnOk, IfOk};
 ghost use Rattle.first_tree.specs.Nodes.{IsTree, IsPower, IsSizeFor};
-ghost use Rattle.first_tree.specs.Ranks.{Ranks, no_rank, first_within, IsWhole};
+ghost use Rattle.first_tree.specs.Ranks.{Ranks, no_rank, first_within, least_rank, IsWhole};
 
 use crate::nodes;
 use bt_base::NoMemory;
@@ -144,6 +144,13 @@ impl FirstTree {
         self.nodes = nodes;
         self.size = size;
         Ok(())
+    }
+
+    /// The least of the ranks, and `NO_RANK` if there are none. It takes constant time, and does not allocate.
+    pub fn least(&self) -> u64
+        ensures { result ≡ least_rank self.now.items }
+    {
+        self.nodes[1]
     }
 
     /// The place of the first rank that is at most the bound, which is below `NO_RANK`. None if all ranks are above it.

@@ -16,21 +16,26 @@ use Rattle.machine_index.specs.Indexed.{IsIndexed}
 use Rattle.machine_index.specs.Over.{AreOver, IsRunStep, over_rank, place_named, place_of_run, with_rank}
 use Rattle.machine_index.specs.Active.{AreItemsOf}
 use Rattle.machine_index.specs.Timed.{AreTimed}
+use Rattle.machine_index.specs.Queued.{AreQueued}
 use Rattle.machine_index.proofs.OverRanks.{over_step}
 use Rattle.machine_index.proofs.ActiveItems.{items_length}
 use Rattle.machine_index.proofs.RunSteps.{found_at, step_put, step_clear}
+use Rattle.machine_index.proofs.QueuedRanks.{queued_length}
 use Rattle.machine_index.proofs.TimedRanks.{timed_length}
 
 -- of the tasks and the runs that are these
-pub indexed_at : (tasks others : List (Option TaskRow)) (slots placed : List (Option RunRow)) (view : ChainsView) (groups : GroupsView) (ranks : Ranks) (sums : SumsView) (times : Ranks)
+pub indexed_at : (tasks others : List (Option TaskRow)) (slots placed : List (Option RunRow)) (view : ChainsView) (groups : GroupsView)
+    (ranks : Ranks) (sums : SumsView) (times numbers : Ranks)
     → others ≡ tasks → placed ≡ slots → HasRuns view slots → AreItemsOf tasks groups.items → AreOver (rows slots) tasks ranks.items
-    → HasHeld sums (rows tasks) slots → AreTimed tasks times.items → IsIndexed others placed view groups ranks sums times
-indexed_at tasks others slots placed view groups ranks sums times e f runs active over held timed = record {
+    → HasHeld sums (rows tasks) slots → AreTimed tasks times.items → AreQueued slots numbers.items
+    → IsIndexed others placed view groups ranks sums times numbers
+indexed_at tasks others slots placed view groups ranks sums times numbers e f runs active over held timed queued = record {
   runs = rw f runs;
   active = rw e active;
   over = rw (e, f) over;
   held = rw (e, f) held;
   timed = rw e timed;
+  queued = rw f queued;
 }
 
 module _ {R : Type 0} where
@@ -125,12 +130,15 @@ over_after was is slots placed tasks others runs p q ranks first second apart st
     rw (j, i, g, h, f, e) (over_step was is slots placed tasks ranks apart step (run_within tasks was) (run_within tasks is) over)
 
 -- with other room
-pub indexed_kept : (tasks others : List (Option TaskRow)) (slots placed : List (Option RunRow)) (view changed : ChainsView) (groups grouped : GroupsView) (ranks ranked : Ranks) (sums summed : SumsView) (times timed : Ranks)
+pub indexed_kept : (tasks others : List (Option TaskRow)) (slots placed : List (Option RunRow)) (view changed : ChainsView)
+    (groups grouped : GroupsView) (ranks ranked : Ranks) (sums summed : SumsView) (times timed : Ranks) (numbers numbered : Ranks)
     → others ≡ tasks → placed ≡ slots → (HasRuns view slots → HasRuns changed slots) → grouped.items ≡ groups.items → ranked.items ≡ ranks.items
-    → (HasHeld sums (rows tasks) slots → HasHeld summed (rows tasks) slots) → timed.items ≡ times.items → IsIndexed tasks slots view groups ranks sums times
-    → IsIndexed others placed changed grouped ranked summed timed
-indexed_kept tasks others slots placed view changed groups grouped ranks ranked sums summed times timed e f runs active over held later indexed =
-    indexed_at tasks others slots placed changed grouped ranked summed timed e f (runs indexed.runs) (rw active indexed.active) (rw over indexed.over) (held indexed.held) (rw later indexed.timed)
+    → (HasHeld sums (rows tasks) slots → HasHeld summed (rows tasks) slots) → timed.items ≡ times.items → numbered.items ≡ numbers.items
+    → IsIndexed tasks slots view groups ranks sums times numbers → IsIndexed others placed changed grouped ranked summed timed numbered
+indexed_kept tasks others slots placed view changed groups grouped ranks ranked sums summed times timed numbers numbered e f runs active over held later queued
+    indexed =
+    indexed_at tasks others slots placed changed grouped ranked summed timed numbered e f (runs indexed.runs) (rw active indexed.active)
+    (rw over indexed.over) (held indexed.held) (rw later indexed.timed) (rw queued indexed.queued)
 
 -- a place that was found is one of the parts'
 pub within_active : (test : TaskRow → Bool) (place : Option ℕ) (tasks : List (Option TaskRow)) (groups : GroupsView) → place ≡ place_of test tasks → AreItemsOf tasks groups.items
@@ -151,6 +159,14 @@ within_over test (Some at) tasks ranks e long =
 pub within_timed : (test : TaskRow → Bool) (place : Option ℕ) (tasks : List (Option TaskRow)) (ranks : List ℕ) → place ≡ place_of test tasks → AreTimed tasks ranks
     → IfSome place (λ at. at < length ranks)
 within_timed test place tasks ranks e timed = within_over test place tasks ranks e (timed_length tasks ranks timed)
+
+pub within_queued : (test : RunRow → Bool) (place : Option ℕ) (slots : List (Option RunRow)) (ranks : List ℕ)
+    → place ≡ place_of test slots → AreQueued slots ranks → IfSome place (λ at. at < length ranks)
+within_queued test None slots ranks e queued = tt
+within_queued test (Some at) slots ranks e queued =
+    let within = place_of_within test slots at (sym e) in
+    let long = queued_length slots ranks queued in
+    omega (arith, within, long)
 
 pub within_named : (run : Option RunRow) (place : Option ℕ) (tasks : List (Option TaskRow)) (ranks : List ℕ) → place ≡ place_of_run tasks run → length ranks ≡ length tasks
     → IfSome place (λ at. at < length ranks)

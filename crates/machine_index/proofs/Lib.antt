@@ -7,6 +7,7 @@ pub mod LowestPlaces
 pub mod RunPlaces
 pub mod NextPlaces
 pub mod OverRanks
+pub mod QueuedRanks
 pub mod ActiveItems
 pub mod RunSteps
 pub mod TimedRanks

@@ -10,6 +10,7 @@ use Rattle.machine_index.specs.Held.{SumsView, HasHeld}
 use Rattle.machine_index.specs.Over.{AreOver}
 use Rattle.machine_index.specs.Active.{AreItemsOf}
 use Rattle.machine_index.specs.Timed.{AreTimed}
+use Rattle.machine_index.specs.Queued.{AreQueued}
 
 -- what contracts see of the tables: the state, and how many changes can be made without allocating
 pub record IndexedView : Type 0 where
@@ -17,18 +18,21 @@ pub record IndexedView : Type 0 where
   pub room : ℕ
 
 -- each part is that of these tasks and runs
-pub record IsIndexed (tasks : List (Option TaskRow)) (slots : List (Option RunRow)) (view : ChainsView) (groups : GroupsView) (ranks : Ranks) (sums : SumsView) (times : Ranks) : Type 0 where
+pub record IsIndexed (tasks : List (Option TaskRow)) (slots : List (Option RunRow)) (view : ChainsView) (groups : GroupsView)
+    (ranks : Ranks) (sums : SumsView) (times numbers : Ranks) : Type 0 where
   pub runs : HasRuns view slots
   pub active : AreItemsOf tasks groups.items
   pub over : AreOver (rows slots) tasks ranks.items
   pub held : HasHeld sums (rows tasks) slots
   pub timed : AreTimed tasks times.items
+  pub queued : AreQueued slots numbers.items
 
 -- the tables and each part have room for so many changes
-pub record HasRoom (room tables runs active over held timed : ℕ) : Type 0 where
+pub record HasRoom (room tables runs active over held timed queued : ℕ) : Type 0 where
   pub of_tables : room ≤ tables
   pub of_runs : room ≤ runs
   pub of_active : room ≤ active
   pub of_over : room ≤ over
   pub of_held : room ≤ held
   pub of_timed : room ≤ timed
+  pub of_queued : room ≤ queued

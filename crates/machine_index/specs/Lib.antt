@@ -4,3 +4,4 @@ pub mod Indexed
 pub mod Over
 pub mod Active
 pub mod Timed
+pub mod Queued

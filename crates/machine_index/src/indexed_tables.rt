@@ -11,10 +11,12 @@ ghost use Rattle.batch_model.specs.Variants.{TaskRow, RunRow};
 ghost use Rattle.machine_index.specs.Over.{AreOver, place_of_run};
 ghost use Rattle.machine_index.specs.Active.{AreItemsOf, is_active_within};
 ghost use Rattle.machine_index.specs.Timed.{AreTimed, is_overdue};
+ghost use Rattle.machine_index.specs.Queued.{AreNumbered, lowest_queued};
 
 use crate::active_tasks::ActiveTasks;
 use crate::held_slots::HeldSlots;
 use crate::placed_tasks::{PlacedTasks, place_of_run};
+use crate::queued_runs::QueuedRuns;
 use crate::runs_of_attempts::RunsOfAttempts;
 use crate::timed_tasks::TimedTasks;
 use bt_base::{Id, List, Moment, NoMemory};
@@ -35,6 +37,7 @@ pub struct IndexedTables {
     over: PlacedTasks,
     held: HeldSlots,
     timed: TimedTasks,
+    queued: QueuedRuns,
     room: usize,
 }
 
@@ -45,7 +48,7 @@ impl Model for IndexedTables {
 
     ghost view = { λ i. record { state = i.tables.state; room = i.room } };
 
-    ghost invariant = { λ i. IsIndexed i.tables.task_slots i.tables.run_slots i.runs i.active i.over i.held i.timed × HasRoom i.room i.tables.room i.runs.room i.active.room i.over.room i.held.room i.timed.room };
+    ghost invariant = { λ i. IsIndexed i.tables.task_slots i.tables.run_slots i.runs i.active i.over i.held i.timed i.queued × HasRoom i.room i.tables.room i.runs.room i.active.room i.over.room i.held.room i.timed.room i.queued.room };
 }
 
 /// The place of the task that the run at this place names.
@@ -105,6 +108,7 @@ impl IndexedTables {
         let over = PlacedTasks::of_tables(alloc, &tables, &runs)?;
         let held = HeldSlots::of_tables(alloc, &tables)?;
         let timed = TimedTasks::of_tables(alloc, &tables)?;
+        let queued = QueuedRuns::of_tables(alloc, &tables)?;
         Ok(IndexedTables {
             tables,
             runs,
@@ -112,6 +116,7 @@ impl IndexedTables {
             over,
             held,
             timed,
+            queued,
             room: 0,
         })
     }
@@ -159,6 +164,7 @@ impl IndexedTables {
         self.over.reserve(additional)?;
         self.held.reserve(additional)?;
         self.timed.reserve(additional)?;
+        self.queued.reserve(additional)?;
         self.room = additional;
         Ok(())
     }
@@ -214,6 +220,7 @@ impl IndexedTables {
         self.tables.keys_known();
         self.held.release_run(&self.tables, place);
         self.runs.add(&run, place);
+        self.queued.put(before, &run);
         self.tables.apply_one(Change::PutRun(run));
         self.tables.places_known();
         self.tables.keys_known();
@@ -235,6 +242,7 @@ impl IndexedTables {
         self.tables.places_known();
         self.tables.keys_known();
         self.held.release_run(&self.tables, place);
+        self.queued.clear(before);
         self.tables.apply_one(Change::DropRun(number));
         self.tables.places_known();
         self.over.refresh(&self.tables, &self.runs, old_task);
@@ -298,6 +306,14 @@ impl IndexedTables {
         ensures { option_copied result ≡ find (is_active_within job.now most) self.now.state.tasks }
     {
         self.active.first(&self.tables, job, most)
+    }
+
+    /// The least number of a queued run. None if no run is queued. It takes constant time, and does not allocate.
+    pub fn lowest_queued(&self) -> Option<u64>
+        requires { AreNumbered self.now.state }
+        ensures { result ≡ lowest_queued self.now.state.runs }
+    {
+        self.queued.lowest(&self.tables)
     }
 
     /// Whether a run of the task's present attempt has not ended.

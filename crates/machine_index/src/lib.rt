@@ -1,5 +1,5 @@
-//! What the due rules look for, kept beside the tables: each part follows every change of the tables, so that none walks them.
-//! Places are those of the tables' tasks and runs.
+//! What the due rules and callers look for, kept beside the tables: each part follows every change of the tables, so that none walks
+//! them. Places are those of the tables' tasks and runs.
 #![tactic(auto)]
 
 mod active_tasks;
@@ -8,6 +8,7 @@ mod held_slots;
 mod indexed_tables;
 mod node_sums;
 mod placed_tasks;
+mod queued_runs;
 mod row_tests;
 mod runs_of_attempts;
 mod timed_tasks;
@@ -16,5 +17,6 @@ pub use active_tasks::ActiveTasks;
 pub use held_slots::HeldSlots;
 pub use indexed_tables::IndexedTables;
 pub use placed_tasks::{PlacedTasks, place_of_run};
+pub use queued_runs::QueuedRuns;
 pub use runs_of_attempts::RunsOfAttempts;
 pub use timed_tasks::TimedTasks;

@@ -1,7 +1,7 @@
 //! Tests of single rows.
 ghost use Rattle.std.specs.Prelude.{◌≡◌, ◌&&◌};
 ghost use Rattle.batch_model.specs.Finding.{names};
-ghost use Rattle.batch_model.specs.Runs.{is_present, is_busy_for, is_main, is_unended};
+ghost use Rattle.batch_model.specs.Runs.{is_present, is_busy_for, is_main, is_queued, is_unended};
 ghost use Rattle.batch_model.specs.Tasks.{is_placed, is_undisturbed};
 ghost use Rattle.machine_index.specs.Timed.{is_timed};
 
@@ -52,6 +52,13 @@ fn is_unended(state: RunState) -> bool
     ensures { result ≡ is_unended state }
 {
     !matches!(state, RunState::Ended(_) | RunState::Withdrawn)
+}
+
+/// Whether the run is queued.
+pub fn is_queued(run: &RunRow) -> bool
+    ensures { result ≡ is_queued run.now.state }
+{
+    matches!(run.state, RunState::Queued)
 }
 
 /// Whether the run is of the task's present attempt and has not ended.

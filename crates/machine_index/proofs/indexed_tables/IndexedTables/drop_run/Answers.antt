@@ -1,13 +1,21 @@
 use Rattle.std.proofs.Common.{◌≡◌, List, Option, None, ℕ, length, refl, sym, ap, subst, ◌∙◌, rules}
 use Rattle.std.specs.Option.{unwrap_or}
 use Rattle.kept_table.specs.Slots.{slot_at, rows, clear_at}
-use Rattle.batch_model.specs.Variants.{TaskRow}
+use Rattle.bt_rows.specs.Keys.{run_has_number}
+use Rattle.batch_model.specs.Variants.{TaskRow, RunRow}
 use Rattle.machine_index.specs.Attempts.{HasRuns}
 use Rattle.machine_index.specs.Active.{AreItemsOf}
 use Rattle.machine_index.specs.Timed.{AreTimed}
-use Rattle.machine_index.proofs.IndexedSteps.{within_named, over_after, clear_step, held_cleared}
+use Rattle.machine_index.specs.Queued.{AreQueued}
+use Rattle.machine_index.proofs.IndexedSteps.{within_queued, within_named, over_after, clear_step, held_cleared}
 use Rattle.machine_index.proofs.RunPlaces.{runs_cleared}
 use Rattle.machine_index.proofs.indexed_tables.IndexedTables.drop_run.Goals as goal
+
+pub clear-requires : goal.clear-requires
+clear-requires c =
+    let s = c.self.inside in
+    within_queued (run_has_number c.args.number) c.run_place-before.result s.tables.run_slots s.queued.items c.run_place-before.ensures
+    c.self.invariant.0.queued
 
 pub refresh-requires-clause-runs : goal.refresh-requires-clause-runs
 refresh-requires-clause-runs c =
@@ -45,6 +53,7 @@ invariant_of-self c =
             held_cleared c.release_run.new.self before t.state.tasks (rows new.task_slots) t.run_slots new.run_slots c.unwrap_or-place.result
             (ap rows c.apply_one.ensures.tasks ∙ c.places_known.ensures.tasks) placed place c.release_run.ensures.held;
         timed = subst (λ (ts : List (Option TaskRow)). AreTimed ts s.timed.items) (sym c.apply_one.ensures.tasks) old.timed;
+        queued = subst (λ (ss : List (Option RunRow)). AreQueued ss c.clear.new.self.items) (sym placed) (c.clear.ensures.ranks t.run_slots old.queued);
       },
       search rules,
     )

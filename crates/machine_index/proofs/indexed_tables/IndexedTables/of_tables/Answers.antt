@@ -13,6 +13,7 @@ invariant_of-result c =
         over = subst (λ (rs : List RunRow). AreOver rs t.task_slots c.in_ok-over.over.items) (sym c.places_known.ensures.runs) c.in_ok-over.ensures;
         held = subst (λ (ts : List TaskRow). HasHeld c.in_ok-held.held ts t.run_slots) (sym c.places_known.ensures.tasks) c.in_ok-held.ensures;
         timed = c.in_ok-timed.ensures;
+        queued = c.in_ok-queued.ensures;
       },
       search rules,
     )

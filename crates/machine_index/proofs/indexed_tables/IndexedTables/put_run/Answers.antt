@@ -1,13 +1,21 @@
 use Rattle.std.proofs.Common.{◌≡◌, List, Option, Some, ℕ, length, sym, ap, subst, ◌∙◌, rules}
 use Rattle.std.specs.Option.{unwrap_or}
 use Rattle.kept_table.specs.Slots.{slot_at, rows, put_at}
-use Rattle.batch_model.specs.Variants.{TaskRow}
+use Rattle.bt_rows.specs.Keys.{run_has_number}
+use Rattle.batch_model.specs.Variants.{TaskRow, RunRow}
 use Rattle.machine_index.specs.Attempts.{HasRuns}
 use Rattle.machine_index.specs.Held.{HasHeld}
 use Rattle.machine_index.specs.Active.{AreItemsOf}
 use Rattle.machine_index.specs.Timed.{AreTimed}
-use Rattle.machine_index.proofs.IndexedSteps.{within_named, within_again, over_after, put_step, held_beside_run}
+use Rattle.machine_index.specs.Queued.{AreQueued}
+use Rattle.machine_index.proofs.IndexedSteps.{within_queued, within_named, within_again, over_after, put_step, held_beside_run}
 use Rattle.machine_index.proofs.indexed_tables.IndexedTables.put_run.Goals as goal
+
+pub put-requires-clause-place : goal.put-requires-clause-place
+put-requires-clause-place c =
+    let s = c.self.inside in
+    within_queued (run_has_number c.args.run.number) c.run_place-before.result s.tables.run_slots s.queued.items c.run_place-before.ensures
+    c.self.invariant.0.queued
 
 pub hold_run-requires-clause-held : goal.hold_run-requires-clause-held
 hold_run-requires-clause-held c =
@@ -54,6 +62,7 @@ invariant_of-self c =
         held =
             subst (λ (ts : List TaskRow). HasHeld c.hold_run.new.self ts new.run_slots) (sym c.places_known-2.ensures.tasks) c.hold_run.ensures.held;
         timed = subst (λ (ts : List (Option TaskRow)). AreTimed ts s.timed.items) (sym c.apply_one.ensures.tasks) old.timed;
+        queued = subst (λ (ss : List (Option RunRow)). AreQueued ss c.put.new.self.items) (sym placed) (c.put.ensures.ranks t.run_slots old.queued);
       },
       search rules,
     )
