@@ -1,2 +1,2 @@
-pub mod CommandRanges
-pub mod CommandsRead
+pub mod OptionsRead
+pub mod Texts

@@ -1,127 +1,94 @@
 -- The words of the command line: a command, and its options in any order, each at most once, as `--name value` or as
--- `--name=value`.
-use Rattle.std.specs.Prelude.{ℕ, suc, ◌==◌, Bool, true, false, ◌&&◌, List, [], ◌∷◌, Option, Some, None, option_map, option_and_then, codes, drop, filter, length, map, nat_le, take, if◌then◌else◌}
-use Rattle.std.specs.Option.{option_map_or}
-use Rattle.std.specs.List.{find, position}
-use Rattle.std.specs.Str.{bytes_eq}
+-- `--name=value`, or the number of tasks of a drill. The grammar of options stands in option_words.
+use Rattle.std.specs.Prelude.{ℕ, Bool, ◌&&◌, List, [], ◌∷◌, Option, Some, None, option_map, option_and_then, codes, length, nat_le, if◌then◌else◌}
+use Rattle.std.specs.List.{find, list_all}
+use Rattle.std.specs.Str.{bytes_eq, is_utf8}
 use Rattle.bt_base.specs.Moments.{last_moment}
+use Rattle.option_words.specs.Options.{Setting, Text, settings_in, value_for}
 use Rattle.wire_numbers.specs.Numbers.{number_in}
 use Rattle.bt_rows.specs.declared.limits.TheConstants.{SEAT_LIMIT, TARGET_LIMIT}
-use Rattle.cli_words.specs.declared.command.TheConstants.{DEFAULT_SEATS, JOURNAL_LIMIT}
+use Rattle.cli_words.specs.declared.command.TheConstants.{DEFAULT_SEATS, DRILL_LIMIT, JOURNAL_LIMIT}
+use Rattle.cli_words.specs.declared.number.TheConstants.{DIGIT_LIMIT}
 use Rattle.cli_words.specs.declared.command_name.CommandName.{CommandName}
 use Rattle.cli_words.specs.declared.command_name.CommandName.TheVariants as names
-use Rattle.cli_words.specs.declared.option_name.OptionName.{OptionName}
-use Rattle.cli_words.specs.declared.option_name.OptionName.TheVariants.{Seats, Journal, Now, Dedicated}
 use Rattle.cli_words.specs.declared.command.Command.{Command}
-use Rattle.cli_words.specs.declared.command.Command.TheVariants.{Replay, Formula}
+use Rattle.cli_words.specs.declared.command.Command.TheVariants.{Replay, Formula, Export, Drill}
+use Rattle.cli_words.specs.declared.command.Invocation.{Invocation}
 
--- the name of a command
-unfoldable pub command_text : CommandName → List ℕ
+-- the name of a command that has options
+unfoldable pub command_text : CommandName → Text
 command_text names.Replay = codes "replay"
 command_text names.Formula = codes "formula"
-
--- the name of an option
-unfoldable pub option_text : OptionName → List ℕ
-option_text Seats = codes "--seats"
-option_text Journal = codes "--journal"
-option_text Now = codes "--now"
-option_text Dedicated = codes "--dedicated"
+command_text names.Export = codes "export"
 
 -- the command with this name
-unfoldable pub command_in : List ℕ → Option CommandName
-command_in text = find (λ name. bytes_eq text (command_text name)) (names.Replay ∷ names.Formula ∷ [])
+unfoldable pub command_in : Text → Option CommandName
+command_in text = find (λ name. bytes_eq text (command_text name)) (names.Replay ∷ names.Formula ∷ names.Export ∷ [])
 
--- the option with this name
-unfoldable pub option_in : List ℕ → Option OptionName
-option_in text = find (λ name. bytes_eq text (option_text name)) (Seats ∷ Journal ∷ Now ∷ Dedicated ∷ [])
+-- the names of its options
+unfoldable pub options_of : CommandName → List Text
+options_of names.Replay = codes "seats" ∷ codes "journal" ∷ codes "store" ∷ []
+options_of names.Formula = codes "now" ∷ codes "dedicated" ∷ []
+options_of names.Export = codes "store" ∷ []
 
--- the option is this one
-abbrev pub is_seats : OptionName → Bool
-is_seats Seats = true
-is_seats _ = false
-
-abbrev pub is_journal : OptionName → Bool
-is_journal Journal = true
-is_journal _ = false
-
-abbrev pub is_now : OptionName → Bool
-is_now Now = true
-is_now _ = false
-
-abbrev pub is_dedicated : OptionName → Bool
-is_dedicated Dedicated = true
-is_dedicated _ = false
-
--- an option and the text of its value
-abbrev pub Setting : Type 0
-Setting = OptionName × List ℕ
-
--- a word that is an option, `=` and the text of its value
-abbrev pub joined_in : List ℕ → Option Setting
-joined_in word = option_and_then (λ i. option_map (λ name. (name, drop (suc i) word)) (option_in (take i word))) (position (λ b. b == 61) word)
-
--- a word that is an option, and the text of its value after it
-abbrev pub parted_in : List ℕ → List ℕ → Option Setting
-parted_in word value = option_map (λ name. (name, value)) (option_in word)
-
--- the options that the words give, and the texts of their values
-abbrev pub settings_in : List (List ℕ) → Option (List Setting)
-settings_in [] = Some []
-settings_in (word ∷ []) = option_map (λ setting. setting ∷ []) (joined_in word)
-settings_in (word ∷ next ∷ rest) =
-    option_map_or (λ setting. option_map (λ more. setting ∷ more) (settings_in (next ∷ rest))) (joined_in word)
-    (option_and_then (λ setting. option_map (λ more. setting ∷ more) (settings_in rest)) (parted_in word next))
+-- whether the word is the name of `drill`, which has no options
+unfoldable pub is_drill : Text → Bool
+is_drill word = bytes_eq word (codes "drill")
 
 -- a number of 1 to 20 digits from `low` to `high`
-abbrev pub number_from_to : ℕ → ℕ → List ℕ → Option ℕ
+abbrev pub number_from_to : ℕ → ℕ → Text → Option ℕ
 number_from_to low high text =
-    if nat_le (length text) 20 then option_and_then (λ n. if nat_le low n && nat_le n high then Some n else None) (number_in text)
+    if nat_le (length text) DIGIT_LIMIT then option_and_then (λ n. if nat_le low n && nat_le n high then Some n else None) (number_in text)
     else None
 
--- the number of an option: 1 to 32 seats, a journal of 1 to 4,000,000 calls, a moment up to the year 9999, up to 1,000 nodes
-abbrev pub number_for : OptionName → List ℕ → Option ℕ
-number_for Seats text = number_from_to 1 SEAT_LIMIT text
-number_for Journal text = number_from_to 1 JOURNAL_LIMIT text
-number_for Now text = number_from_to 0 last_moment text
-number_for Dedicated text = number_from_to 0 TARGET_LIMIT text
+-- the same, or the usual number if no text is given
+abbrev pub number_or : ℕ → ℕ → ℕ → Option Text → Option ℕ
+number_or usual low high None = Some usual
+number_or usual low high (Some text) = number_from_to low high text
 
--- the texts that are given to these options
-abbrev pub texts_for : (OptionName → Bool) → List Setting → List (List ℕ)
-texts_for test settings = map (λ setting. setting.1) (filter (λ setting. test setting.0) settings)
+-- `replay` with the texts of `--seats`, 1 to 32 and by default 8, and `--journal`, 1 to 4,000,000 and by default that many
+abbrev pub replay_with : Option Text → Option Text → Option Command
+replay_with seats journal =
+    option_and_then (λ count. option_map (λ calls. Replay (record { seats = count; limit = calls }))
+    (number_or JOURNAL_LIMIT 1 JOURNAL_LIMIT journal)) (number_or DEFAULT_SEATS 1 SEAT_LIMIT seats)
 
--- the value of an option: the default if no text is given, and none if more than one is
-abbrev pub value_of : (List ℕ → Option ℕ) → ℕ → List (List ℕ) → Option ℕ
-value_of read usual [] = Some usual
-value_of read usual (text ∷ []) = read text
-value_of read usual (text ∷ next ∷ more) = None
+-- `formula` with the texts of `--now`, a moment up to the year 9999, and `--dedicated`, 0 to 1,000, both by default 0
+abbrev pub formula_with : Option Text → Option Text → Option Command
+formula_with now dedicated =
+    option_and_then (λ moment. option_map (λ nodes. Formula (record { now = moment; dedicated = nodes }))
+    (number_or 0 0 TARGET_LIMIT dedicated)) (number_or 0 0 last_moment now)
 
--- a command that does not have an option, for which texts are given or not
-abbrev pub unless_given : List (List ℕ) → Option Command → Option Command
-unless_given [] command = command
-unless_given (text ∷ texts) command = None
-
--- the command with both values
-abbrev pub replay_with : Option ℕ → Option ℕ → Option Command
-replay_with (Some count) (Some most) = Some (Replay (record { seats = count; limit = most }))
-replay_with (Some count) None = None
-replay_with None most = None
-
--- the command with both values
-abbrev pub formula_with : Option ℕ → Option ℕ → Option Command
-formula_with (Some moment) (Some nodes) = Some (Formula (record { now = moment; dedicated = nodes }))
-formula_with (Some moment) None = None
-formula_with None nodes = None
-
--- the command with the values of the settings, and the defaults of its other options
+-- the command with the values of the settings
 abbrev pub command_with : CommandName → List Setting → Option Command
-command_with names.Replay settings =
-    unless_given (texts_for is_now settings) (unless_given (texts_for is_dedicated settings)
-    (replay_with (value_of (number_for Seats) DEFAULT_SEATS (texts_for is_seats settings)) (value_of (number_for Journal) JOURNAL_LIMIT (texts_for is_journal settings))))
-command_with names.Formula settings =
-    unless_given (texts_for is_seats settings) (unless_given (texts_for is_journal settings)
-    (formula_with (value_of (number_for Now) 0 (texts_for is_now settings)) (value_of (number_for Dedicated) 0 (texts_for is_dedicated settings))))
+command_with names.Replay settings = replay_with (value_for (codes "seats") settings) (value_for (codes "journal") settings)
+command_with names.Formula settings = formula_with (value_for (codes "now") settings) (value_for (codes "dedicated") settings)
+command_with names.Export settings = Some Export
 
--- the command that the words are, with its options
-abbrev pub command_of : List (List ℕ) → Option Command
+-- the path that a text is, which is not empty; `Some None` if no text is given
+abbrev pub path_in : Option Text → Option (Option Text)
+path_in None = Some None
+path_in (Some []) = None
+path_in (Some (b ∷ bs)) = Some (Some (b ∷ bs))
+
+-- the same command, with the path of its store
+abbrev pub invocation_with : CommandName → List Setting → Option Invocation
+invocation_with name settings =
+    option_and_then (λ asked. option_map (λ path. record { command = asked; store = path }) (path_in (value_for (codes "store") settings)))
+    (command_with name settings)
+
+-- the settings of the words, if they are UTF-8
+abbrev pub settings_of : CommandName → List Text → Option (List Setting)
+settings_of name words = if list_all is_utf8 words then settings_in (options_of name) words else None
+
+-- `drill`, whose only word is the number of tasks, 1 to 100,000
+abbrev pub drill_of : List Text → Option Invocation
+drill_of [] = None
+drill_of (word ∷ []) = option_map (λ tasks. record { command = Drill tasks; store = None }) (number_from_to 1 DRILL_LIMIT word)
+drill_of (word ∷ next ∷ rest) = None
+
+-- the command that the words are, with its options and the path of its store
+abbrev pub command_of : List Text → Option Invocation
 command_of [] = None
-command_of (word ∷ words) = option_and_then (λ name. option_and_then (command_with name) (settings_in words)) (command_in word)
+command_of (word ∷ words) =
+    if is_drill word then drill_of words
+    else option_and_then (λ name. option_and_then (invocation_with name) (settings_of name words)) (command_in word)

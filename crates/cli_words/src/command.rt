@@ -1,12 +1,15 @@
 //! Commands with their options.
 
-use bt_base::Moment;
+use bt_base::{Moment, Word};
 
 /// The number of seats if none is stated.
 pub const DEFAULT_SEATS: u8 = 8;
 
 /// The greatest number of calls that a journal takes, and the number if none is stated.
 pub const JOURNAL_LIMIT: u32 = 4_000_000;
+
+/// The greatest number of tasks that `drill` makes.
+pub const DRILL_LIMIT: u32 = 100_000;
 
 /// The options of `replay`.
 #[derive(Clone, Copy, Debug, PartialEq, Eq)]
@@ -33,4 +36,17 @@ pub enum Command {
     Replay(ReplayOptions),
     /// Evaluates a formula.
     Formula(FormulaOptions),
+    /// Writes the tables of a store.
+    Export,
+    /// Makes the calls of a drill of this number of tasks, 1 to 100,000.
+    Drill(u32),
+}
+
+/// What the words of a command line say.
+#[derive(Debug, Drop)]
+pub struct Invocation {
+    /// The command with its options.
+    pub command: Command,
+    /// The path of the store, which is not empty; None if the words do not have `--store`.
+    pub store: Option<Word>,
 }

@@ -1,14 +1,16 @@
-//! The names of commands.
-ghost use Rattle.std.specs.Prelude.{◌≡◌};
-ghost use Rattle.cli_words.specs.Commands.{command_text, command_in};
+//! The names of commands that have options.
+ghost use Rattle.std.specs.Prelude.{◌≡◌, map};
+ghost use Rattle.cli_words.specs.Commands.{command_text, command_in, options_of};
 
-/// The name of a command.
+/// The name of a command that has options.
 #[derive(Clone, Copy, Debug, PartialEq, Eq)]
 pub enum CommandName {
     /// Does a script over tables.
     Replay,
     /// Evaluates a formula.
     Formula,
+    /// Writes the tables of a store.
+    Export,
 }
 
 impl CommandName {
@@ -20,6 +22,7 @@ impl CommandName {
         match self {
             CommandName::Replay => "replay",
             CommandName::Formula => "formula",
+            CommandName::Export => "export",
         }
     }
 
@@ -28,9 +31,25 @@ impl CommandName {
     pub fn read(text: &[u8]) -> Option<CommandName>
         ensures { result ≡ command_in text.now }
     {
-        [CommandName::Replay, CommandName::Formula]
-            .iter()
-            .copied()
-            .find(|name| text == name.text().as_bytes())
+        [
+            CommandName::Replay,
+            CommandName::Formula,
+            CommandName::Export,
+        ]
+        .iter()
+        .copied()
+        .find(|name| text == name.text().as_bytes())
+    }
+
+    /// The names of its options, without the hyphens. It does not allocate.
+    #[tactic(auto, unfolding(crate::specs::Commands::options_of))]
+    pub fn options(self) -> &'static [&'static str]
+        ensures { map (λ o. o.now) result.now ≡ options_of self }
+    {
+        match self {
+            CommandName::Replay => &["seats", "journal", "store"],
+            CommandName::Formula => &["now", "dedicated"],
+            CommandName::Export => &["store"],
+        }
     }
 }

@@ -1,12 +1,17 @@
-//! The words of the command line: the command that they are, with its options. They are read in one pass that does not
-//! allocate. Commands and options are this project's own.
+//! The words of the command line: the command that they are, with its options and the path of its store. The options are read by
+//! `clap`, which takes exactly the words of the grammar of options; their numbers and the word of `drill` are read here. Commands
+//! and options are this project's own.
 #![tactic(auto)]
 
 mod command;
 mod command_name;
-mod given;
-mod option_name;
+mod number;
+#[cfg(test)]
+mod tests;
+mod values;
 mod words;
 
-pub use command::{Command, DEFAULT_SEATS, FormulaOptions, JOURNAL_LIMIT, ReplayOptions};
+pub use command::{
+    Command, DEFAULT_SEATS, DRILL_LIMIT, FormulaOptions, Invocation, JOURNAL_LIMIT, ReplayOptions,
+};
 pub use words::read_command;

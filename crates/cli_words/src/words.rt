@@ -1,69 +1,94 @@
-//! The words of the command line, read one after the other.
-ghost use Rattle.std.specs.Prelude.{◌≡◌, ◌==◌, option_map, IfSome};
-ghost use Rattle.std.specs.List.{position};
-ghost use Rattle.cli_words.specs.Commands.{joined_in, command_of};
+//! The words of the command line.
+ghost use Rattle.std.specs.Prelude.{◌≡◌, true, false, IfOk, IfSome, MatchOption, map, option_and_then};
+ghost use Rattle.std.specs.List.{list_all};
+ghost use Rattle.std.specs.Str.{is_utf8};
+ghost use Rattle.cli_words.specs.Commands.{command_of, drill_of, invocation_with, is_drill, settings_of};
 ghost use Rattle.cli_words.specs.Ranges.{IsInRange};
-ghost use Rattle.cli_words.specs.Reading.{set_all};
 
-use crate::command::Command;
+use crate::command::{Command, DRILL_LIMIT, Invocation};
 use crate::command_name::CommandName;
-use crate::given::Given;
-use crate::option_name::OptionName;
-use bt_base::Word;
+use crate::number::number_from_to;
+use crate::values::invocation_from;
+use bt_base::{NoMemory, Word};
+use option_words::read_options;
+use std::alloc::Global;
 
-/// The place of the first `=`.
-fn first_equals(word: &[u8]) -> Option<usize>
-    ensures { result ≡ position (λ b. b == 61) word.now }
+/// The words as texts; None if one of them is not UTF-8.
+fn texts_of<'a>(alloc: Global, words: &'a [Word]) -> Result<Option<Vec<&'a str>>, NoMemory>
+    ensures { IfOk result (λ r. MatchOption r (list_all is_utf8 words.entry.now ≡ false)
+        (λ v. (list_all is_utf8 words.entry.now ≡ true) × (map (λ t. t.now) v.items ≡ words.entry.now))) }
 {
-    word.iter().position(|b| *b == b'=')
-}
-
-/// An option and the text of its value, if the word is both with `=` between them.
-fn joined_in(word: &[u8]) -> Option<(OptionName, &[u8])>
-    ensures { option_map (λ s. (s.0, s.1.now)) result ≡ joined_in word.now }
-{
-    let at = first_equals(word)?;
-    let name = OptionName::read(&word[..at])?;
-    Some((name, &word[at + 1..]))
-}
-
-/// These options and those of the words; None if the words are not options with their values.
-fn set_all(given: Given, words: &[Word]) -> Option<Given>
-    ensures { result ≡ set_all given words.now }
-{
-    match words {
-        [] => Some(given),
-        [word] => {
-            let (name, text) = joined_in(word.as_bytes())?;
-            given.set_one(name, text)
+    let mut texts = Vec::new(alloc);
+    for word in words {
+        match std::str::from_utf8(word.as_bytes()) {
+            Ok(text) => texts.push(text)?,
+            Err(_) => return Ok(None),
         }
-        [word, next, rest @ ..] => match joined_in(word.as_bytes()) {
-            Some((name, text)) => set_all(given.set_one(name, text)?, &words[1..]),
-            None => {
-                let name = OptionName::read(word.as_bytes())?;
-                set_all(given.set_one(name, next.as_bytes())?, rest)
-            }
-        },
     }
+    Ok(Some(texts))
+}
+
+/// The command with this name, whose options are the words.
+fn with_options(
+    alloc: Global,
+    name: CommandName,
+    words: &[Word],
+) -> Result<Option<Invocation>, NoMemory>
+    ensures invocation { IfOk result (λ r. r ≡ option_and_then (invocation_with name) (settings_of name words.now)) }
+    ensures ranges { IfOk result (λ r. IfSome r (λ i. IsInRange i.command)) }
+{
+    let Some(texts) = texts_of(alloc, words)? else {
+        return Ok(None);
+    };
+    let Some(matches) = read_options(alloc, name.text(), name.options(), texts.as_slice())? else {
+        return Ok(None);
+    };
+    invocation_from(alloc, name, &matches)
+}
+
+/// Whether the word is the name of `drill`.
+#[tactic(auto, unfolding(crate::specs::Commands::is_drill))]
+fn is_drill(word: &[u8]) -> bool
+    ensures { result ≡ is_drill word.now }
+{
+    word == "drill".as_bytes()
+}
+
+/// The command `drill`, whose number of tasks is the only word.
+fn drill(words: &[Word]) -> Option<Invocation>
+    ensures invocation { result ≡ drill_of words.now }
+    ensures ranges { IfSome result (λ i. IsInRange i.command) }
+{
+    let [word] = words else {
+        return None;
+    };
+    let count = number_from_to(1, u64::from(DRILL_LIMIT), word.as_bytes())?;
+    Some(Invocation {
+        command: Command::Drill(count as u32),
+        store: None,
+    })
 }
 
 /// The command that the words are: its name, then its options in any order, each at most once, as `--name value` or
-/// `--name=value`, with numbers of 1 to 20 digits. `replay` has `--seats` 1 to 32 and `--journal` 1 to 4,000,000, `formula` has
-/// `--now`, milliseconds since 1970 up to the end of the year 9999, and `--dedicated` 0 to 1,000. None if the words are not a
-/// command with its options. It does not allocate.
-pub fn read_command(words: &[Word]) -> Option<Command>
-    ensures command { result ≡ command_of words.now }
-    ensures ranges { IfSome result IsInRange }
+/// `--name=value`; a value in a word of its own does not begin with `-`. Numbers have 1 to 20 digits. `replay` has `--seats` 1 to
+/// 32, by default 8, `--journal` 1 to 4,000,000, by default that many, and `--store` with a path that is not empty. `formula` has
+/// `--now`, milliseconds since 1970 up to the end of the year 9999, and `--dedicated` 0 to 1,000, both by default 0. `export` has
+/// `--store`. `drill` has no options, but one word more, the number of tasks, 1 to 100,000.
+///
+/// Returns None exactly if the words are not a command with its options; so are words after its name that are not UTF-8. The error
+/// is that it is out of memory.
+pub fn read_command(alloc: Global, words: &[Word]) -> Result<Option<Invocation>, NoMemory>
+    ensures command { IfOk result (λ r. r ≡ command_of words.now) }
+    ensures ranges { IfOk result (λ r. IfSome r (λ i. IsInRange i.command)) }
 {
     let [word, rest @ ..] = words else {
-        return None;
+        return Ok(None);
     };
-    let name = CommandName::read(word.as_bytes())?;
-    let none = Given {
-        seats: None,
-        limit: None,
-        now: None,
-        dedicated: None,
-    };
-    set_all(none, rest)?.command(name)
+    if is_drill(word.as_bytes()) {
+        return Ok(drill(rest));
+    }
+    match CommandName::read(word.as_bytes()) {
+        Some(name) => with_options(alloc, name, rest),
+        None => Ok(None),
+    }
 }
