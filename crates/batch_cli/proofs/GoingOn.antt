@@ -32,7 +32,7 @@ take_append zero (x ∷ xs) ys = let none : 0 ≡ 0 - length (x ∷ xs) = omega 
 take_append (suc k) (x ∷ xs) ys =
     ap (λ w. x ∷ w) (take_append k xs ys ∙ ap (λ m. take k xs ++ take m ys) (omega arith))
 
-faults_append : (xs ys : List Entry) → fault_count (xs ++ ys) ≡ fault_count xs + fault_count ys
+pub faults_append : (xs ys : List Entry) → fault_count (xs ++ ys) ≡ fault_count xs + fault_count ys
 faults_append [] ys = omega arith
 faults_append (x ∷ xs) ys = omega (arith, faults_append xs ys)
 
@@ -58,7 +58,7 @@ before_push seats limit script [] e s = refl
 before_push seats limit script (x ∷ es) e s = ap (λ h. outputs seats 1 script limit h s) (but_last_push (x ∷ es) e)
 
 -- if no due steps before the line stopped because memory ran out, none before the last call did
-settled_added : (old new added : List Entry) → new ≡ old ++ added → length added ≤ 1 → memory_stops old ≡ 0 → memory_stops (but_last new) ≡ 0
+pub settled_added : (old new added : List Entry) → new ≡ old ++ added → length added ≤ 1 → memory_stops old ≡ 0 → memory_stops (but_last new) ≡ 0
 settled_added old new [] e few h = omega (arith, stops_take (length new - 1) new, ap memory_stops (e ∙ append-nil old), h)
 settled_added old new (x ∷ []) e few h = ap memory_stops (ap but_last e ∙ but_last_push old x) ∙ h
 settled_added old new (x ∷ (y ∷ more)) e few h = absurd (omega arith)
@@ -84,7 +84,7 @@ room_after {K} {faults} {old} {new} {n} {request} {text} same a =
 same_at_once : {K : Type 0} (d : Desk K) → HasSameOpening d d
 same_at_once d = record { opened = refl; seats = refl; limit = refl }
 
-same_on : {K : Type 0} {a b c : Desk K} → HasSameOpening a b → HasSameOpening b c → HasSameOpening a c
+pub same_on : {K : Type 0} {a b c : Desk K} → HasSameOpening a b → HasSameOpening b c → HasSameOpening a c
 same_on f g = record { opened = g.opened ∙ f.opened; seats = g.seats ∙ f.seats; limit = g.limit ∙ f.limit }
 
 -- no line was done

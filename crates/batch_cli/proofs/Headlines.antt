@@ -22,19 +22,19 @@ use Rattle.batch_cli.specs.declared.status.Status.TheVariants.{Done, Memory, Usa
 use Rattle.batch_cli.specs.declared.status.Status.TheVariants.{FormulaError, JournalFull}
 
 -- a desk in order, on its way from one that was opened
-record Runs {K : Type 0} (told : K → Option State) (faults : K → ℕ) (options : Options) (loaded : Option State) (count : ℕ) (start now : Desk K) : Type 0 where
-  begins : Begins start options.seats options.limit
-  opened : IfSome loaded (λ s. start.opened ≡ opening s)
-  later : count ≤ faults start.keeper
-  in_order : IsInOrder told faults now
+pub record Runs {K : Type 0} (told : K → Option State) (faults : K → ℕ) (options : Options) (loaded : Option State) (count : ℕ) (start now : Desk K) : Type 0 where
+  pub begins : Begins start options.seats options.limit
+  pub opened : IfSome loaded (λ s. start.opened ≡ opening s)
+  pub later : count ≤ faults start.keeper
+  pub in_order : IsInOrder told faults now
 
 -- what is seen of such a run
-abbrev seen_of : {K : Type 0} → (K → Option State) → (K → ℕ) → Option State → ℕ → Desk K → Option (List ℕ) → Option (List ℕ) → Observed
+abbrev pub seen_of : {K : Type 0} → (K → Option State) → (K → ℕ) → Option State → ℕ → Desk K → Option (List ℕ) → Option (List ℕ) → Observed
 seen_of told faults loaded count now before taken =
     record { taken_before = before; taken_now = taken; loaded = loaded; kept = told now.keeper; faults_before = count; faults_now = faults now.keeper }
 
 module _ {K : Type 0} {told : K → Option State} {faults : K → ℕ} {options : Options} {loaded : Option State} {count : ℕ} {start now : Desk K} where
-  seats_from : Runs told faults options loaded count start now → HasSameOpening start now → now.seats ≡ options.seats
+  pub seats_from : Runs told faults options loaded count start now → HasSameOpening start now → now.seats ≡ options.seats
   seats_from r same = same.seats ∙ r.begins.seats_are
 
   -- what shows a history, from the opened tables
@@ -52,35 +52,38 @@ module _ {K : Type 0} {told : K → Option State} {faults : K → ℕ} {options 
       ∙ ap (λ limit. outputs_before options.seats script limit history start.state) r.begins.limit_is
       ∙ ap (λ s. outputs_before options.seats script options.limit history s) r.begins.state
 
-  begins_from : Runs told faults options loaded count start now → HasSameOpening start now → BeginsFrom options.seats loaded start.opened
+  pub begins_from : Runs told faults options loaded count start now → HasSameOpening start now → BeginsFrom options.seats loaded start.opened
   begins_from r same = record {
     sound = subst (λ seats. IsSound seats start.opened) (seats_from r same) (subst (IsSound now.seats) same.opened r.in_order.begun);
     opening_is = r.opened;
   }
 
-  legal_from : Runs told faults options loaded count start now → HasSameOpening start now → IsLegal options.seats start.opened now.entries
+  pub legal_from : Runs told faults options loaded count start now → HasSameOpening start now → IsLegal options.seats start.opened now.entries
   legal_from r same =
       subst (λ seats. IsLegal seats start.opened now.entries) (seats_from r same)
       (subst (λ s. IsLegal now.seats s now.entries) same.opened r.in_order.legal)
 
-  laws_from : Runs told faults options loaded count start now → HasSameOpening start now → KeepsLaws options.seats start.opened now.entries
+  pub laws_from : Runs told faults options loaded count start now → HasSameOpening start now → KeepsLaws options.seats start.opened now.entries
   laws_from r same =
       subst (λ seats. KeepsLaws seats start.opened now.entries) (seats_from r same)
       (subst (λ s. KeepsLaws now.seats s now.entries) same.opened r.in_order.laws)
 
-  kept_from : Runs told faults options loaded count start now → HasSameOpening start now →
-      Tells (told now.keeper) (after_all options.seats start.opened now.entries)
-  kept_from r same =
-      subst (λ s. Tells (told now.keeper) s)
-      (r.in_order.state
+  -- the tables are those after the history
+  pub state_from : Runs told faults options loaded count start now → HasSameOpening start now →
+      now.state ≡ after_all options.seats start.opened now.entries
+  state_from r same =
+      r.in_order.state
       ∙ ap (λ seats. after_all seats now.opened now.entries) (seats_from r same)
-      ∙ ap (λ s. after_all options.seats s now.entries) same.opened)
-      r.in_order.kept
+      ∙ ap (λ s. after_all options.seats s now.entries) same.opened
+
+  pub kept_from : Runs told faults options loaded count start now → HasSameOpening start now →
+      Tells (told now.keeper) (after_all options.seats start.opened now.entries)
+  kept_from r same = subst (λ s. Tells (told now.keeper) s) (state_from r same) r.in_order.kept
 
   within_from : Runs told faults options loaded count start now → HasSameOpening start now → length now.entries ≤ options.limit
   within_from r same = omega (arith, r.in_order.within, same.limit, r.begins.limit_is)
 
-  counted_from : (by : ℕ) → Runs told faults options loaded count start now → RoseBy by (faults start.keeper) (faults now.keeper) →
+  pub counted_from : (by : ℕ) → Runs told faults options loaded count start now → RoseBy by (faults start.keeper) (faults now.keeper) →
       RoseBy by count (faults now.keeper)
   counted_from by r rose = omega (arith, r.later, rose)
 

@@ -1,4 +1,9 @@
 pub mod Advancing
+pub mod Commands
+pub mod DrillHeadlines
+pub mod DrillIds
+pub mod DrillRows
+pub mod Drills
 pub mod GoingOn
 pub mod Headlines
 pub mod RefusalLines

@@ -1,4 +1,4 @@
--- How a script that was done to its end ends.
+-- How a script that was done to its end, and a drill whose calls were all made, end.
 use Rattle.std.specs.Prelude.{ℕ, List, length, nat_lt, if◌then◌else◌}
 use Rattle.batch_desk.specs.declared.entry.Entry.{Entry}
 use Rattle.batch_desk.specs.History.{fault_count}
@@ -17,3 +17,7 @@ ending_of limit script history =
     if nat_lt 0 (fault_count history) then KeeperFault
     else (if nat_lt limit (length (calls_of script)) then JournalFull
     else (if has_refused script then UnreadableLines else Done))
+
+-- the status of a drill whose calls were all made: a call or its due steps met a keeper fault, or none did
+abbrev pub drill_ending : List Entry → Status
+drill_ending history = if nat_lt 0 (fault_count history) then KeeperFault else Done

@@ -1,7 +1,7 @@
--- What a script's run was, and what it left.
+-- What the run of a command was, and what it left.
 use Rattle.std.specs.Prelude.{◌≡◌, ◌⊎◌, ◌≤◌, ◌<◌, ℕ, List, [], length, map, take, Option, Some, None, IfSome}
 use Rattle.std.specs.Str.Lines.{lines}
-use Rattle.bt_base.specs.Content.{Gains}
+use Rattle.bt_base.specs.Content.{Gains, GainsFront}
 use Rattle.batch_model.specs.Opening.{opening}
 use Rattle.batch_model.specs.Sound.{IsSound}
 use Rattle.batch_model.specs.Variants.{State}
@@ -12,14 +12,18 @@ use Rattle.batch_desk.specs.Kept.{Tells}
 use Rattle.batch_desk.specs.Answers.{FailsToOpen}
 use Rattle.batch_desk.specs.Laws.{KeepsLaws}
 use Rattle.batch_desk.specs.History.{IsLegal, after_all, asked_of, fault_count}
+use Rattle.batch_wire.specs.Tables.{tables_text}
 use Rattle.batch_cli.specs.Shown.{outputs, calls_of, memory_stops, but_last, outputs_before}
 use Rattle.batch_cli.specs.Written.{GainsBetween}
 use Rattle.batch_cli.specs.Advance.{RoseBy}
-use Rattle.batch_cli.specs.EndStatus.{script_limit, ending_of}
+use Rattle.batch_cli.specs.EndStatus.{script_limit, ending_of, drill_ending}
+use Rattle.batch_cli.specs.Drill.{IsDrilled, BeginsDrill, summary_text}
+use Rattle.batch_cli.specs.declared.drill.limits.TheConstants.{DRILL_SEATS}
 use Rattle.cli_words.specs.declared.command.ReplayOptions.{ReplayOptions as Options}
 use Rattle.cli_words.specs.declared.command.FormulaOptions.{FormulaOptions}
 use Rattle.cli_words.specs.declared.command.Command.{Command}
-use Rattle.cli_words.specs.declared.command.Command.TheVariants.{Replay, Formula}
+use Rattle.cli_words.specs.declared.command.Command.TheVariants.{Replay, Formula, Export, Drill}
+use Rattle.cli_words.specs.declared.command.Invocation.{Invocation}
 use Rattle.cli_formula.specs.declared.end.End.{End}
 use Rattle.cli_formula.specs.declared.end.End.TheVariants as ends
 use Rattle.cli_formula.specs.Showing.{FormulaRan}
@@ -99,7 +103,7 @@ pub record IsOnlyOpened (options : Options) (seen : Observed) : Type 0 where
   pub written : Gains seen.taken_before seen.taken_now []
   pub kept : Tells seen.kept opened
 
--- the desk was not opened because of this error, and nothing was written
+-- the tables were not loaded, or not opened, because of this error, and nothing was written
 pub record IsUnopened (seen : Observed) (error : KeepError) : Type 0 where
   pub fails : FailsToOpen seen.loaded seen.kept seen.faults_before seen.faults_now error
   pub written : Gains seen.taken_before seen.taken_now []
@@ -135,17 +139,111 @@ abbrev pub RanFormula : FormulaOptions → List ℕ → Option (List ℕ) → Op
 RanFormula options formula before taken None = ⊥
 RanFormula options formula before taken (Some end) = FormulaRan options.now options.dedicated formula before taken end
 
--- what a status says of words, of what the source tells, and of sink and keeper
-abbrev pub Ran : Option Command → Option (List ℕ) → Observed → Status → Type 0
-Ran None left seen status = (status ≡ Usage) × Gains seen.taken_before seen.taken_now []
-Ran (Some (Replay options)) left seen status = IfSome left (λ script. RanWith options script seen status)
-Ran (Some (Formula options)) left seen status = IfSome left (λ formula. RanFormula options formula seen.taken_before seen.taken_now (end_of status))
+-- the tables text of the loaded tables was written whole, and the keeper tells the same tables as before
+pub record IsExported (seen : Observed) : Type 0 where
+  pub tables : State
+  pub loaded : IfSome seen.loaded (λ s. tables ≡ s)
+  pub kept : seen.kept ≡ seen.loaded
+  pub written : Gains seen.taken_before seen.taken_now (tables_text tables)
 
--- the command calls no keeper
-abbrev pub CallsNoKeeper : Option Command → Type 0
+-- a prefix of it was written, and the keeper tells the same tables as before
+pub record IsExportCut (seen : Observed) : Type 0 where
+  pub tables : State
+  pub loaded : IfSome seen.loaded (λ s. tables ≡ s)
+  pub kept : seen.kept ≡ seen.loaded
+  pub written : GainsFront seen.taken_before seen.taken_now (tables_text tables)
+
+-- what a status says of the command `export`, which reads no source and opens no tables
+abbrev pub RanExport : Observed → Status → Type 0
+RanExport seen Done = IsExported seen
+RanExport seen Memory = IsUnopened seen NoMemory ⊎ IsExportCut seen
+RanExport seen SinkFault = IsExportCut seen
+RanExport seen KeeperFault = IsUnopened seen Failed
+RanExport seen Usage = ⊥
+RanExport seen SourceFault = ⊥
+RanExport seen UnreadableLines = ⊥
+RanExport seen ScriptTooLong = ⊥
+RanExport seen (FormulaError position) = ⊥
+RanExport seen JournalFull = ⊥
+
+-- A drill of this number of tasks was made: its calls are one legal history from the opened tables, and the keeper tells the tables
+-- after them.
+pub record IsMade (count : ℕ) (seen : Observed) : Type 0 where
+  pub opened : State
+  pub begins : BeginsFrom DRILL_SEATS seen.loaded opened
+  pub history : List Entry
+  pub drilled : IsDrilled count DRILL_SEATS opened history
+  pub legal : IsLegal DRILL_SEATS opened history
+  -- the same laws as of a script that was done
+  pub laws : KeepsLaws DRILL_SEATS opened history
+  -- no due steps stopped because memory ran out
+  pub settled : memory_stops history ≡ 0
+  pub kept : Tells seen.kept (after_all DRILL_SEATS opened history)
+  -- each keeper fault of the history had a rise of the keeper's count for itself
+  pub counted : RoseBy (fault_count history) seen.faults_before seen.faults_now
+
+-- the drill was made, and the summary of the tables after it written
+pub record IsMadeWhole (count : ℕ) (seen : Observed) (status : Status) : Type 0 where
+  pub made : IsMade count seen
+  pub written : Gains seen.taken_before seen.taken_now (summary_text count (after_all DRILL_SEATS made.opened made.history))
+  pub ending : status ≡ drill_ending made.history
+
+-- the drill was made, and a prefix of the summary written
+pub record IsMadeCut (count : ℕ) (seen : Observed) : Type 0 where
+  pub made : IsMade count seen
+  pub written : GainsFront seen.taken_before seen.taken_now (summary_text count (after_all DRILL_SEATS made.opened made.history))
+
+-- the first calls of the drill were made as above, and nothing was written
+pub record IsMadePart (count : ℕ) (seen : Observed) : Type 0 where
+  pub opened : State
+  pub begins : BeginsFrom DRILL_SEATS seen.loaded opened
+  pub history : List Entry
+  pub begun : BeginsDrill count DRILL_SEATS opened history
+  pub legal : IsLegal DRILL_SEATS opened history
+  pub laws : KeepsLaws DRILL_SEATS opened history
+  -- no due steps but those of the last call stopped because memory ran out
+  pub settled : memory_stops (but_last history) ≡ 0
+  pub written : Gains seen.taken_before seen.taken_now []
+  pub kept : Tells seen.kept (after_all DRILL_SEATS opened history)
+  pub counted : RoseBy (fault_count history) seen.faults_before seen.faults_now
+
+-- what a status says of the command `drill`, which reads no source; its journal is never full
+abbrev pub RanDrill : ℕ → Observed → Status → Type 0
+RanDrill count seen Done = IsMadeWhole count seen Done
+RanDrill count seen Memory = IsUnopened seen NoMemory ⊎ (IsMadePart count seen ⊎ IsMadeCut count seen)
+RanDrill count seen SinkFault = IsMadeCut count seen
+RanDrill count seen KeeperFault = IsUnopened seen Failed ⊎ IsMadeWhole count seen KeeperFault
+RanDrill count seen Usage = ⊥
+RanDrill count seen SourceFault = ⊥
+RanDrill count seen UnreadableLines = ⊥
+RanDrill count seen ScriptTooLong = ⊥
+RanDrill count seen (FormulaError position) = ⊥
+RanDrill count seen JournalFull = ⊥
+
+-- what a status says of a command, of what the source tells, and of sink and keeper
+abbrev pub RanCommand : Command → Option (List ℕ) → Observed → Status → Type 0
+RanCommand (Replay options) left seen status = IfSome left (λ script. RanWith options script seen status)
+RanCommand (Formula options) left seen status =
+    IfSome left (λ formula. RanFormula options formula seen.taken_before seen.taken_now (end_of status))
+RanCommand Export left seen status = RanExport seen status
+RanCommand (Drill count) left seen status = RanDrill count seen status
+
+-- the same of what words ask; if they are not a command, nothing is written
+abbrev pub Ran : Option Invocation → Option (List ℕ) → Observed → Status → Type 0
+Ran None left seen status = ((status ≡ Usage) ⊎ (status ≡ Memory)) × Gains seen.taken_before seen.taken_now []
+Ran (Some invocation) left seen status = RanCommand invocation.command left seen status
+
+-- the command needs no tables
+abbrev pub NeedsNoTables : Command → Type 0
+NeedsNoTables (Replay options) = ⊥
+NeedsNoTables (Formula options) = Unit {0}
+NeedsNoTables Export = ⊥
+NeedsNoTables (Drill count) = ⊥
+
+-- what words ask calls no keeper
+abbrev pub CallsNoKeeper : Option Invocation → Type 0
 CallsNoKeeper None = Unit {0}
-CallsNoKeeper (Some (Replay options)) = ⊥
-CallsNoKeeper (Some (Formula options)) = Unit {0}
+CallsNoKeeper (Some invocation) = NeedsNoTables invocation.command
 
 -- the statuses with which nothing is written
 abbrev pub WritesNothing : Status → Type 0

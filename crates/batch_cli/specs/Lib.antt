@@ -1,5 +1,7 @@
 pub mod Advance
 pub mod Codes
+pub mod Drill
+pub mod Drilling
 pub mod EndStatus
 pub mod Going
 pub mod Headline

@@ -109,7 +109,7 @@ pub fn show_refusal(alloc: Global, n: u64, refusal: Refusal) -> Result<String, N
 }
 
 /// Whether the run ends after this answer because memory ran out.
-fn ran_out(answer: &Answer) -> bool
+pub fn ran_out(answer: &Answer) -> bool
     ensures { result ≡ ran_out answer.now }
 {
     match answer {

@@ -4,6 +4,10 @@
 #![tactic(auto)]
 
 mod call;
+mod drill;
+#[cfg(test)]
+mod drill_tests;
+mod export;
 mod formula;
 #[cfg(test)]
 mod formula_tests;

@@ -20,7 +20,7 @@ use bt_rows::tables::Tables;
 use std::alloc::Global;
 
 /// Writes the tables text.
-fn finish<W: Sink>(alloc: Global, tables: &Tables, sink: &mut W) -> Result<(), Stopped>
+pub fn finish<W: Sink>(alloc: Global, tables: &Tables, sink: &mut W) -> Result<(), Stopped>
     ensures ok { OnOk result (Gains (W.taken sink.old) (W.taken sink.new) (tables_text tables.now.state)) }
     ensures err { OnErr result (GainsFront (W.taken sink.old) (W.taken sink.new) (tables_text tables.now.state)) }
     ensures later { W.faults sink.old ≤ W.faults sink.new }

@@ -1,12 +1,14 @@
 //! The top call.
-ghost use Rattle.std.specs.Prelude.{◌≡◌, ◌≤◌, ◌↔◌, None, IfSome, nat_lt, length, if◌then◌else◌};
-ghost use Rattle.std.specs.Str.Lines.{lines};
+ghost use Rattle.std.specs.Prelude.{◌≡◌, ◌≤◌, ◌⊎◌, None, IfSome, nat_lt, if◌then◌else◌};
 ghost use Rattle.bt_base.specs.Causes.{Rose};
 ghost use Rattle.batch_desk.specs.Answers.{IsInOrder, Begins};
 ghost use Rattle.cli_words.specs.Commands.{command_of};
+ghost use Rattle.cli_words.specs.Ranges.{IsInRange};
 ghost use Rattle.batch_cli.specs.Going.{DeskRan};
-ghost use Rattle.batch_cli.specs.Headline.{Ran, RanWith, WritesNothing, CallsNoKeeper};
+ghost use Rattle.batch_cli.specs.Headline.{Ran, RanCommand, RanWith, WritesNothing, CallsNoKeeper, NeedsNoTables};
 
+use crate::drill::drill;
+use crate::export::export;
 use crate::formula::formula;
 use crate::replay::do_script;
 use crate::status::Status;
@@ -14,7 +16,7 @@ use crate::stopped::Stopped;
 use crate::tally::Tally;
 use batch_desk::Desk;
 use batch_keeper::{KeepError, Keeper};
-use bt_base::{ReadFault, Sink, Source, Word, read_all};
+use bt_base::{NoMemory, ReadFault, Sink, Source, Word, read_all};
 use cli_words::{Command, ReplayOptions, read_command};
 use std::alloc::Global;
 
@@ -106,14 +108,50 @@ fn replay<R: Source, W: Sink, K: Keeper + Drop>(
     }
 }
 
+/// Does a command whose options are in their ranges, and returns the keeper.
+fn do_command<R: Source, W: Sink, K: Keeper + Drop>(
+    alloc: Global,
+    command: Command,
+    source: &mut R,
+    sink: &mut W,
+    keeper: K,
+) -> (Status, K)
+    requires { IsInRange command }
+    ensures ran { RanCommand command (R.left source.old)
+        (record {
+          taken_before = W.taken sink.old;
+          taken_now = W.taken sink.new;
+          loaded = K.told keeper;
+          kept = K.told result.1;
+          faults_before = K.faults keeper;
+          faults_now = K.faults result.1;
+        }) result.0 }
+    ensures unwritten { WritesNothing result.0 → sink.new ≡ sink.old }
+    ensures unused { NeedsNoTables command → result.1 ≡ keeper }
+    ensures no_usage { result.0 ≡ Status.Usage → ⊥ }
+    ensures later { K.faults keeper ≤ K.faults result.1 }
+    ensures source_fault { result.0 ≡ Status.SourceFault → Rose (R.faults source.old) (R.faults source.new) }
+    ensures sink_fault { result.0 ≡ Status.SinkFault → Rose (W.faults sink.old) (W.faults sink.new) }
+    ensures keeper_fault { result.0 ≡ Status.KeeperFault → Rose (K.faults keeper) (K.faults result.1) }
+{
+    match command {
+        Command::Replay(options) => replay(alloc, options, source, sink, keeper),
+        Command::Formula(options) => (formula(alloc, options, source, sink), keeper),
+        Command::Export => export(alloc, sink, keeper),
+        Command::Drill(count) => drill(alloc, count, sink, keeper),
+    }
+}
+
 /// Does what the words say, and returns the keeper. `replay` with its options opens the tables that the keeper loads, reads a
 /// script from the source to its end, makes the calls of its lines one by one, up to the journal's limit, and writes the output
 /// of each line before it makes the next call; then the tables. `formula` with its options reads a formula from the source to
 /// its end, evaluates it over no samples and no current values, and writes its results or its fault; it calls no keeper.
+/// `export` writes the tables that the keeper loads, without opening them, and `drill` opens them and makes its calls, at most
+/// 900,034, one by one; then it writes its summary. Both read no source.
 ///
-/// At each moment of the history of a script the laws hold that stand at `Desk::call` of batch_desk: of slots, of ready tasks, of
-/// runs that are taken for the present attempt, of numbers that are given once and endings that count once, of retries within
-/// their limits, of jobs that end at rest, and of release runs that are made once (`laws` in `ran`).
+/// At each moment of the history of a script or of a drill the laws hold that stand at `Desk::call` of batch_desk: of slots, of
+/// ready tasks, of runs that are taken for the present attempt, of numbers that are given once and endings that count once, of
+/// retries within their limits, of jobs that end at rest, and of release runs that are made once (`laws` in `ran`).
 ///
 /// If no count of faults can rise, as over objects that never fail, the last three clauses exclude the statuses of source, sink
 /// and keeper, and by `counted` of the history no call of it was left undone and no due steps were stopped by a fault.
@@ -124,8 +162,8 @@ pub fn run_words<R: Source, W: Sink, K: Keeper + Drop>(
     sink: &mut W,
     keeper: K,
 ) -> (Status, K)
-    // If the source tells its bytes: the written bytes, the status and the kept tables are those of one legal history, or the
-    // bytes and the status those of one evaluation.
+    // If the source tells its bytes, and without that for `export` and `drill`: the written bytes, the status and the kept tables
+    // are those of one legal history, or the bytes and the status those of one evaluation or of the loaded tables.
     ensures ran { Ran (command_of words.now) (R.left source.old)
         (record {
           taken_before = W.taken sink.old;
@@ -139,16 +177,17 @@ pub fn run_words<R: Source, W: Sink, K: Keeper + Drop>(
     ensures unwritten { WritesNothing result.0 → sink.new ≡ sink.old }
     // The keeper is not called if the words are not a command, or one that needs no tables.
     ensures unused { CallsNoKeeper (command_of words.now) → result.1 ≡ keeper }
-    // Each status that names a fault has its cause.
-    ensures usage { (result.0 ≡ Status.Usage) ↔ (command_of words.now ≡ None) }
+    // Each status that names a fault has its cause. Reading the words may run out of memory.
+    ensures usage { result.0 ≡ Status.Usage → command_of words.now ≡ None }
+    ensures no_command { command_of words.now ≡ None → (result.0 ≡ Status.Usage) ⊎ (result.0 ≡ Status.Memory) }
     ensures later { K.faults keeper ≤ K.faults result.1 }
     ensures source_fault { result.0 ≡ Status.SourceFault → Rose (R.faults source.old) (R.faults source.new) }
     ensures sink_fault { result.0 ≡ Status.SinkFault → Rose (W.faults sink.old) (W.faults sink.new) }
     ensures keeper_fault { result.0 ≡ Status.KeeperFault → Rose (K.faults keeper) (K.faults result.1) }
 {
-    match read_command(words) {
-        None => (Status::Usage, keeper),
-        Some(Command::Replay(options)) => replay(alloc, options, source, sink, keeper),
-        Some(Command::Formula(options)) => (formula(alloc, options, source, sink), keeper),
+    match read_command(alloc, words) {
+        Err(NoMemory) => (Status::Memory, keeper),
+        Ok(None) => (Status::Usage, keeper),
+        Ok(Some(invocation)) => do_command(alloc, invocation.command, source, sink, keeper),
     }
 }

@@ -47,7 +47,7 @@ pub fn sure<'a>(words: &'a [&'a str], input: &'a [u8]) -> Run<'a> {
 }
 
 /// The status, the output and the keeper that comes back, of a run over this keeper.
-fn run_over(
+pub fn run_over(
     alloc: Global,
     run: Run,
     keeper: MemoryKeeper,
@@ -61,7 +61,7 @@ fn run_over(
 }
 
 /// The same, over a keeper of empty tables.
-fn run_anew(alloc: Global, run: Run) -> Result<(Status, Vec<u8>, MemoryKeeper), AllocError> {
+pub fn run_anew(alloc: Global, run: Run) -> Result<(Status, Vec<u8>, MemoryKeeper), AllocError> {
     run_over(alloc, run, keeper(alloc, run.keeper_fails)?)
 }
 
@@ -76,12 +76,12 @@ const POOL: &str = "0 add-pool {\"id\":\"p\",\"targetDedicatedNodes\":1}\n";
 const POOL_OUTPUT: &str = "1 201\n1 U15 p 1 1\n1 U11 p steady\n";
 
 /// A task that is placed and taken.
-const TAKEN: &str = "0 add-pool {\"id\":\"p\",\"targetDedicatedNodes\":1}\n\
+pub const TAKEN: &str = "0 add-pool {\"id\":\"p\",\"targetDedicatedNodes\":1}\n\
     0 add-job {\"id\":\"j\",\"poolInfo\":{\"poolId\":\"p\"}}\n\
     0 add-task j {\"id\":\"t\",\"commandLine\":\"echo hi\"}\n5 take 1\n";
 
 /// The same, and its ending.
-const ENDED: &str = "0 add-pool {\"id\":\"p\",\"targetDedicatedNodes\":1}\n\
+pub const ENDED: &str = "0 add-pool {\"id\":\"p\",\"targetDedicatedNodes\":1}\n\
     0 add-job {\"id\":\"j\",\"poolInfo\":{\"poolId\":\"p\"}}\n\
     0 add-task j {\"id\":\"t\",\"commandLine\":\"echo hi\"}\n5 take 1\n9 end 1 0\n";
 
@@ -159,7 +159,7 @@ fn kept(alloc: Global, keeper: &mut MemoryKeeper) -> Option<Tables>
 }
 
 /// A keeper of the same tables, of which the call of this number fails.
-fn with_fault(
+pub fn with_fault(
     alloc: Global,
     keeper: &mut MemoryKeeper,
     call: u64,
@@ -185,7 +185,7 @@ fn shows_kept(alloc: Global, output: &[u8], keeper: &mut MemoryKeeper) -> bool {
 }
 
 /// Whether the keeper keeps the tables of this text.
-fn keeps(alloc: Global, keeper: &mut MemoryKeeper, text: &str) -> bool {
+pub fn keeps(alloc: Global, keeper: &mut MemoryKeeper, text: &str) -> bool {
     let Some(tables) = kept(alloc, keeper) else {
         return false;
     };
