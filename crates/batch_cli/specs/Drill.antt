@@ -108,17 +108,28 @@ Asked = (ℕ × EventKind) × Stage
 abbrev pub asked_for : EventKind → Stage → Asked
 asked_for event next = ((DRILL_MOMENT_MS, event), next)
 
--- A task takes two draws, its slots from the first and what it depends on from the second. Then each turn takes the lowest queued run
--- and ends it with one draw, whatever the take was answered. There is no call if no turn is left or no run is queued.
+-- a task is added with two draws: its slots are from the first, and what it depends on from the second
+abbrev pub add_call : ℕ → ℕ → ℕ → Asked
+add_call number count x =
+    let y = next_state x in
+    let z = next_state y in
+    asked_for (AddTask drill_id (task_spec number (draw_of y) (draw_of z))) (after_task number count z)
+
+-- a turn takes the lowest queued run, if a turn is left and a run is queued
+abbrev pub take_call : Option ℕ → ℕ → ℕ → Option Asked
+take_call lowest left x = if nat_eq left 0 then None else option_map (λ run. asked_for (Take run) (Ending run (left - 1) x)) lowest
+
+-- and ends that run with one draw, whatever the take was answered
+abbrev pub end_call : ℕ → ℕ → ℕ → Asked
+end_call run left x = let y = next_state x in asked_for (End run (Code (exit_code_of (draw_of y)))) (Turning left y)
+
+-- the next call of a drill that stands at a stage, over these tables, and the stage after it; None at the end
 abbrev pub asks : Stage → State → Option Asked
 asks (AddingPool count) s = Some (asked_for (AddPool pool_spec) (AddingJob count))
 asks (AddingJob count) s = Some (asked_for (AddJob drill_id job_spec) (AddingTask 1 count count))
-asks (AddingTask number count x) s =
-    let y = next_state x in
-    let z = next_state y in
-    Some (asked_for (AddTask drill_id (task_spec number (draw_of y) (draw_of z))) (after_task number count z))
-asks (Turning left x) s = if nat_eq left 0 then None else option_map (λ run. asked_for (Take run) (Ending run (left - 1) x)) (lowest_queued s.runs)
-asks (Ending run left x) s = let y = next_state x in Some (asked_for (End run (Code (exit_code_of (draw_of y)))) (Turning left y))
+asks (AddingTask number count x) s = Some (add_call number count x)
+asks (Turning left x) s = take_call (lowest_queued s.runs) left x
+asks (Ending run left x) s = Some (end_call run left x)
 
 -- The entries are calls of a drill, from one stage over these tables to another: each is the call that is asked at its stage over the
 -- tables after those before it.

@@ -4,20 +4,22 @@ use crate::status::Status;
 use std::fmt;
 
 /// How the program is used.
-const USAGE: &str = "usage: batch replay [--seats N] [--journal N]
+const USAGE: &str = "usage: batch replay [--seats N] [--journal N] [--store PATH]
        batch formula [--now MS] [--dedicated N]
-       batch export
+       batch export [--store PATH]
        batch drill N
 
 replay reads a script from standard input, does its calls, and writes what each line was answered and then the tables.
   --seats N      the most nodes at a time, 1 to 32 (default 8)
   --journal N    the most calls that the run takes, 1 to 4,000,000 (default 4,000,000)
+  --store PATH   the file that keeps the tables, made if it is not there (default: tables in memory, empty at first)
 formula reads an autoscale formula from standard input, evaluates it, and writes what it sets, or its fault.
   --now MS       the present moment in milliseconds since 1970-01-01T00:00:00Z, 0 to 253,402,300,799,999 (default 0)
   --dedicated N  $TargetDedicatedNodes before the formula, 0 to 1,000 (default 0)
 export writes the tables as they are kept.
+  --store PATH   the file that keeps the tables (default: empty tables in memory)
 drill makes calls that follow from the number N of its tasks, 1 to 100,000, and writes how they ended.
-An option is given at most once, as --name value or --name=value.";
+An option is given at most once, as --name value or --name=value. A value that begins with - needs the second form.";
 
 /// What happened and what to do, in one line, but for the usage.
 fn advice(status: Status) -> &'static str {

@@ -1,6 +1,6 @@
 //! How far a drill has come, and the call that comes next.
 ghost use Rattle.std.specs.Prelude.{◌≡◌, IfOk};
-ghost use Rattle.batch_cli.specs.Drill.{asks, after_task};
+ghost use Rattle.batch_cli.specs.Drill.{asks, after_task, add_call, take_call, end_call};
 
 use crate::drill::draw::{draw_of, next_state};
 use crate::drill::limits::DRILL_MOMENT_MS;
@@ -64,6 +64,43 @@ fn drill_moment() -> Moment
     }
 }
 
+/// The call that adds the task with this number, and the stage after it. It fails only when out of memory.
+fn add_call(alloc: Global, number: u32, count: u32, state: u32) -> Result<(Call, Stage), NoMemory>
+    ensures { IfOk result (λ asked. asked ≡ add_call number count state) }
+{
+    let first = next_state(state);
+    let second = next_state(first);
+    let event = add_task(alloc, number, draw_of(first), draw_of(second))?;
+    Ok((
+        (drill_moment(), event),
+        Stage::after_task(number, count, second),
+    ))
+}
+
+/// The call that takes the lowest queued run, and the stage after it; None if there is none, or no turn is left.
+fn take_call(lowest: Option<u64>, left: u64, state: u32) -> Option<(Call, Stage)>
+    ensures { result ≡ take_call lowest left state }
+{
+    if left == 0 {
+        return None;
+    }
+    let run = lowest?;
+    let left = left - 1;
+    Some((
+        (drill_moment(), take(run)),
+        Stage::Ending { run, left, state },
+    ))
+}
+
+/// The call that ends the run that was taken, and the stage after it.
+fn end_call(run: u64, left: u64, state: u32) -> (Call, Stage)
+    ensures { result ≡ end_call run left state }
+{
+    let state = next_state(state);
+    let event = end(run, draw_of(state));
+    ((drill_moment(), event), Stage::Turning { left, state })
+}
+
 impl Stage {
     /// The first stage of a drill of this number of tasks.
     pub fn first(count: u32) -> Stage
@@ -118,32 +155,11 @@ impl Stage {
                 count,
                 state,
             } => {
-                let first = next_state(state);
-                let second = next_state(first);
-                let event = add_task(alloc, number, draw_of(first), draw_of(second))?;
-                Ok(Some(((moment, event), Stage::after_task(number, count, second))))
+                let asked = add_call(alloc, number, count, state)?;
+                Ok(Some(asked))
             }
-            Stage::Turning { left, state } => {
-                if left == 0 {
-                    return Ok(None);
-                }
-                match desk.lowest_queued() {
-                    None => Ok(None),
-                    Some(run) => {
-                        let next = Stage::Ending {
-                            run,
-                            left: left - 1,
-                            state,
-                        };
-                        Ok(Some(((moment, take(run)), next)))
-                    }
-                }
-            }
-            Stage::Ending { run, left, state } => {
-                let state = next_state(state);
-                let event = end(run, draw_of(state));
-                Ok(Some(((moment, event), Stage::Turning { left, state })))
-            }
+            Stage::Turning { left, state } => Ok(take_call(desk.lowest_queued(), left, state)),
+            Stage::Ending { run, left, state } => Ok(Some(end_call(run, left, state))),
         }
     }
 }

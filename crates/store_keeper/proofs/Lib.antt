@@ -1,0 +1,10 @@
+pub mod NoSlash
+pub mod KeyTexts
+pub mod EntryRows
+pub mod Readings
+pub mod OneEdit
+pub mod ManyEdits
+pub mod Puts
+pub mod PutAll
+pub mod Filled
+pub mod KeeperCalls

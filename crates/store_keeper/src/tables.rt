@@ -1,0 +1,115 @@
+//! The tables that a store contains.
+ghost use Rattle.std.specs.Prelude.{◌≡◌, ◌+◌, ◌&&◌, true, false, length, nat_eq, IfOk, OnOk};
+ghost use Rattle.bt_rows.specs.State.{empty_state};
+ghost use Rattle.store_keeper.specs.Reading.{has_known_version};
+ghost use Rattle.store_keeper.specs.Filling.{filled, numbered, are_rows, has_all};
+ghost use Rattle.store_keeper.specs.Found.{IsFound};
+
+use crate::reading::put_all;
+use bt_base::{List, NoMemory};
+use bt_rows::tables::{Change, Tables};
+use keeper_store::{Entry, Metas, Stored};
+use kept_table::Rows;
+use std::alloc::Global;
+use tables_check::well_formed;
+
+/// The version of the form of the rows, which a store without the number `version` has (this project's own).
+const VERSION: u64 = 1;
+
+/// The number of the next node and of the next run in a store without them.
+const FIRST_NUMBER: u64 = 1;
+
+/// Whether the rows are of the form that is read here.
+fn has_known_version(metas: Metas) -> bool
+    ensures { result ≡ has_known_version metas }
+{
+    metas.version.unwrap_or(VERSION) == VERSION
+}
+
+/// Sets the numbers beside the rows.
+fn set_numbers(alloc: Global, metas: Metas, tables: &mut Tables) -> Result<(), NoMemory>
+    ensures { OnOk result (tables.new.state ≡ numbered metas tables.old.state) }
+{
+    let node = metas.next_node.unwrap_or(FIRST_NUMBER);
+    let run = metas.next_run.unwrap_or(FIRST_NUMBER);
+    let moment = metas.moment.unwrap_or(0);
+    let changes = vec![in alloc; Change::Counters(node, run), Change::Now(moment)]?;
+    tables.reserve(changes.as_slice())?;
+    tables.apply(List::of_vec(changes));
+    Ok(())
+}
+
+/// Takes the next row; whether there was one.
+fn advance<R>(rows: &mut Rows<'_, R>) -> bool
+    ensures some { result ≡ true → length rows.old ≡ length rows.new + 1 }
+    ensures none { result ≡ false → length rows.old ≡ 0 }
+{
+    match rows.next() {
+        Some(_) => true,
+        None => false,
+    }
+}
+
+/// Whether there are as many rows as entries. No clause of `Rows` says that the number of rows fits, as `count` would require.
+fn are_as_many<R>(rows: Rows<'_, R>, entries: &[Entry]) -> bool
+    ensures { result ≡ nat_eq (length rows.entry) (length entries.now) }
+{
+    let mut left = rows;
+    for _place in 0..entries.len() {
+        let is_there = advance(&mut left);
+        if !is_there {
+            return false;
+        }
+    }
+    let is_longer = advance(&mut left);
+    !is_longer
+}
+
+/// Whether there are as many rows as entries: no row has replaced another.
+fn has_all(tables: &Tables, stored: &Stored) -> bool
+    ensures { result ≡ has_all tables.now.state stored.now }
+{
+    let pools = are_as_many(tables.pools(), stored.pools.as_slice());
+    let nodes = are_as_many(tables.nodes(), stored.nodes.as_slice());
+    let jobs = are_as_many(tables.jobs(), stored.jobs.as_slice());
+    let tasks = are_as_many(tables.tasks(), stored.tasks.as_slice());
+    let runs = are_as_many(tables.runs(), stored.runs.as_slice());
+    let preps = are_as_many(tables.preps(), stored.preps.as_slice());
+    let samples = are_as_many(tables.samples(), stored.samples.as_slice());
+    let scales = are_as_many(tables.scales(), stored.scales.as_slice());
+    ((pools & nodes) & (jobs & tasks)) & ((runs & preps) & (samples & scales))
+}
+
+/// The tables with all rows and numbers of the store; whether each entry is a row, with a key of its own.
+fn fill(alloc: Global, stored: &Stored) -> Result<(Tables, bool), NoMemory>
+    ensures state { IfOk result (λ found. found.0.state ≡ numbered stored.now.metas (filled stored.now empty_state)) }
+    ensures rows { IfOk result (λ found. found.1 ≡ (are_rows stored.now && has_all found.0.state stored.now)) }
+{
+    let mut tables = Tables::empty(alloc);
+    let are_rows = put_all(alloc, stored, &mut tables)?;
+    set_numbers(alloc, stored.metas, &mut tables)?;
+    let has_all = has_all(&tables, stored);
+    Ok((tables, are_rows & has_all))
+}
+
+/// The tables that the store contains, whose rows are of a known form. None exactly if its content is not that of well-formed tables.
+fn tables_of(alloc: Global, stored: &Stored) -> Result<Option<Tables>, NoMemory>
+    requires { has_known_version stored.now.metas ≡ true }
+    ensures { IfOk result (λ found. IsFound stored.now found) }
+{
+    let found = fill(alloc, stored)?;
+    let formed = well_formed(alloc, &found.0)?;
+    let passes = found.1 & formed;
+    if passes { Ok(Some(found.0)) } else { Ok(None) }
+}
+
+/// The tables that the store contains. None exactly if its content is not that of well-formed tables.
+pub fn tables_in(alloc: Global, stored: &Stored) -> Result<Option<Tables>, NoMemory>
+    ensures { IfOk result (λ found. IsFound stored.now found) }
+{
+    if has_known_version(stored.metas) {
+        tables_of(alloc, stored)
+    } else {
+        Ok(None)
+    }
+}
