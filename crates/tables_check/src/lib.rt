@@ -14,6 +14,3 @@ mod tries;
 mod values;
 
 pub use check::well_formed;
-
-#[cfg(test)]
-mod tests;
