@@ -43,3 +43,10 @@ module _ {R : Type 0} where
   pub clear_origin : (before : Option ℕ) (slots : List (Option R)) (at : ℕ) (found : R) → slot_at (clear_at before slots) at ≡ Some found → slot_at slots at ≡ Some found
   clear_origin None slots at found h = h
   clear_origin (Some place) slots at found h = freed slots place at found h
+
+  -- a row beside a free place at the end
+  pub none_there : (slots : List (Option R)) (at : ℕ) (found : R) → slot_at (slots ++ None ∷ []) at ≡ Some found → slot_at slots at ≡ Some found
+  none_there [] zero found h = absurd (cc)
+  none_there [] (suc at) found h = absurd (cc)
+  none_there (slot ∷ slots) zero found h = h
+  none_there (slot ∷ slots) (suc at) found h = none_there slots at found h

@@ -17,25 +17,28 @@ use Rattle.machine_index.specs.Over.{AreOver, IsRunStep, over_rank, place_named,
 use Rattle.machine_index.specs.Active.{AreItemsOf}
 use Rattle.machine_index.specs.Timed.{AreTimed}
 use Rattle.machine_index.specs.Queued.{AreQueued}
+use Rattle.machine_index.specs.Numbered.{HasNumbered}
 use Rattle.machine_index.proofs.OverRanks.{over_step}
 use Rattle.machine_index.proofs.ActiveItems.{items_length}
+use Rattle.machine_index.proofs.ChangedSlots.{none_there}
 use Rattle.machine_index.proofs.RunSteps.{found_at, step_put, step_clear}
 use Rattle.machine_index.proofs.QueuedRanks.{queued_length}
 use Rattle.machine_index.proofs.TimedRanks.{timed_length}
 
 -- of the tasks and the runs that are these
 pub indexed_at : (tasks others : List (Option TaskRow)) (slots placed : List (Option RunRow)) (view : ChainsView) (groups : GroupsView)
-    (ranks : Ranks) (sums : SumsView) (times numbers : Ranks)
+    (ranks : Ranks) (sums : SumsView) (times numbers : Ranks) (chains : ChainsView)
     → others ≡ tasks → placed ≡ slots → HasRuns view slots → AreItemsOf tasks groups.items → AreOver (rows slots) tasks ranks.items
-    → HasHeld sums (rows tasks) slots → AreTimed tasks times.items → AreQueued slots numbers.items
-    → IsIndexed others placed view groups ranks sums times numbers
-indexed_at tasks others slots placed view groups ranks sums times numbers e f runs active over held timed queued = record {
+    → HasHeld sums (rows tasks) slots → AreTimed tasks times.items → AreQueued slots numbers.items → HasNumbered chains tasks
+    → IsIndexed others placed view groups ranks sums times numbers chains
+indexed_at tasks others slots placed view groups ranks sums times numbers chains e f runs active over held timed queued numbered = record {
   runs = rw f runs;
   active = rw e active;
   over = rw (e, f) over;
   held = rw (e, f) held;
   timed = rw e timed;
   queued = rw f queued;
+  numbered = rw e numbered;
 }
 
 module _ {R : Type 0} where
@@ -57,12 +60,6 @@ module _ {R : Type 0} where
   rows_none [] = refl
   rows_none (None ∷ slots) = rows_none slots
   rows_none (Some row ∷ slots) = ap (λ (rs : List R). row ∷ rs) (rows_none slots)
-
-  pub none_there : (slots : List (Option R)) (at : ℕ) (found : R) → slot_at (slots ++ None ∷ []) at ≡ Some found → slot_at slots at ≡ Some found
-  none_there [] zero found h = absurd (cc)
-  none_there [] (suc at) found h = absurd (cc)
-  none_there (slot ∷ slots) zero found h = h
-  none_there (slot ∷ slots) (suc at) found h = none_there slots at found h
 
   -- the rows beside the one that was put
   free_put : (before : Option ℕ) (slots : List (Option R)) (row : R)
@@ -131,14 +128,15 @@ over_after was is slots placed tasks others runs p q ranks first second apart st
 
 -- with other room
 pub indexed_kept : (tasks others : List (Option TaskRow)) (slots placed : List (Option RunRow)) (view changed : ChainsView)
-    (groups grouped : GroupsView) (ranks ranked : Ranks) (sums summed : SumsView) (times timed : Ranks) (numbers numbered : Ranks)
+    (groups grouped : GroupsView) (ranks ranked : Ranks) (sums summed : SumsView) (times timed : Ranks) (numbers numbered : Ranks) (chains chained : ChainsView)
     → others ≡ tasks → placed ≡ slots → (HasRuns view slots → HasRuns changed slots) → grouped.items ≡ groups.items → ranked.items ≡ ranks.items
     → (HasHeld sums (rows tasks) slots → HasHeld summed (rows tasks) slots) → timed.items ≡ times.items → numbered.items ≡ numbers.items
-    → IsIndexed tasks slots view groups ranks sums times numbers → IsIndexed others placed changed grouped ranked summed timed numbered
-indexed_kept tasks others slots placed view changed groups grouped ranks ranked sums summed times timed numbers numbered e f runs active over held later queued
-    indexed =
-    indexed_at tasks others slots placed changed grouped ranked summed timed numbered e f (runs indexed.runs) (rw active indexed.active)
-    (rw over indexed.over) (held indexed.held) (rw later indexed.timed) (rw queued indexed.queued)
+    → (HasNumbered chains tasks → HasNumbered chained tasks)
+    → IsIndexed tasks slots view groups ranks sums times numbers chains → IsIndexed others placed changed grouped ranked summed timed numbered chained
+indexed_kept tasks others slots placed view changed groups grouped ranks ranked sums summed times timed numbers numbered chains chained e f runs active over held later
+    queued known indexed =
+    indexed_at tasks others slots placed changed grouped ranked summed timed numbered chained e f (runs indexed.runs) (rw active indexed.active)
+    (rw over indexed.over) (held indexed.held) (rw later indexed.timed) (rw queued indexed.queued) (known indexed.numbered)
 
 -- a place that was found is one of the parts'
 pub within_active : (test : TaskRow → Bool) (place : Option ℕ) (tasks : List (Option TaskRow)) (groups : GroupsView) → place ≡ place_of test tasks → AreItemsOf tasks groups.items

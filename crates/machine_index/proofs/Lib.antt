@@ -10,4 +10,6 @@ pub mod OverRanks
 pub mod QueuedRanks
 pub mod ActiveItems
 pub mod RunSteps
+pub mod TextPlaces
+pub mod NumberPlaces
 pub mod TimedRanks

@@ -5,13 +5,11 @@ use Rattle.first_tree.specs.Ranks.{no_rank}
 use Rattle.kept_table.specs.Slots.{slot_at}
 use Rattle.kept_table.proofs.PlacesOf.{slot_at_get}
 use Rattle.ranked_groups.specs.Items.{Item}
-use Rattle.text_chains.specs.Chains.{ChainsView}
 use Rattle.batch_model.specs.Variants.{TaskRow, RunRow}
-use Rattle.machine_index.specs.Attempts.{HasRuns}
 use Rattle.machine_index.specs.Held.{SumsView, kept_sum, run_held, is_owned, IsCounted, HasHeld, HasKeys}
 use Rattle.machine_index.specs.Active.{AreItemsOf}
 use Rattle.machine_index.proofs.HeldSums.{run_added}
-use Rattle.machine_index.proofs.IndexedSteps.{free_push, none_there, held_none}
+use Rattle.machine_index.proofs.IndexedSteps.{free_push, held_none}
 use Rattle.machine_index.proofs.OverRanks.{slot_push_same}
 
 -- one place more
@@ -25,12 +23,6 @@ pub at_next : {R : Type 0} (P : List (Option R) → Type 0) (slots : List (Optio
     → P (take place slots ++ slot ∷ []) → P (take (place + 1) slots)
 at_next {R} P slots place slot within is h =
     subst P (sym (take_next slots place within)) (subst (λ (s : Option R). P (take place slots ++ s ∷ [])) is h)
-
-pub runs_none_next : (view : ChainsView) (slots : List (Option RunRow)) → HasRuns view slots → HasRuns view (slots ++ None ∷ [])
-runs_none_next view slots runs = record {
-  has = λ at found text there of. runs.has at found text (none_there slots at found there) of;
-  distinct = runs.distinct;
-}
 
 pub items_none_next : (slots : List (Option TaskRow)) (items : List Item) (group : List ℕ) → AreItemsOf slots items
     → AreItemsOf (slots ++ None ∷ []) (items ++ record { group = group; rank = no_rank } ∷ [])

@@ -1,10 +1,9 @@
 -- The places of the runs of an attempt.
-use Rattle.std.specs.Prelude.{◌≡◌, ℕ, Bool, nat_eq, min, List, [], ◌∷◌, ◌++◌, Option, Some, None, if◌then◌else◌}
-use Rattle.std.specs.List.{Contains, IsDistinct}
+use Rattle.std.specs.Prelude.{ℕ, Bool, min, List, [], ◌∷◌, ◌++◌, Option, Some, None, if◌then◌else◌}
 use Rattle.kept_table.specs.Keys.{number_text, ids_text}
-use Rattle.kept_table.specs.Slots.{slot_at}
-use Rattle.text_chains.specs.Chains.{ChainsView, places_of}
+use Rattle.text_chains.specs.Chains.{ChainsView}
 use Rattle.batch_model.specs.Variants.{TaskRow, RunRow}
+use Rattle.machine_index.specs.Texts.{HasPlaces}
 
 -- the text of an attempt of a job's task: the number of the attempt, and both ids
 abbrev pub attempt_text : List ℕ → List ℕ → ℕ → List ℕ
@@ -25,10 +24,8 @@ abbrev pub run_attempt_text : RunRow → Option (List ℕ)
 run_attempt_text run = text_of run.job run.task run.attempt
 
 -- each run is at one of the places of its attempt, and no place is twice among those of an attempt
-pub record HasRuns (view : ChainsView) (slots : List (Option RunRow)) : Type 0 where
-  pub has : (place : ℕ) (run : RunRow) (text : List ℕ) → slot_at slots place ≡ Some run → run_attempt_text run ≡ Some text
-      → Contains (places_of view text) place
-  pub distinct : (text : List ℕ) → IsDistinct nat_eq (places_of view text)
+abbrev pub HasRuns : ChainsView → List (Option RunRow) → Type 0
+HasRuns view slots = HasPlaces run_attempt_text view slots
 
 -- the lower of two places
 abbrev pub lower : Option ℕ → ℕ → ℕ
@@ -39,9 +36,3 @@ lower (Some least) place = min least place
 abbrev pub lowest_from : (ℕ → Bool) → Option ℕ → List ℕ → Option ℕ
 lowest_from test least [] = least
 lowest_from test least (place ∷ places) = lowest_from test (if test place then Some (lower least place) else least) places
-
--- the place is put among those of the text, unless it is one of them, and those of other texts stay
-pub record IsAdded (old new : ChainsView) (text : List ℕ) (place : ℕ) : Type 0 where
-  pub has : Contains (places_of new text) place
-  pub kept : (other : List ℕ) (at : ℕ) → Contains (places_of old other) at → Contains (places_of new other) at
-  pub distinct : ((other : List ℕ) → IsDistinct nat_eq (places_of old other)) → (other : List ℕ) → IsDistinct nat_eq (places_of new other)

@@ -1,3 +1,4 @@
+pub mod Texts
 pub mod Attempts
 pub mod Held
 pub mod Indexed
@@ -5,3 +6,4 @@ pub mod Over
 pub mod Active
 pub mod Timed
 pub mod Queued
+pub mod Numbered

@@ -4,17 +4,21 @@ ghost use Rattle.std.specs.List.{find};
 ghost use Rattle.std.specs.Option.{option_copied};
 ghost use Rattle.kept_table.specs.Slots.{slot_at, clear_at};
 ghost use Rattle.bt_rows.specs.Changes.{apply_change, apply_changes, tasks_placed, runs_placed};
+ghost use Rattle.batch_model.specs.Readiness.{is_number_satisfied};
 ghost use Rattle.batch_model.specs.Settling.{is_over};
 ghost use Rattle.batch_model.specs.Slots.{held_slots};
 ghost use Rattle.batch_model.specs.Tasks.{is_busy, main_run};
 ghost use Rattle.batch_model.specs.Variants.{TaskRow, RunRow};
 ghost use Rattle.machine_index.specs.Over.{AreOver, place_of_run};
 ghost use Rattle.machine_index.specs.Active.{AreItemsOf, is_active_within};
+ghost use Rattle.machine_index.specs.Indexed.{IsIndexed};
 ghost use Rattle.machine_index.specs.Timed.{AreTimed, is_overdue};
 ghost use Rattle.machine_index.specs.Queued.{AreNumbered, lowest_queued};
 
 use crate::active_tasks::ActiveTasks;
 use crate::held_slots::HeldSlots;
+use crate::index_parts::{RunParts, TaskParts};
+use crate::numbered_tasks::NumberedTasks;
 use crate::placed_tasks::{PlacedTasks, place_of_run};
 use crate::queued_runs::QueuedRuns;
 use crate::runs_of_attempts::RunsOfAttempts;
@@ -38,6 +42,7 @@ pub struct IndexedTables {
     held: HeldSlots,
     timed: TimedTasks,
     queued: QueuedRuns,
+    numbered: NumberedTasks,
     room: usize,
 }
 
@@ -48,7 +53,7 @@ impl Model for IndexedTables {
 
     ghost view = { λ i. record { state = i.tables.state; room = i.room } };
 
-    ghost invariant = { λ i. IsIndexed i.tables.task_slots i.tables.run_slots i.runs i.active i.over i.held i.timed i.queued × HasRoom i.room i.tables.room i.runs.room i.active.room i.over.room i.held.room i.timed.room i.queued.room };
+    ghost invariant = { λ i. IsIndexed i.tables.task_slots i.tables.run_slots i.runs i.active i.over i.held i.timed i.queued i.numbered × HasRoom i.room i.tables.room i.runs.room i.active.room i.over.room i.held.room i.timed.room i.queued.room i.numbered.room };
 }
 
 /// The place of the task that the run at this place names.
@@ -98,27 +103,32 @@ fn clear_timed(timed: &mut TimedTasks, place: Option<usize>)
 }
 
 impl IndexedTables {
+    /// These tables with what is kept of them, and without room.
+    fn of_parts(tables: Tables, runs: RunParts, tasks: TaskParts) -> IndexedTables
+        requires { IsIndexed tables.task_slots tables.run_slots runs.runs tasks.active tasks.over runs.held tasks.timed runs.queued tasks.numbered }
+        ensures { result.state ≡ tables.state }
+    {
+        IndexedTables {
+            tables,
+            runs: runs.runs,
+            active: tasks.active,
+            over: tasks.over,
+            held: runs.held,
+            timed: tasks.timed,
+            queued: runs.queued,
+            numbered: tasks.numbered,
+            room: 0,
+        }
+    }
+
     /// These tables, with what is kept beside them, and without room. The only error is out of memory.
     pub fn of_tables(alloc: Global, tables: Tables) -> Result<IndexedTables, NoMemory>
         ensures { IfOk result (λ indexed. indexed.state ≡ tables.state) }
     {
         tables.places_known();
-        let runs = RunsOfAttempts::of_tables(alloc, &tables)?;
-        let active = ActiveTasks::of_tables(alloc, &tables)?;
-        let over = PlacedTasks::of_tables(alloc, &tables, &runs)?;
-        let held = HeldSlots::of_tables(alloc, &tables)?;
-        let timed = TimedTasks::of_tables(alloc, &tables)?;
-        let queued = QueuedRuns::of_tables(alloc, &tables)?;
-        Ok(IndexedTables {
-            tables,
-            runs,
-            active,
-            over,
-            held,
-            timed,
-            queued,
-            room: 0,
-        })
+        let runs = RunParts::of_tables(alloc, &tables)?;
+        let tasks = TaskParts::of_tables(alloc, &tables, &runs.runs)?;
+        Ok(IndexedTables::of_parts(tables, runs, tasks))
     }
 
     /// The tables.
@@ -165,6 +175,7 @@ impl IndexedTables {
         self.held.reserve(additional)?;
         self.timed.reserve(additional)?;
         self.queued.reserve(additional)?;
+        self.numbered.reserve(additional)?;
         self.room = additional;
         Ok(())
     }
@@ -183,6 +194,7 @@ impl IndexedTables {
         self.active.put(before, &task);
         self.over.put(&self.tables, &self.runs, before, &task);
         self.timed.put(before, &task);
+        self.numbered.put(&task, place);
         self.tables.apply_one(Change::PutTask(task));
         self.tables.keys_known();
         self.held.hold_task(&self.tables, &self.runs, place);
@@ -314,6 +326,14 @@ impl IndexedTables {
         ensures { result ≡ lowest_queued self.now.state.runs }
     {
         self.queued.lowest(&self.tables)
+    }
+
+    /// Whether a task of the job whose id is this number is completed, and lets the tasks that depend on it go on. It looks at the tasks
+    /// that have this number in the job, found by a hash map, and does not allocate.
+    pub fn is_number_satisfied(&self, job: &Id, number: u64) -> bool
+        ensures { result ≡ is_number_satisfied self.now.state job.now number }
+    {
+        self.numbered.is_satisfied(&self.tables, job, number)
     }
 
     /// Whether a run of the task's present attempt has not ended.

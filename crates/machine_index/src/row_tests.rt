@@ -1,8 +1,10 @@
 //! Tests of single rows.
 ghost use Rattle.std.specs.Prelude.{◌≡◌, ◌&&◌};
 ghost use Rattle.batch_model.specs.Finding.{names};
+ghost use Rattle.batch_model.specs.Readiness.{has_number, satisfies_others};
 ghost use Rattle.batch_model.specs.Runs.{is_present, is_busy_for, is_main, is_queued, is_unended};
-ghost use Rattle.batch_model.specs.Tasks.{is_placed, is_undisturbed};
+ghost use Rattle.batch_model.specs.Tasks.{is_completed, is_placed, is_undisturbed};
+ghost use Rattle.machine_index.specs.Numbered.{satisfies_number};
 ghost use Rattle.machine_index.specs.Timed.{is_timed};
 
 use bt_base::Id;
@@ -80,4 +82,38 @@ pub fn is_main_for(task: &TaskRow, run: &RunRow) -> bool
     ensures { result ≡ (is_present task.now run.now && is_main run.now.kind) }
 {
     is_present(task, run) && is_main(run.kind)
+}
+
+/// Whether the task is completed.
+fn is_completed(stage: TaskStage) -> bool
+    ensures { result ≡ is_completed stage }
+{
+    stage == TaskStage::Completed
+}
+
+/// Whether the task is completed, and lets the tasks that depend on it go on.
+pub fn satisfies_others(task: &TaskRow) -> bool
+    ensures { result ≡ satisfies_others task.now }
+{
+    match &task.closed {
+        None => false,
+        Some(closed) => closed.satisfies && is_completed(task.stage),
+    }
+}
+
+/// Whether the id of the task is this number.
+fn has_number(number: u64, task: &TaskRow) -> bool
+    ensures { result ≡ has_number number task.now }
+{
+    match task.id.number() {
+        None => false,
+        Some(own) => number == u64::from(own),
+    }
+}
+
+/// Whether the task is one of the job whose id is this number, and satisfies those that name it.
+pub fn satisfies_number(job: &Id, number: u64, task: &TaskRow) -> bool
+    ensures { result ≡ satisfies_number job.now number task.now }
+{
+    satisfies_others(task) && has_number(number, task) && task.job.same(job)
 }

@@ -6,9 +6,10 @@ ghost use Rattle.batch_model.specs.Runs.{is_present, is_busy_for, is_main};
 ghost use Rattle.batch_model.specs.Tasks.{is_busy, main_run};
 ghost use Rattle.batch_model.specs.Variants.{RunRow};
 ghost use Rattle.text_chains.specs.Chains.{places_of};
-ghost use Rattle.machine_index.specs.Attempts.{HasRuns, IsAdded, lowest_from, lower, present_text};
+ghost use Rattle.machine_index.specs.Attempts.{HasRuns, lowest_from, lower, present_text};
 
 use crate::attempt_text::AttemptText;
+use crate::chains::add_place;
 use crate::row_tests::{is_busy_for, is_main_for};
 use bt_base::NoMemory;
 use bt_rows::run::RunRow;
@@ -82,17 +83,6 @@ impl RunsOfAttempts {
         self.chains.reserve(additional)
     }
 
-    /// Adds a place to those of an attempt, unless it is one of them. It does not allocate.
-    fn add_place(&mut self, text: &AttemptText, place: usize)
-        requires { 0 < self.old.room }
-        ensures places { IsAdded self.old self.new text.now place }
-        ensures room { self.old.room ≤ self.new.room + 1 }
-    {
-        if !self.chains.has(text.as_slice(), place) {
-            self.chains.add(text.as_slice(), place);
-        }
-    }
-
     /// Adds a run that is put at this place: that of a run, or the one after the last. It does not allocate.
     pub fn add(&mut self, run: &RunRow, place: usize)
         requires { 0 < self.old.room }
@@ -101,7 +91,7 @@ impl RunsOfAttempts {
     {
         match AttemptText::of_run(run) {
             None => {}
-            Some(text) => self.add_place(&text, place),
+            Some(text) => add_place(&mut self.chains, text.as_slice(), place),
         }
     }
 

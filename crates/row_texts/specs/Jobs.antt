@@ -92,6 +92,7 @@ job_in d = do
     reason = reason;
   })
 
+-- the JSON of a row is not null, has no floats and nests at most 4 deep
 pub job_plain : (row : JobRow) → IsPlain 4 (job_data row)
 job_plain row =
     array_plain (

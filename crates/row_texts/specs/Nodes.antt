@@ -23,6 +23,7 @@ node_data row =
     ∷ count_data row.tries
     ∷ []))
 
+-- each field at its place in the array
 unfoldable pub node_in : Data → Result NodeRow RowFault
 node_in d = do
   _ ← require_length 5 d
@@ -33,6 +34,7 @@ node_in d = do
   tries ← field_at count_in 4 d
   Ok (record { number = number; pool = pool; seat = seat; stage = stage; tries = tries })
 
+-- the JSON of a row is not null, has no floats and nests at most 4 deep
 pub node_plain : (row : NodeRow) → IsPlain 4 (node_data row)
 node_plain row =
     array_plain (

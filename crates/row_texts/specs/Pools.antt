@@ -92,6 +92,7 @@ pool_in d = do
     enabled = enabled;
   })
 
+-- the JSON of a row is not null, has no floats and nests at most 4 deep
 pub pool_plain : (row : PoolRow) → IsPlain 4 (pool_data row)
 pool_plain row =
     array_plain (

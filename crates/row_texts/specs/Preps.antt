@@ -32,6 +32,7 @@ prep_data row =
     ∷ release_state_data row.release
     ∷ []))
 
+-- each field at its place in the array
 unfoldable pub prep_in : Data → Result PrepRow RowFault
 prep_in d = do
   _ ← require_length 6 d
@@ -43,6 +44,7 @@ prep_in d = do
   release ← field_at release_state_in 5 d
   Ok (record { job = job; node = node; state = state; tries = tries; ran = ran; release = release })
 
+-- the JSON of a row is not null, has no floats and nests at most 4 deep
 pub prep_plain : (row : PrepRow) → IsPlain 4 (prep_data row)
 prep_plain row =
     array_plain (

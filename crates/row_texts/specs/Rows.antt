@@ -30,6 +30,7 @@ kind_number kinds.Prep = 6
 kind_number kinds.Sample = 7
 kind_number kinds.Scale = 8
 
+-- all kinds, in the order of their numbers
 abbrev pub all_kinds : List RowKind
 all_kinds =
     kinds.Pool ∷ kinds.Node ∷ kinds.Job ∷ kinds.Task ∷ kinds.Run ∷ kinds.Prep ∷ kinds.Sample ∷ kinds.Scale ∷ []

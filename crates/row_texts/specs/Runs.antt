@@ -83,6 +83,7 @@ run_in d = do
     ended = progress.ended;
   })
 
+-- the JSON of a row is not null, has no floats and nests at most 4 deep
 pub run_plain : (row : RunRow) → IsPlain 4 (run_data row)
 run_plain row =
     array_plain (

@@ -23,6 +23,7 @@ sample_data row =
     ∷ whole_data row.value
     ∷ []))
 
+-- each field at its place in the array
 unfoldable pub sample_in : Data → Result SampleRow RowFault
 sample_in d = do
   _ ← require_length 4 d
@@ -32,6 +33,7 @@ sample_in d = do
   value ← field_at num_in 3 d
   Ok (record { pool = pool; metric = metric; label = label; value = value })
 
+-- the JSON of a row is not null, has no floats and nests at most 4 deep
 pub sample_plain : (row : SampleRow) → IsPlain 4 (sample_data row)
 sample_plain row =
     array_plain (

@@ -22,6 +22,7 @@ scale_data row =
     ∷ option_data string row.last
     ∷ []))
 
+-- each field at its place in the array
 unfoldable pub scale_in : Data → Result ScaleRow RowFault
 scale_in d = do
   _ ← require_length 5 d
@@ -32,6 +33,7 @@ scale_in d = do
   last ← option_at text_in 4 d
   Ok (record { pool = pool; formula = formula; interval = interval; next = next; last = last })
 
+-- the JSON of a row is not null, has no floats and nests at most 4 deep
 pub scale_plain : (row : ScaleRow) → IsPlain 4 (scale_data row)
 scale_plain row =
     array_plain (

@@ -177,6 +177,7 @@ task_in d = do
     closed = progress.closed;
   })
 
+-- the JSON of a row is not null, has no floats and nests at most 4 deep
 pub task_plain : (row : TaskRow) → IsPlain 4 (task_data row)
 task_plain row =
     array_plain (

@@ -108,9 +108,9 @@ fn place_by_ledger(
 /// The plan of U16, until run numbers are used up: of the jobs of which a task can be placed the one of the highest priority, and the
 /// earliest of several such, and its first task that fits, on the node that the pool's fill type chooses. None exactly if no task
 /// fits. A task fits only if all that it depends on is satisfied. The only error is out of memory. It goes once over the nodes and the
-/// jobs, and again over the nodes for each job whose preparation is waited for and has failed on some node. It looks at the tasks only
-/// for a job that could be the next: to count the placed ones, if the job has a limit of them; for the numbers that a task depends on;
-/// and, if the first active task for which enough slots are free still waits for others, to find a ready one.
+/// jobs, and again over the nodes for each job whose preparation is waited for and has failed on some node. It goes over the tasks only
+/// for a job that could be the next: to count the placed ones, if the job has a limit of them; and, if the first active task for which
+/// enough slots are free still waits for others, to find a ready one.
 pub fn place_first(alloc: Global, indexed: &IndexedTables) -> Result<Option<Plan>, NoMemory>
     requires keys { KeysAreDistinct indexed.now.state }
     requires numbers { NumbersAreNew indexed.now.state }

@@ -56,21 +56,22 @@ fn is_active_within(job: &Id, most: u8, task: &TaskRow) -> bool
 }
 
 /// Whether the task is a ready one of the job, without instances, that asks for at most `most` slots.
-fn is_ready_within(tables: &Tables, job: &Id, most: u8, task: &TaskRow) -> bool
-    requires { KeysAreDistinct tables.now.state }
-    ensures { result ≡ is_ready_within tables.now.state job.now most task.now }
+fn is_ready_within(indexed: &IndexedTables, job: &Id, most: u8, task: &TaskRow) -> bool
+    requires { KeysAreDistinct indexed.now.state }
+    ensures { result ≡ is_ready_within indexed.now.state job.now most task.now }
 {
-    is_active_within(job, most, task) && is_unblocked(tables, task)
+    is_active_within(job, most, task) && is_unblocked(indexed, task)
 }
 
 /// The first ready task of the job, without instances, that asks for at most `most` slots, by a look at all tasks.
-fn search_ready<'a>(tables: &'a Tables, job: &Id, most: u8) -> Option<&'a TaskRow>
-    requires { KeysAreDistinct tables.now.state }
-    ensures { option_copied result ≡ find (is_ready_within tables.now.state job.now most) tables.now.state.tasks }
+fn search_ready<'a>(indexed: &'a IndexedTables, job: &Id, most: u8) -> Option<&'a TaskRow>
+    requires { KeysAreDistinct indexed.now.state }
+    ensures { option_copied result ≡ find (is_ready_within indexed.now.state job.now most) indexed.now.state.tasks }
 {
-    tables
+    indexed
+        .tables()
         .tasks()
-        .find(|task| is_ready_within(tables, job, most, task))
+        .find(|task| is_ready_within(indexed, job, most, task))
 }
 
 /// The first ready task of the job, without instances, that asks for at most `most` slots. It looks at all tasks only if the first
@@ -81,8 +82,8 @@ fn first_ready<'a>(indexed: &'a IndexedTables, job: &Id, most: u8) -> Option<&'a
 {
     match indexed.first_active(job, most) {
         None => None,
-        Some(task) if is_unblocked(indexed.tables(), task) => Some(task),
-        Some(_) => search_ready(indexed.tables(), job, most),
+        Some(task) if is_unblocked(indexed, task) => Some(task),
+        Some(_) => search_ready(indexed, job, most),
     }
 }
 

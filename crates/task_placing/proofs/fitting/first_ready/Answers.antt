@@ -9,4 +9,4 @@ pub returns-in-Some : goal.returns-in-Some
 returns-in-Some c =
     sym
     (active_is_ready c.args.indexed.now.state c.args.job.now c.args.most c.in-Some.task.now (sym c.in-Some.ensures)
-    (sym (rw c.tables.ensures at c.is_unblocked.ensures) ∙ c.if-is_unblocked.true))
+    (sym c.is_unblocked.ensures ∙ c.if-is_unblocked.true))

@@ -9,7 +9,7 @@ returns-then-not-is_number_satisfied c =
     let within : c.args.span.0 < c.loop-number.number = omega arith in
     sym
     (c.loop-number.invariant
-    ∙ last_fails (is_number_satisfied c.args.tables.now.state c.args.job.now) c.args.span.0 c.loop-number.number within
+    ∙ last_fails (is_number_satisfied c.args.indexed.now.state c.args.job.now) c.args.span.0 c.loop-number.number within
     (sym c.is_number_satisfied.ensures ∙ fails))
 
 pub loop-number-preserved : goal.loop-number-preserved
@@ -17,5 +17,5 @@ loop-number-preserved c =
     let passes : c.is_number_satisfied.result ≡ true = search rules in
     let within : c.args.span.0 < c.loop-number.number = omega arith in
     c.loop-number.invariant
-    ∙ last_passes (is_number_satisfied c.args.tables.now.state c.args.job.now) c.args.span.0 c.loop-number.number within
+    ∙ last_passes (is_number_satisfied c.args.indexed.now.state c.args.job.now) c.args.span.0 c.loop-number.number within
     (sym c.is_number_satisfied.ensures ∙ passes)

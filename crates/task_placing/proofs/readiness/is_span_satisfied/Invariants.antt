@@ -6,5 +6,5 @@ use Rattle.task_placing.proofs.readiness.is_span_satisfied.Given as goal
 -- the range is satisfied if the numbers before this one are
 abbrev pub invariant-loop-number : goal.invariant-loop-number
 invariant-loop-number l =
-    is_span_satisfied l.tables.state l.job (l.first, l.last)
-    ≡ list_all (is_number_satisfied l.tables.state l.job) (range_with_len l.first (l.number - l.first))
+    is_span_satisfied l.indexed.state l.job (l.first, l.last)
+    ≡ list_all (is_number_satisfied l.indexed.state l.job) (range_with_len l.first (l.number - l.first))

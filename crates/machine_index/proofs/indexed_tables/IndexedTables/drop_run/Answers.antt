@@ -3,12 +3,13 @@ use Rattle.std.specs.Option.{unwrap_or}
 use Rattle.kept_table.specs.Slots.{slot_at, rows, clear_at}
 use Rattle.bt_rows.specs.Keys.{run_has_number}
 use Rattle.batch_model.specs.Variants.{TaskRow, RunRow}
-use Rattle.machine_index.specs.Attempts.{HasRuns}
+use Rattle.machine_index.specs.Attempts.{HasRuns, run_attempt_text}
 use Rattle.machine_index.specs.Active.{AreItemsOf}
 use Rattle.machine_index.specs.Timed.{AreTimed}
 use Rattle.machine_index.specs.Queued.{AreQueued}
+use Rattle.machine_index.specs.Numbered.{HasNumbered}
 use Rattle.machine_index.proofs.IndexedSteps.{within_queued, within_named, over_after, clear_step, held_cleared}
-use Rattle.machine_index.proofs.RunPlaces.{runs_cleared}
+use Rattle.machine_index.proofs.TextPlaces.{row_cleared}
 use Rattle.machine_index.proofs.indexed_tables.IndexedTables.drop_run.Goals as goal
 
 pub clear-requires : goal.clear-requires
@@ -24,7 +25,7 @@ refresh-requires-clause-runs c =
     let before = c.run_place-before.result in
     let placed : c.apply_one.new.self.run_slots ≡ clear_at before slots =
     c.apply_one.ensures.runs ∙ sym (ap (λ (p : Option ℕ). clear_at p slots) c.run_place-before.ensures) in
-    subst (HasRuns s.runs) (sym placed) (runs_cleared s.runs slots before c.self.invariant.0.runs)
+    subst (HasRuns s.runs) (sym placed) (row_cleared run_attempt_text s.runs slots before c.self.invariant.0.runs)
 
 pub refresh-requires-clause-place : goal.refresh-requires-clause-place
 refresh-requires-clause-place c =
@@ -43,7 +44,7 @@ invariant_of-self c =
     let placed : new.run_slots ≡ clear_at before t.run_slots =
     c.apply_one.ensures.runs ∙ sym (ap (λ (p : Option ℕ). clear_at p t.run_slots) c.run_place-before.ensures) in (
       record {
-        runs = subst (HasRuns s.runs) (sym placed) (runs_cleared s.runs t.run_slots before old.runs);
+        runs = subst (HasRuns s.runs) (sym placed) (row_cleared run_attempt_text s.runs t.run_slots before old.runs);
         active = subst (λ (ts : List (Option TaskRow)). AreItemsOf ts s.active.items) (sym c.apply_one.ensures.tasks) old.active;
         over =
             over_after (slot_at t.run_slots c.unwrap_or-place.result) None t.run_slots new.run_slots t.task_slots new.task_slots new.state.runs c.task_of_run_at-old_task.result None s.over.items
@@ -54,6 +55,7 @@ invariant_of-self c =
             (ap rows c.apply_one.ensures.tasks ∙ c.places_known.ensures.tasks) placed place c.release_run.ensures.held;
         timed = subst (λ (ts : List (Option TaskRow)). AreTimed ts s.timed.items) (sym c.apply_one.ensures.tasks) old.timed;
         queued = subst (λ (ss : List (Option RunRow)). AreQueued ss c.clear.new.self.items) (sym placed) (c.clear.ensures.ranks t.run_slots old.queued);
+        numbered = subst (λ (ts : List (Option TaskRow)). HasNumbered s.numbered ts) (sym c.apply_one.ensures.tasks) old.numbered;
       },
       search rules,
     )

@@ -8,6 +8,7 @@ use Rattle.machine_index.specs.Held.{HasHeld}
 use Rattle.machine_index.specs.Active.{AreItemsOf}
 use Rattle.machine_index.specs.Timed.{AreTimed}
 use Rattle.machine_index.specs.Queued.{AreQueued}
+use Rattle.machine_index.specs.Numbered.{HasNumbered}
 use Rattle.machine_index.proofs.IndexedSteps.{within_queued, within_named, within_again, over_after, put_step, held_beside_run}
 use Rattle.machine_index.proofs.indexed_tables.IndexedTables.put_run.Goals as goal
 
@@ -63,6 +64,7 @@ invariant_of-self c =
             subst (λ (ts : List TaskRow). HasHeld c.hold_run.new.self ts new.run_slots) (sym c.places_known-2.ensures.tasks) c.hold_run.ensures.held;
         timed = subst (λ (ts : List (Option TaskRow)). AreTimed ts s.timed.items) (sym c.apply_one.ensures.tasks) old.timed;
         queued = subst (λ (ss : List (Option RunRow)). AreQueued ss c.put.new.self.items) (sym placed) (c.put.ensures.ranks t.run_slots old.queued);
+        numbered = subst (λ (ts : List (Option TaskRow)). HasNumbered s.numbered ts) (sym c.apply_one.ensures.tasks) old.numbered;
       },
       search rules,
     )

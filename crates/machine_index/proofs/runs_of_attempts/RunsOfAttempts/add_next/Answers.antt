@@ -1,14 +1,15 @@
 use Rattle.std.proofs.Common.{◌≡◌, ◌≤◌, length, take, Some, None, sym, arith}
 use Rattle.std.proofs.lemmas.List.{length-take-le}
-use Rattle.machine_index.specs.Attempts.{HasRuns}
-use Rattle.machine_index.proofs.NextPlaces.{at_next, runs_none_next}
+use Rattle.machine_index.specs.Attempts.{HasRuns, run_attempt_text}
+use Rattle.machine_index.proofs.NextPlaces.{at_next}
+use Rattle.machine_index.proofs.TextPlaces.{row_none_next}
 use Rattle.machine_index.proofs.runs_of_attempts.RunsOfAttempts.add_next.Goals as goal
 
 pub returns-in-None : goal.returns-in-None
 returns-in-None c = λ runs.
     let slots = c.args.tables.now.run_slots in
     let place = c.args.place in
-    at_next (HasRuns c.args.self.now) slots place None c.requires.place c.in-None.ensures (runs_none_next c.args.self.now (take place slots) runs)
+    at_next (HasRuns c.args.self.now) slots place None c.requires.place c.in-None.ensures (row_none_next run_attempt_text c.args.self.now (take place slots) runs)
 
 pub returns-in-Some : goal.returns-in-Some
 returns-in-Some c = λ runs.
