@@ -7,7 +7,8 @@ use Rattle.bt_base.proofs.Gaining.{gains_nothing}
 use Rattle.bt_rows.specs.declared.event.EventKind.{EventKind}
 use Rattle.bt_rows.specs.declared.refusal.Refusal.{Refusal}
 use Rattle.batch_wire.specs.LineRequest.{LineRequest}
-use Rattle.batch_wire.specs.LineRequest.TheVariants.{Skip, Call}
+use Rattle.batch_wire.specs.LineRequest.TheVariants.{Skip, Call, Look}
+use Rattle.batch_wire.specs.Read.{Read}
 use Rattle.batch_wire.specs.TextLines.{numbered}
 use Rattle.batch_wire.specs.Refusals.{refusal_text}
 use Rattle.batch_desk.specs.declared.entry.Entry.{Entry}
@@ -17,7 +18,7 @@ use Rattle.batch_desk.specs.declared.entry.Stop.TheVariants.{Rest, KeeperFault a
 use Rattle.batch_desk.specs.Kept.{Desk}
 use Rattle.batch_desk.specs.History.{asked_of, after_call, faults_of}
 use Rattle.batch_desk.specs.Answers.{AnswersCall, Enters, HasSameOpening}
-use Rattle.batch_cli.specs.Shown.{call_shown, answer_text, ran_out}
+use Rattle.batch_cli.specs.Shown.{call_shown, answer_text, look_text, ran_out}
 use Rattle.batch_cli.specs.Advance.{Advances, ShowsCall, HaltsCall, Did, CutShort, Halts, room_of, RoseBy}
 
 take_none : {A : Type 0} (n : ℕ) → take {A = A} n [] ≡ []
@@ -126,6 +127,25 @@ did_skip faults d n a = record {
   written = gains_nothing a;
   settled = refl;
 }
+
+-- by a read, which shows the tables and leaves them
+look_advances : {K : Type 0} (faults : K → ℕ) (d : Desk K) (n : ℕ) (read : Read) → Advances faults d d n (Ok (Look read)) (look_text n d.state read)
+look_advances faults d n read = record {
+  added = [];
+  entries = sym (append-nil d.entries);
+  shows = λ rest more. refl;
+  calls = sym (take_none (room_of d));
+  rose = omega arith;
+}
+
+pub did_look : {K : Type 0} (faults : K → ℕ) (d : Desk K) (n : ℕ) (read : Read) (a b : Option (List ℕ)) →
+    Gains a b (look_text n d.state read) → Did faults d d n (Ok (Look read)) a b
+unfolding look_advances
+did_look faults d n read a b g = record { text = look_text n d.state read; step = look_advances faults d n read; written = g; settled = refl }
+
+pub cut_look : {K : Type 0} (faults : K → ℕ) (d : Desk K) (n : ℕ) (read : Read) (a b : Option (List ℕ)) →
+    GainsFront a b (look_text n d.state read) → Halts faults d d n (Ok (Look read)) a b
+cut_look faults d n read a b g = inr (record { text = look_text n d.state read; step = look_advances faults d n read; written = g })
 
 -- by a line that is not a valid request
 refusal_advances : {K : Type 0} (faults : K → ℕ) (d : Desk K) (n : ℕ) (refusal : Refusal) →

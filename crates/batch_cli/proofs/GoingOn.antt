@@ -7,7 +7,7 @@ use Rattle.bt_base.proofs.Gaining.{gains_nothing, gains_more}
 use Rattle.bt_rows.specs.declared.event.EventKind.{EventKind}
 use Rattle.bt_rows.specs.declared.refusal.Refusal.{Refusal}
 use Rattle.batch_wire.specs.LineRequest.{LineRequest}
-use Rattle.batch_wire.specs.LineRequest.TheVariants.{Skip, Call}
+use Rattle.batch_wire.specs.LineRequest.TheVariants.{Skip, Call, Look}
 use Rattle.batch_wire.specs.Lines.{line_of}
 use Rattle.batch_wire.specs.Tables.{tables_text}
 use Rattle.batch_desk.specs.declared.entry.Entry.{Entry}
@@ -71,6 +71,7 @@ begins_more front least text b = record { rest = b.rest ++ text; cut = ap (λ w.
 pub one_call : (request : Result LineRequest Refusal) → length (call_in request) ≤ 1
 one_call (Ok Skip) = omega arith
 one_call (Ok (Call moment event)) = omega arith
+one_call (Ok (Look read)) = omega arith
 one_call (Err refusal) = omega arith
 
 -- the room after a line
@@ -150,6 +151,7 @@ no_entry : (seats n room : ℕ) (rest : ℕ → List Entry → State → List �
 no_entry seats n room rest (Ok Skip) s e added h = let none = take_none {A = ℕ × EventKind} room in absurd (cc)
 no_entry seats n zero rest (Ok (Call moment event)) s e added h = absurd (cc)
 no_entry seats n (suc room) rest (Ok (Call moment event)) s e added h = refl
+no_entry seats n room rest (Ok (Look read)) s e added h = let none = take_none {A = ℕ × EventKind} room in absurd (cc)
 no_entry seats n room rest (Err refusal) s e added h = let none = take_none {A = ℕ × EventKind} room in absurd (cc)
 
 -- a line adds one entry at most

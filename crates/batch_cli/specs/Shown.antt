@@ -13,8 +13,10 @@ use Rattle.batch_desk.specs.declared.answer.Answer.TheVariants.{Done, KeeperFaul
 use Rattle.batch_desk.specs.History.{after_call}
 use Rattle.batch_desk.specs.Answers.{entry_answer}
 use Rattle.batch_wire.specs.LineRequest.{LineRequest}
-use Rattle.batch_wire.specs.LineRequest.TheVariants.{Skip, Call}
+use Rattle.batch_wire.specs.LineRequest.TheVariants.{Skip, Call, Look}
 use Rattle.batch_wire.specs.Lines.{line_of}
+use Rattle.batch_wire.specs.Read.{Read}
+use Rattle.batch_wire.specs.Reads.{read_reply}
 use Rattle.batch_wire.specs.TextLines.{numbered}
 use Rattle.batch_wire.specs.Dues.{due_text}
 use Rattle.batch_wire.specs.Refusals.{refusal_text}
@@ -50,6 +52,10 @@ answer_text n KeeperFault = numbered n fault_text
 answer_text n JournalFull = numbered n full_text
 answer_text n Memory = []
 
+-- the line that shows what the read of line n shows of these tables
+abbrev pub look_text : ℕ → State → Read → List ℕ
+look_text n s read = numbered n (reply_text (read_reply s read))
+
 -- A call has the next entry of the history, or finds the journal full if it takes no more entries. If the history has no entry
 -- for it, the output ends here.
 abbrev pub call_shown : ℕ → (ℕ → List Entry → State → List ℕ) → ℕ → ℕ → List Entry → State → List ℕ
@@ -57,10 +63,11 @@ call_shown seats rest n zero es s = answer_text n JournalFull ++ rest zero es s
 call_shown seats rest n (suc room) [] s = []
 call_shown seats rest n (suc room) (e ∷ es) s = answer_text n (entry_answer seats s e) ++ rest room es (after_call seats s e)
 
--- what a line shows, and then the rest
+-- What a line shows, and then the rest. A read shows the tables after the calls of the lines before it; it has no entry.
 abbrev pub line_shown : ℕ → (ℕ → List Entry → State → List ℕ) → ℕ → Result LineRequest Refusal → ℕ → List Entry → State → List ℕ
 line_shown seats rest n (Ok Skip) room es s = rest room es s
 line_shown seats rest n (Ok (Call moment event)) room es s = call_shown seats rest n room es s
+line_shown seats rest n (Ok (Look read)) room es s = look_text n s read ++ rest room es s
 line_shown seats rest n (Err refusal) room es s = numbered n (refusal_text refusal) ++ rest room es s
 
 -- The outputs of the lines from number n on, and then the tables text: if the journal takes `room` more entries, these are
@@ -69,10 +76,11 @@ abbrev pub outputs : ℕ → ℕ → List (List ℕ) → ℕ → List Entry → 
 outputs seats n [] room es s = tables_text s
 outputs seats n (line ∷ lines) room es s = line_shown seats (λ r fs t. outputs seats (n + 1) lines r fs t) n (line_of line) room es s
 
--- the call that a line asks, if it asks one
+-- the call that a line asks, if it asks one; a read is no call
 abbrev pub call_in : Result LineRequest Refusal → List (ℕ × EventKind)
 call_in (Ok Skip) = []
 call_in (Ok (Call moment event)) = (moment, event) ∷ []
+call_in (Ok (Look read)) = []
 call_in (Err refusal) = []
 
 -- the calls that the lines ask
@@ -103,8 +111,8 @@ memory_stops (e ∷ es) = memory_stop e.stop + memory_stops es
 abbrev pub but_last : List Entry → List Entry
 but_last history = take (length history - 1) history
 
--- What is written before the last call is made: the outputs of all lines before the line of that call. Without a call nothing
--- has to be written.
+-- What is written before the last call is made: the outputs of all lines before the line of that call, reads among them. Without
+-- a call nothing has to be written.
 abbrev pub outputs_before : ℕ → List (List ℕ) → ℕ → List Entry → State → List ℕ
 outputs_before seats lines limit [] s = []
 outputs_before seats lines limit (e ∷ es) s = outputs seats 1 lines limit (but_last (e ∷ es)) s

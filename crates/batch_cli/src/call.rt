@@ -5,12 +5,12 @@ ghost use Rattle.batch_wire.specs.TextLines.{numbered};
 ghost use Rattle.batch_wire.specs.Dues.{due_text};
 ghost use Rattle.batch_wire.specs.Refusals.{refusal_text};
 ghost use Rattle.batch_wire.specs.Replies.{reply_text};
-ghost use Rattle.batch_cli.specs.Shown.{stop_text, fault_text, full_text, due_lines, stop_line, answer_text, ran_out};
+ghost use Rattle.batch_cli.specs.Shown.{stop_text, fault_text, full_text, due_lines, stop_line, answer_text, look_text, ran_out};
 ghost use Rattle.batch_cli.specs.Advance.{ShowsCall, HaltsCall};
 
 use batch_desk::{Answer, Desk, Stop};
 use batch_keeper::Keeper;
-use batch_wire::{push_line, write_due, write_reply};
+use batch_wire::{Read, push_line, write_due, write_reply};
 use bt_base::{Moment, NoMemory};
 use bt_rows::due::Due;
 use bt_rows::event::Event;
@@ -105,6 +105,21 @@ pub fn show_refusal(alloc: Global, n: u64, refusal: Refusal) -> Result<String, N
 {
     let mut out = String::new(alloc);
     push_refusal(alloc, &mut out, n, refusal)?;
+    Ok(out)
+}
+
+/// The line that shows what the read of line `n` shows of the desk's tables. It fails only when out of memory.
+pub fn show_look<K: Keeper + Drop>(
+    alloc: Global,
+    desk: &Desk<K>,
+    n: u64,
+    read: &Read,
+) -> Result<String, NoMemory>
+    ensures { IfOk result (λ text. string_bytes text ≡ look_text n desk.now.state read.now) }
+{
+    let mut out = String::new(alloc);
+    let reply = desk.read(alloc, read)?;
+    push_reply(alloc, &mut out, n, &reply)?;
     Ok(out)
 }
 

@@ -1,6 +1,6 @@
 //! What formulas write, and with which status. Expected texts are worked out by hand from the language's rules.
 use crate::status::Status;
-use crate::tests::{Run, gives, sure};
+use crate::tests::{gives, sure};
 use cli_formula::Position;
 use std::alloc::{AllocError, Global};
 use std::test::Fail;
@@ -13,27 +13,18 @@ fn fault_at(line: usize, column: usize) -> Status {
 const PLAIN: &str =
     "$TargetDedicatedNodes=0;$TargetLowPriorityNodes=0;$NodeDeallocationOption=requeue";
 
-#[test]
-fn a_pool_is_scaled_by_its_tasks(rt: HostRuntime) -> Result<(), Fail> {
-    let formula = "$samples = $ActiveTasks.GetSamplePercent(TimeInterval_Minute * 15); \
-        $tasks = $samples < 70 ? max(0, $ActiveTasks.GetSample(1)) : \
-        max($ActiveTasks.GetSample(1), avg($ActiveTasks.GetSample(TimeInterval_Minute * 15))); \
-        $targetVMs = $tasks > 0 ? $tasks : max(0, $TargetDedicatedNodes / 2); \
-        cappedPoolSize = 20; $TargetDedicatedNodes = max(0, min($targetVMs, cappedPoolSize)); \
-        $NodeDeallocationOption = taskcompletion; now = time();";
-    let wanted = "$TargetDedicatedNodes=2;$TargetLowPriorityNodes=0;\
-        $NodeDeallocationOption=taskcompletion;$samples=0;$tasks=0;$targetVMs=2;$cappedPoolSize=20;\
-        $now=9999-12-31T23:59:59.9990000Z\n";
-    let run = Run {
-        keeper_fails: &[1],
-        ..sure(
-            &["formula", "--now=253402300799999", "--dedicated", "04"],
-            formula.as_bytes(),
-        )
-    };
-    assert!(rt; gives(rt.alloc(), run, Status::Done, wanted)?);
-    Ok(())
-}
+/// A pool that is scaled by its tasks.
+pub const SCALED: &str = "$samples = $ActiveTasks.GetSamplePercent(TimeInterval_Minute * 15); \
+    $tasks = $samples < 70 ? max(0, $ActiveTasks.GetSample(1)) : \
+    max($ActiveTasks.GetSample(1), avg($ActiveTasks.GetSample(TimeInterval_Minute * 15))); \
+    $targetVMs = $tasks > 0 ? $tasks : max(0, $TargetDedicatedNodes / 2); \
+    cappedPoolSize = 20; $TargetDedicatedNodes = max(0, min($targetVMs, cappedPoolSize)); \
+    $NodeDeallocationOption = taskcompletion; now = time();";
+
+/// What it gives at the last moment, with a target of 4.
+pub const SCALED_OUTPUT: &str = "$TargetDedicatedNodes=2;$TargetLowPriorityNodes=0;\
+    $NodeDeallocationOption=taskcompletion;$samples=0;$tasks=0;$targetVMs=2;$cappedPoolSize=20;\
+    $now=9999-12-31T23:59:59.9990000Z\n";
 
 #[test]
 fn faults_have_names_and_places(rt: HostRuntime) -> Result<(), Fail> {
@@ -110,23 +101,6 @@ fn long_formulas_end(rt: HostRuntime) -> Result<(), Fail> {
         let formula = repeated(rt.alloc(), part, length)?;
         let run = sure(&["formula"], &formula);
         assert!(rt; gives(rt.alloc(), run, status, wanted)?, "{part}");
-    }
-    Ok(())
-}
-
-#[test]
-fn stream_faults_have_statuses(rt: HostRuntime) -> Result<(), Fail> {
-    let rows: [(&[u64], &[u64], Status); 2] = [
-        (&[1], &[], Status::SourceFault),
-        (&[], &[1], Status::SinkFault),
-    ];
-    for (source_fails, sink_fails, status) in rows {
-        let run = Run {
-            source_fails,
-            sink_fails,
-            ..sure(&["formula"], b"x = 1")
-        };
-        assert!(rt; gives(rt.alloc(), run, status, "")?);
     }
     Ok(())
 }

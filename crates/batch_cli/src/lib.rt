@@ -5,22 +5,22 @@
 
 mod call;
 mod drill;
-#[cfg(test)]
-mod drill_tests;
 mod export;
 mod formula;
 #[cfg(test)]
 mod formula_tests;
 #[cfg(test)]
-mod job_tests;
+mod keeper_tests;
 mod line;
 mod message;
-#[cfg(test)]
-mod preparation_tests;
 mod replay;
 mod run;
+#[cfg(test)]
+mod script_tests;
 mod status;
 mod stopped;
+#[cfg(test)]
+mod store_tests;
 mod tally;
 #[cfg(test)]
 mod tests;

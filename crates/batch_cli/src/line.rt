@@ -7,15 +7,15 @@ ghost use Rattle.batch_wire.specs.LineRequest.TheVariants.{Call};
 ghost use Rattle.batch_wire.specs.Lines.{line_of};
 ghost use Rattle.batch_wire.specs.TextLines.{numbered};
 ghost use Rattle.batch_wire.specs.Refusals.{refusal_text};
-ghost use Rattle.batch_cli.specs.Shown.{call_in, memory_stops};
+ghost use Rattle.batch_cli.specs.Shown.{call_in, look_text, memory_stops};
 ghost use Rattle.batch_cli.specs.Advance.{Did, Halts, Counts};
 
-use crate::call::{show_call, show_refusal};
+use crate::call::{show_call, show_look, show_refusal};
 use crate::stopped::Stopped;
 use crate::tally::Tally;
 use batch_desk::Desk;
 use batch_keeper::Keeper;
-use batch_wire::{LineRequest, read_line};
+use batch_wire::{LineRequest, Read, read_line};
 use bt_base::{Fail, Moment, Sink, write_all};
 use bt_rows::event::Event;
 use bt_rows::refusal::Refusal;
@@ -40,6 +40,24 @@ fn do_call<K: Keeper + Drop, W: Sink>(
     ensures fault { IsErrOf result Stopped.SinkFault → Rose (W.faults sink.old) (W.faults sink.new) }
 {
     let text = show_call(alloc, desk, n, moment, event)?;
+    write_all(sink, text.as_bytes())?;
+    Ok(())
+}
+
+/// Writes what a read shows of the desk's tables.
+fn do_look<K: Keeper + Drop, W: Sink>(
+    alloc: Global,
+    desk: &Desk<K>,
+    n: u64,
+    read: &Read,
+    sink: &mut W,
+) -> Result<(), Stopped>
+    ensures ok { OnOk result (Gains (W.taken sink.old) (W.taken sink.new) (look_text n desk.now.state read.now)) }
+    ensures err { OnErr result (GainsFront (W.taken sink.old) (W.taken sink.new) (look_text n desk.now.state read.now)) }
+    ensures later { W.faults sink.old ≤ W.faults sink.new }
+    ensures fault { IsErrOf result Stopped.SinkFault → Rose (W.faults sink.old) (W.faults sink.new) }
+{
+    let text = show_look(alloc, desk, n, read)?;
     write_all(sink, text.as_bytes())?;
     Ok(())
 }
@@ -80,6 +98,10 @@ fn do_request<K: Keeper + Drop, W: Sink>(
         LineRequest::Call(moment, event) => {
             do_call(alloc, desk, n, moment, event, sink)?;
             Ok(1)
+        }
+        LineRequest::Look(read) => {
+            do_look(alloc, desk, n, &read, sink)?;
+            Ok(0)
         }
     }
 }

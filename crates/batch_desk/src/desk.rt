@@ -1,10 +1,11 @@
 //! The desk and its journal.
-ghost use Rattle.std.specs.Prelude.{◌≡◌, ◌≤◌, None, IfOk, IfErr, IfSome, OnOk, OnErr, nat_lt};
+ghost use Rattle.std.specs.Prelude.{◌≡◌, ◌≤◌, None, IfOk, IfErr, IfSome, OnOk, OnErr, nat_lt, length};
 ghost use Rattle.bt_rows.specs.Changes.{apply_changes};
 ghost use Rattle.batch_model.specs.Opening.{opening};
 ghost use Rattle.batch_model.specs.Sound.{IsSound};
 ghost use Rattle.machine_index.specs.Queued.{lowest_queued};
 ghost use Rattle.batch_keeper.specs.Told.{FailsWithCause};
+ghost use Rattle.table_reads.specs.Reads.{read_reply};
 ghost use Rattle.batch_desk.specs.Kept.{Tells};
 ghost use Rattle.batch_desk.specs.Laws.{KeepsLaws};
 ghost use Rattle.batch_desk.specs.History.{IsLegal, after_all, fault_count, faults_of};
@@ -18,11 +19,13 @@ use crate::saved_machine::SavedMachine;
 use crate::saving::save;
 use batch_keeper::{KeepError, Keeper};
 use batch_machine::Machine;
-use bt_base::{List, Moment};
+use bt_base::{List, Moment, NoMemory};
 use bt_rows::event::Event;
+use bt_rows::reply::Reply;
 use bt_rows::tables::{Change, Tables};
 use std::alloc::Global;
 use std::marker::Model;
+use table_reads::Read;
 
 /// Calls one after the other over a keeper, and the journal of them.
 #[derive(Drop)]
@@ -164,6 +167,14 @@ impl<K: Keeper + Drop> Desk<K> {
         }
     }
 
+    /// What the read shows of the tables. A read is no call: the desk, its journal and its keeper stay as they are. The only error
+    /// is out of memory.
+    pub fn read(&self, alloc: Global, read: &Read) -> Result<Reply, NoMemory>
+        ensures { IfOk result (λ reply. reply ≡ read_reply self.now.state read.now) }
+    {
+        self.saved.read(alloc, read)
+    }
+
     /// The tables, which are sound.
     pub fn tables(&self) -> &Tables
         ensures state { result.now.state ≡ self.now.state }
@@ -184,6 +195,15 @@ impl<K: Keeper + Drop> Desk<K> {
         ensures { result ≡ self.now.limit }
     {
         self.limit
+    }
+
+    /// How many calls the journal has: at most the limit. A desk is always in order: its journal is a legal history from the opened
+    /// tables, its tables are those after it, the keeper tells them, and it counted each keeper fault of the journal.
+    pub fn entry_count(&self) -> u64
+        ensures count { result ≡ length self.now.entries }
+        ensures in_order { IsInOrder K.told K.faults self.now }
+    {
+        self.entries.len() as u64
     }
 
     /// Whether the journal records a keeper fault.

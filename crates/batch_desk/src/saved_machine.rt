@@ -7,6 +7,7 @@ ghost use Rattle.batch_model.specs.Events.{event_step};
 ghost use Rattle.batch_model.specs.Sound.{IsSound};
 ghost use Rattle.machine_index.specs.Queued.{lowest_queued};
 ghost use Rattle.batch_keeper.specs.Told.{FailsWithCause};
+ghost use Rattle.table_reads.specs.Reads.{read_reply};
 ghost use Rattle.batch_desk.specs.Kept.{Tells};
 ghost use Rattle.batch_desk.specs.History.{due_state, due_list, StopsSo};
 ghost use Rattle.batch_desk.specs.Turns.{IsStep, IsDueTurn};
@@ -15,13 +16,14 @@ use crate::entry::Stop;
 use crate::saving::make_saved;
 use batch_keeper::{KeepError, Keeper};
 use batch_machine::Machine;
-use bt_base::{List, Moment};
+use bt_base::{List, Moment, NoMemory};
 use bt_rows::due::Due;
 use bt_rows::event::Event;
 use bt_rows::reply::Reply;
 use bt_rows::tables::Tables;
 use std::alloc::Global;
 use std::marker::Model;
+use table_reads::Read;
 
 /// A keeper, and the machine beside it. Each step is saved before it is made.
 #[derive(Drop)]
@@ -83,6 +85,13 @@ impl<K: Keeper + Drop> SavedMachine<K> {
         } = self;
         drop(machine);
         keeper
+    }
+
+    /// What the read shows of the tables. The only error is out of memory.
+    pub fn read(&self, alloc: Global, read: &Read) -> Result<Reply, NoMemory>
+        ensures { IfOk result (λ reply. reply ≡ read_reply self.now.state read.now) }
+    {
+        self.machine.read(alloc, read)
     }
 
     /// The tables.

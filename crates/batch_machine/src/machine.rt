@@ -10,6 +10,7 @@ ghost use Rattle.batch_model.specs.Sound.{IsSound};
 ghost use Rattle.batch_model.specs.WellFormed.{IsWellFormed};
 ghost use Rattle.machine_index.specs.Queued.{lowest_queued};
 ghost use Rattle.machine_plans.specs.Plans.{IsPlanOf, IsRule, moved_to};
+ghost use Rattle.table_reads.specs.Reads.{read_reply};
 ghost use Rattle.batch_machine.specs.Machines.{IsMade, IsOpened};
 
 use crate::room::make_room;
@@ -23,6 +24,7 @@ use machine_index::IndexedTables;
 use machine_opening::opening_changes;
 use std::alloc::Global;
 use std::marker::Model;
+use table_reads::{Read, read_reply};
 
 /// Tables that events and due steps change, one plan at a time. The tables are sound at every moment.
 #[derive(Drop)]
@@ -80,6 +82,13 @@ impl Machine {
         ensures { result ≡ lowest_queued self.now.state.runs }
     {
         self.indexed.lowest_queued()
+    }
+
+    /// What the read shows of the tables, which stay as they are. The only error is out of memory.
+    pub fn read(&self, alloc: Global, read: &Read) -> Result<Reply, NoMemory>
+        ensures { IfOk result (λ reply. reply ≡ read_reply self.now.state read.now) }
+    {
+        read_reply(alloc, self.indexed.tables(), read)
     }
 
     /// The reply to an event at a moment, and the changes that it makes. A refusal is a reply; it changes nothing but the

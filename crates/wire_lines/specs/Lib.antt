@@ -2,3 +2,4 @@ pub mod Endings
 pub mod Events
 pub mod Lines
 pub mod Parts
+pub mod Reads

@@ -1,5 +1,5 @@
 -- What a line of a script is.
-use Rattle.std.specs.Prelude.{ℕ, Bool, true, List, [], ◌∷◌, length, Option, Result, Ok, Err, nat_lt, ◌==◌, codes, if◌then◌else◌}
+use Rattle.std.specs.Prelude.{ℕ, Bool, true, List, [], ◌∷◌, length, Option, Some, None, Result, Ok, Err, nat_lt, ◌==◌, codes, if◌then◌else◌}
 use Rattle.std.specs.List.{find}
 use Rattle.std.specs.Str.{bytes_eq}
 use Rattle.bt_base.specs.Fails.{◌>>=◌}
@@ -10,10 +10,12 @@ use Rattle.bt_rows.specs.declared.refusal.Refusal.TheVariants.{UnreadableBody}
 use Rattle.wire_bodies.specs.Pools.{pool_of}
 use Rattle.wire_lines.specs.declared.line.TheConstants.{LINE_LIMIT}
 use Rattle.wire_lines.specs.declared.line.LineRequest.{LineRequest}
-use Rattle.wire_lines.specs.declared.line.LineRequest.TheVariants.{Skip, Call}
+use Rattle.wire_lines.specs.declared.line.LineRequest.TheVariants.{Skip, Call, Look}
 use Rattle.wire_lines.specs.declared.line.LineWord.{LineWord}
 use Rattle.wire_lines.specs.declared.line.LineWord.TheVariants as words
-use Rattle.wire_lines.specs.Parts.{two_parts, just_two}
+use Rattle.wire_lines.specs.declared.look.ReadWord.{ReadWord}
+use Rattle.wire_lines.specs.Parts.{two_parts, just_two, first_word, arguments}
+use Rattle.wire_lines.specs.Reads.{read_word_in, read_with}
 use Rattle.wire_lines.specs.Endings.{moment_in, ending_in}
 use Rattle.wire_lines.specs.Events.{or_unreadable, add_job, patch_job, disable_job, enable_job, terminate_job, delete_job, add_task, add_tasks, delete_task, terminate_task, reactivate_task}
 use Rattle.wire_numbers.specs.Numbers.{number_in}
@@ -81,13 +83,29 @@ event_with_arguments text = do
 unfoldable pub event_in : List ℕ → Result EventKind Refusal
 event_in text = if bytes_eq text (codes "tick") then Ok events.Tick else event_with_arguments text
 
--- a moment, a space and an event
-unfoldable pub call_in : List ℕ → Result LineRequest Refusal
-call_in text = do
+-- an event at a moment
+abbrev pub call_at : ℕ → List ℕ → Result LineRequest Refusal
+call_at moment text = event_in text >>= λ event. Ok (Call moment event)
+
+-- a read, which uses no moment
+abbrev pub look_by : ReadWord → Option (List ℕ) → Result LineRequest Refusal
+look_by word text = read_with word text >>= λ read. Ok (Look read)
+
+-- a read if there is a word of one, and else an event
+abbrev pub look_or_call : Option ReadWord → ℕ → List ℕ → Result LineRequest Refusal
+look_or_call (Some word) moment text = look_by word (arguments text)
+look_or_call None moment text = call_at moment text
+
+-- a read, or an event at a moment
+unfoldable pub request_at : ℕ → List ℕ → Result LineRequest Refusal
+request_at moment text = look_or_call (read_word_in (first_word text)) moment text
+
+-- a moment, a space, and a read or an event
+unfoldable pub request_in : List ℕ → Result LineRequest Refusal
+request_in text = do
   parts ← or_unreadable (two_parts text)
   moment ← or_unreadable (moment_in parts.0)
-  event ← event_in parts.1
-  Ok (Call moment event)
+  request_at moment parts.1
 
 -- an empty line, or one that begins with `#`
 abbrev pub is_skipped : List ℕ → Bool
@@ -99,4 +117,4 @@ unfoldable pub line_of : List ℕ → Result LineRequest Refusal
 line_of line =
     if is_skipped line then Ok Skip
     else if nat_lt LINE_LIMIT (length line) then Err UnreadableBody
-    else call_in line
+    else request_in line

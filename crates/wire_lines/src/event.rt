@@ -34,7 +34,7 @@ fn id_argument(alloc: Global, bytes: &[u8]) -> Result<Id, Fail<Refusal>>
 
 /// An id that is the only argument of a line.
 #[tactic(auto, unfolding(crate::specs::Events::lone_id))]
-fn lone_id(alloc: Global, text: &[u8]) -> Result<Id, Fail<Refusal>>
+pub fn lone_id(alloc: Global, text: &[u8]) -> Result<Id, Fail<Refusal>>
     ensures { Gives result (lone_id text.now) }
 {
     let id = split_one(text).ok_or(UNREADABLE)?;
@@ -53,7 +53,7 @@ fn job_and_body(alloc: Global, text: &[u8]) -> Result<(Id, &[u8]), Fail<Refusal>
 
 /// The ids of a job and of a task of it, which are the only arguments of a line.
 #[tactic(auto, unfolding(crate::specs::Events::job_and_task))]
-fn job_and_task(alloc: Global, text: &[u8]) -> Result<(Id, Id), Fail<Refusal>>
+pub fn job_and_task(alloc: Global, text: &[u8]) -> Result<(Id, Id), Fail<Refusal>>
     ensures { Gives result (job_and_task text.now) }
 {
     let (job, task) = split_just_two(text).ok_or(UNREADABLE)?;

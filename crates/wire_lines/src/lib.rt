@@ -4,6 +4,7 @@
 mod ending;
 mod event;
 mod line;
+mod look;
 mod parts;
 mod script;
 

@@ -2,18 +2,20 @@
 ghost use Rattle.std.specs.Prelude.{◌≡◌, true, IfOk};
 ghost use Rattle.bt_base.specs.Fails.{Gives};
 ghost use Rattle.bt_rows.specs.Ranges.{is_event_in_range};
-ghost use Rattle.wire_lines.specs.Lines.{event_with, event_with_arguments, event_in, call_in, line_of, is_skipped, word_text, word_in};
+ghost use Rattle.wire_lines.specs.Lines.{event_with, event_with_arguments, event_in, request_at, request_in, line_of, is_skipped, word_text, word_in};
 
 use crate::ending::{read_ending, read_moment};
 use crate::event::{
     UNREADABLE, add_job, add_task, add_tasks, delete_job, delete_task, disable_job, enable_job,
     patch_job, reactivate_task, terminate_job, terminate_task,
 };
-use crate::parts::{split_just_two, split_two};
+use crate::look::{ReadWord, read_with};
+use crate::parts::{split_just_two, split_two, split_word};
 use bt_base::{Fail, Moment};
 use bt_rows::event::{Event, EventKind};
 use bt_rows::refusal::Refusal;
 use std::alloc::Global;
+use table_reads::Read;
 use wire_bodies::read_pool;
 use wire_numbers::read_number;
 
@@ -108,6 +110,8 @@ pub enum LineRequest {
     Skip,
     /// An event at a moment.
     Call(Moment, Event),
+    /// A read, which changes nothing and uses no moment.
+    Look(Read),
 }
 
 /// The greatest length of a line in bytes, without its line feed.
@@ -165,15 +169,26 @@ fn event(alloc: Global, text: &[u8]) -> Result<Event, Fail<Refusal>>
     }
 }
 
-/// The request of a moment, a space and an event.
-#[tactic(auto, unfolding(crate::specs::Lines::call_in))]
-fn call(alloc: Global, text: &[u8]) -> Result<LineRequest, Fail<Refusal>>
-    ensures { Gives result (call_in text.now) }
+/// A read, or an event at this moment.
+#[tactic(auto, unfolding(crate::specs::Lines::request_at))]
+fn request_at(alloc: Global, moment: Moment, text: &[u8]) -> Result<LineRequest, Fail<Refusal>>
+    ensures { Gives result (request_at moment text.now) }
+{
+    let (word, arguments) = split_word(text);
+    match ReadWord::read(word) {
+        Some(word) => Ok(LineRequest::Look(read_with(alloc, word, arguments)?)),
+        None => Ok(LineRequest::Call(moment, event(alloc, text)?)),
+    }
+}
+
+/// The request of a moment, a space, and a read or an event.
+#[tactic(auto, unfolding(crate::specs::Lines::request_in))]
+fn request(alloc: Global, text: &[u8]) -> Result<LineRequest, Fail<Refusal>>
+    ensures { Gives result (request_in text.now) }
 {
     let (moment, rest) = split_two(text).ok_or(UNREADABLE)?;
     let moment = read_moment(moment).ok_or(UNREADABLE)?;
-    let event = event(alloc, rest)?;
-    Ok(LineRequest::Call(moment, event))
+    request_at(alloc, moment, rest)
 }
 
 /// Whether the line is empty or a comment.
@@ -196,9 +211,11 @@ fn is_skipped(line: &[u8]) -> bool
 /// - `terminate-job JOB`, `enable-job JOB` and `delete-job JOB`;
 /// - `delete-task JOB TASK`, `terminate-task JOB TASK` and `reactivate-task JOB TASK`;
 /// - `take RUN` and `end RUN ENDING`, with an exit code of 32 bits, `none` or `notstarted` as the ending;
-/// - `tick`.
+/// - `tick`;
+/// - a read: `get-pool POOL`, `list-pools`, `list-nodes POOL`, `get-job JOB`, `list-jobs`, `get-task JOB TASK`, `list-tasks JOB` or
+///   `task-counts JOB`; its moment has to be one, and is not used.
 ///
-/// Any other line, and one of more than 1,048,576 bytes, is `UnreadableBody`; an invalid id of a job or a task is
+/// Any other line, and one of more than 1,048,576 bytes, is `UnreadableBody`; an invalid id of a pool, a job or a task is
 /// `InvalidPropertyValue(Id)`, before the faults of the body after it. It fails with `Memory` when out of memory.
 #[tactic(auto, unfolding(crate::specs::Lines::line_of))]
 pub fn read_line(alloc: Global, line: &[u8]) -> Result<LineRequest, Fail<Refusal>>
@@ -209,6 +226,6 @@ pub fn read_line(alloc: Global, line: &[u8]) -> Result<LineRequest, Fail<Refusal
     } else if line.len() > LINE_LIMIT {
         Err(UNREADABLE)
     } else {
-        call(alloc, line)
+        request(alloc, line)
     }
 }

@@ -1,7 +1,7 @@
 //! The parts of a line, which spaces separate.
 ghost use Rattle.std.specs.Prelude.{◌≡◌, option_map};
 ghost use Rattle.std.specs.List.{position, list_any};
-ghost use Rattle.wire_lines.specs.Parts.{is_space, two_parts, one_part, just_two};
+ghost use Rattle.wire_lines.specs.Parts.{is_space, two_parts, one_part, just_two, first_word, arguments};
 
 /// The place of the first space.
 fn first_space(text: &[u8]) -> Option<usize>
@@ -39,4 +39,15 @@ pub fn split_just_two(text: &[u8]) -> Option<(&[u8], &[u8])>
     let (first, rest) = split_two(text)?;
     let last = split_one(rest)?;
     Some((first, last))
+}
+
+/// The text before the first space, and the text after it, if there is a space. It does not allocate.
+pub fn split_word(text: &[u8]) -> (&[u8], Option<&[u8]>)
+    ensures word { result.0.now ≡ first_word text.now }
+    ensures arguments { option_map (λ p. p.now) result.1 ≡ arguments text.now }
+{
+    match split_two(text) {
+        None => (text, None),
+        Some((word, rest)) => (word, Some(rest)),
+    }
 }

@@ -1,5 +1,5 @@
 -- Replies whose texts were written by hand, computed.
-use Rattle.std.proofs.Common.{◌≡◌, List, [], ◌∷◌, map, refl}
+use Rattle.std.proofs.Common.{◌≡◌, List, [], ◌∷◌, ◌++◌, map, refl}
 use Rattle.std.specs.Fmt.{digits}
 use Rattle.std.specs.Prelude.{codes, None}
 use Rattle.bt_rows.specs.Names.{member_text}
@@ -12,9 +12,11 @@ use Rattle.bt_rows.specs.declared.refusal.Refusal.TheVariants as refusals
 use Rattle.bt_rows.specs.declared.reply.Element.TheVariants.{Added, NotAdded}
 use Rattle.bt_rows.specs.declared.reply.Reply.TheVariants as replies
 use Rattle.wire_texts.specs.Lines.{numbered}
-use Rattle.wire_texts.specs.Words.{job_state_word}
-use Rattle.wire_texts.specs.Refusals.{refusal_number, refusal_name, refusal_text, table_word}
-use Rattle.wire_texts.specs.Replies.{reply_text}
+use Rattle.wire_json.specs.Replies.{reply_json}
+use Rattle.wire_words.specs.Words.{job_state_word}
+use Rattle.wire_texts.specs.Refusals.{refusal_text}
+use Rattle.wire_words.specs.Refusals.{refusal_number, refusal_name, table_word}
+use Rattle.wire_texts.specs.Replies.{shown_text, reply_text}
 
 -- in the order of their numbers
 abbrev all_refusals : List Refusal
@@ -119,6 +121,6 @@ evaluated : reply_text (replies.Results (codes "error BadCharacter 4")) ≡ code
 unfolding reply_text digits
 evaluated = refl
 
-read : reply_text (replies.Page [] None) ≡ codes "200"
-unfolding reply_text digits
-read = refl
+a_page : reply_text (replies.Page [] None) ≡ codes "200 " ++ reply_json (replies.Page [] None)
+unfolding reply_text shown_text
+a_page = refl

@@ -4,7 +4,7 @@ use Rattle.std.specs.Fmt.{digits}
 use Rattle.std.specs.Prelude.{codes, flat_map, Option, None, Some, ℤ, pos, negsuc}
 use Rattle.bt_base.specs.Ids.{same}
 use Rattle.batch_model.specs.Variants.{State, PoolRow, NodeRow, JobRow, TaskRow, RunRow, PrepRow, Alloc, Steady, Resizing, Stopping, Fill, Spread, Pack, ByRequeue, NodeStage, Starting, Usable, StartFailed, Leaving, JobState, JobActive, Disabling, Disabled, Enabling, Terminating, JobCompleted, Deleting, TaskStage, Active, Placed, Completed, Closed, How, ByEnding, ByTermination, ByWall, Code, NoCode, NotStarted, RunKind, StartRun, PrepRun, TaskRun, CoordinationRun, ReleaseRun, RunState, Waiting, Queued, Taken, Ended, Withdrawn, PrepState, PrepRunning, PrepCompleted, PrepFailed, ReleaseState, NoRelease, ReleaseRunning, ReleaseDone}
-use Rattle.wire_texts.specs.Words.{pool_state_word, node_state_word, task_state_word, alloc_word, fill_word, job_state_word, run_kind_word, run_state_word, prep_state_word, release_state_word, ending_text, run_ending_text, how_text, exit_text, success_word, result_word, text_or_dash}
+use Rattle.wire_words.specs.Words.{pool_state_word, node_state_word, task_state_word, alloc_word, fill_word, job_state_word, run_kind_word, run_state_word, prep_state_word, release_state_word, ending_text, run_ending_text, how_text, exit_text, success_word, result_word, text_or_dash}
 use Rattle.wire_texts.specs.Rows.{pool_line, job_line, run_line, prep_line, scale_line}
 use Rattle.wire_texts.specs.Tables.{node_line, task_line, tables_text}
 

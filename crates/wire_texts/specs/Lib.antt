@@ -1,5 +1,4 @@
 pub mod Lines
-pub mod Words
 pub mod Refusals
 pub mod Replies
 pub mod Dues

@@ -5,8 +5,10 @@ use Rattle.bt_rows.specs.declared.reply.Element.{Element}
 use Rattle.bt_rows.specs.declared.reply.Element.TheVariants.{Added, NotAdded}
 use Rattle.bt_rows.specs.declared.reply.Reply.{Reply}
 use Rattle.bt_rows.specs.declared.reply.Reply.TheVariants as replies
+use Rattle.wire_json.specs.Replies.{reply_json}
 use Rattle.wire_texts.specs.Lines.{words}
-use Rattle.wire_texts.specs.Refusals.{refusal_status, refusal_text}
+use Rattle.wire_texts.specs.Refusals.{refusal_text}
+use Rattle.wire_words.specs.Refusals.{refusal_status}
 
 -- the status of one element of a collection
 abbrev pub element_status : Element → ℕ
@@ -17,14 +19,18 @@ element_status (NotAdded id refusal) = refusal_status refusal
 abbrev pub element_text : Element → List ℕ
 element_text element = 32 ∷ decimal (element_status element)
 
--- of reads and of what only the program itself asks for, a line shows the status alone
+-- a read's status and its JSON
+unfoldable pub shown_text : Reply → List ℕ
+shown_text reply = words (codes "200" ∷ reply_json reply ∷ [])
+
+-- of what only the program itself asks for, a line shows the status alone
 unfoldable pub reply_text : Reply → List ℕ
 reply_text (replies.Status status) = decimal status
 reply_text (replies.Refused refusal) = refusal_text refusal
 reply_text (replies.Elements elements) = codes "200" ++ flat_map element_text elements
 reply_text (replies.Results text) = words (codes "200" ∷ text ∷ [])
-reply_text (replies.One item) = codes "200"
-reply_text (replies.Page items after) = codes "200"
+reply_text (replies.One item) = shown_text (replies.One item)
+reply_text (replies.Page items after) = shown_text (replies.Page items after)
 reply_text (replies.Queued run) = codes "200"
 reply_text (replies.AskedRuns runs) = codes "200"
 reply_text (replies.Step due) = codes "200"

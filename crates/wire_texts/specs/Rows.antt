@@ -3,7 +3,7 @@ use Rattle.std.specs.Prelude.{ℕ, List, [], ◌∷◌, codes}
 use Rattle.std.specs.Fmt.{decimal, signed_decimal}
 use Rattle.batch_model.specs.Variants.{PoolRow, JobRow, RunRow, PrepRow, ScaleRow}
 use Rattle.wire_texts.specs.Lines.{line}
-use Rattle.wire_texts.specs.Words.{pool_state_word, alloc_word, fill_word, job_state_word, run_kind_word, run_state_word, run_ending_text, prep_state_word, release_state_word, text_or_dash}
+use Rattle.wire_words.specs.Words.{pool_state_word, alloc_word, fill_word, job_state_word, run_kind_word, run_state_word, run_ending_text, prep_state_word, release_state_word, text_or_dash}
 
 -- pool ID STATE ALLOC DEDICATED LOW SLOTS FILL
 unfoldable pub pool_line : PoolRow → List ℕ

@@ -4,7 +4,7 @@ use Rattle.std.specs.Fmt.{decimal}
 use Rattle.batch_model.specs.Variants.{State, NodeRow, TaskRow}
 use Rattle.wire_texts.specs.Lines.{line}
 use Rattle.batch_model.specs.States.{node_state, task_state}
-use Rattle.wire_texts.specs.Words.{node_state_word, task_state_word, result_word, exit_text}
+use Rattle.wire_words.specs.Words.{node_state_word, task_state_word, result_word, exit_text}
 use Rattle.wire_texts.specs.Rows.{pool_line, job_line, run_line, prep_line, scale_line}
 
 -- node N POOL SEAT STATE

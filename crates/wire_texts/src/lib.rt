@@ -9,10 +9,8 @@ mod refusals;
 mod replies;
 mod rows;
 mod tables;
-mod words;
 
 pub use dues::write_due;
 pub use lines::push_line;
-pub use refusals::{name_of, number_of, status_of};
 pub use replies::write_reply;
 pub use tables::write_tables;

@@ -1,11 +1,13 @@
 //! Replies as lines show them.
 ghost use Rattle.std.specs.Prelude.{◌≡◌, ◌++◌, OnOk, IfOk, string_bytes, flat_map};
-ghost use Rattle.wire_texts.specs.Replies.{element_status, element_text, reply_text};
+ghost use Rattle.wire_texts.specs.Replies.{element_status, element_text, shown_text, reply_text};
 
-use crate::refusals::{push_refusal, status_of};
+use crate::refusals::push_refusal;
 use bt_base::{NoMemory, Text};
 use bt_rows::reply::{Element, Reply};
 use std::alloc::{AllocError, Global};
+use wire_json::reply_json;
+use wire_words::status_of;
 
 /// The status of one element of a collection.
 fn element_status(element: &Element) -> u16
@@ -28,37 +30,44 @@ fn push_elements(out: &mut String, elements: &[Element]) -> Result<(), AllocErro
     Ok(())
 }
 
+/// Adds the status of a read that is not refused, and its JSON.
+#[tactic(auto, unfolding(crate::specs::Replies::shown_text))]
+fn push_shown(out: &mut String, alloc: Global, reply: &Reply) -> Result<(), NoMemory>
+    ensures { OnOk result (string_bytes out.new ≡ string_bytes out.old ++ shown_text reply.now) }
+{
+    let json = reply_json(alloc, reply)?;
+    let json = json.as_str();
+    Ok(write!(out, "200 {json}")?)
+}
+
 /// Adds a reply.
 #[tactic(auto, unfolding(crate::specs::Replies::reply_text))]
-fn push_reply(out: &mut String, reply: &Reply) -> Result<(), AllocError>
+fn push_reply(out: &mut String, alloc: Global, reply: &Reply) -> Result<(), NoMemory>
     ensures { OnOk result (string_bytes out.new ≡ string_bytes out.old ++ reply_text reply.now) }
 {
     match reply {
-        Reply::Status(status) => write!(out, "{status}"),
-        Reply::Refused(refusal) => push_refusal(out, refusal),
+        Reply::Status(status) => Ok(write!(out, "{status}")?),
+        Reply::Refused(refusal) => Ok(push_refusal(out, refusal)?),
         Reply::Elements(elements) => {
             out.push_str("200")?;
-            push_elements(out, elements.as_slice())
+            Ok(push_elements(out, elements.as_slice())?)
         }
         Reply::Results(text) => {
             let text = text.as_str();
-            write!(out, "200 {text}")
+            Ok(write!(out, "200 {text}")?)
         }
-        Reply::One(_)
-        | Reply::Page(_, _)
-        | Reply::Queued(_)
-        | Reply::AskedRuns(_)
-        | Reply::Step(_) => { out.push_str("200") }
+        Reply::One(_) | Reply::Page(_, _) => push_shown(out, alloc, reply),
+        Reply::Queued(_) | Reply::AskedRuns(_) | Reply::Step(_) => Ok(out.push_str("200")?),
     }
 }
 
 /// A reply as a line shows it, without the number before it and the line feed: the status, and after it a refusal's name and
-/// values, the status of each element of a collection, or a formula's results text. Of a reply to a read only the status
-/// is written. It fails only when out of memory.
+/// values, the status of each element of a collection, the results of an evaluated formula, or the JSON of what a read shows. It
+/// fails only when out of memory.
 pub fn write_reply(alloc: Global, reply: &Reply) -> Result<Text, NoMemory>
     ensures { IfOk result (λ text. text ≡ reply_text reply.now) }
 {
     let mut out = String::new(alloc);
-    push_reply(&mut out, reply)?;
+    push_reply(&mut out, alloc, reply)?;
     Ok(Text::of_string(out))
 }

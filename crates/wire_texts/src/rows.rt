@@ -2,16 +2,16 @@
 ghost use Rattle.std.specs.Prelude.{◌≡◌, ◌++◌, OnOk, string_bytes};
 ghost use Rattle.wire_texts.specs.Rows.{pool_line, job_line, run_line, prep_line, scale_line};
 
-use crate::words::{
-    alloc_word, fill_word, id_or_dash, job_state_word, pool_state_word, prep_state_word,
-    push_run_ending, release_state_word, run_kind_word, run_state_word, text_or_dash,
-};
 use bt_rows::job::JobRow;
 use bt_rows::pool::PoolRow;
 use bt_rows::prep::PrepRow;
 use bt_rows::run::RunRow;
 use bt_rows::scale::ScaleRow;
 use std::alloc::AllocError;
+use wire_words::{
+    alloc_word, fill_word, id_or_dash, job_state_word, pool_state_word, prep_state_word,
+    push_run_ending, release_state_word, run_kind_word, run_state_word, text_or_dash,
+};
 
 /// Adds the line of a pool.
 #[tactic(auto, unfolding(crate::specs::Rows::pool_line))]

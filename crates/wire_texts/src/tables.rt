@@ -4,7 +4,6 @@ ghost use Rattle.wire_texts.specs.Rows.{pool_line, job_line, run_line, prep_line
 ghost use Rattle.wire_texts.specs.Tables.{node_line, task_line, tables_text};
 
 use crate::rows::{push_job, push_pool, push_prep, push_run, push_scale};
-use crate::words::{node_state_word, push_exit, result_word, task_state_word};
 use bt_base::{NoMemory, Text};
 use bt_rows::job::JobRow;
 use bt_rows::node::NodeRow;
@@ -16,6 +15,7 @@ use bt_rows::tables::Tables;
 use bt_rows::task::TaskRow;
 use std::alloc::{AllocError, Global};
 use table_scans::{node_state, task_state};
+use wire_words::{node_state_word, push_exit, result_word, task_state_word};
 
 /// Adds the line of a node.
 #[tactic(auto, unfolding(crate::specs::Tables::node_line))]

@@ -1,6 +1,6 @@
-//! The words of states and kinds, as the tables text has them. Those of Azure's states are Azure's.
+//! The words of states and kinds. Those of Azure's states are Azure's.
 ghost use Rattle.std.specs.Prelude.{◌≡◌, ◌++◌, OnOk, string_bytes};
-ghost use Rattle.wire_texts.specs.Words.{pool_state_word, node_state_word, task_state_word, alloc_word, fill_word, job_state_word, run_kind_word, run_state_word, prep_state_word, release_state_word, ending_text, run_ending_text, how_text, exit_text, result_word, text_or_dash};
+ghost use Rattle.wire_words.specs.Words.{pool_state_word, node_state_word, task_state_word, alloc_word, fill_word, job_state_word, run_kind_word, run_state_word, prep_state_word, release_state_word, ending_text, run_ending_text, how_text, exit_text, success_word, result_word, text_or_dash};
 
 use bt_base::{Id, Text};
 use bt_rows::job::JobState;
@@ -11,7 +11,7 @@ use bt_rows::run::{Ending, RunKind, RunState};
 use bt_rows::task::{Closed, How};
 use std::alloc::AllocError;
 
-/// The state of a pool (Azure: state of a pool).
+/// The state of a pool (Azure: state of a pool). It does not allocate.
 #[tactic(auto, unfolding(crate::specs::Words::pool_state_word))]
 pub fn pool_state_word(deleting: bool) -> &'static str
     ensures { result.now ≡ pool_state_word deleting }
@@ -19,7 +19,7 @@ pub fn pool_state_word(deleting: bool) -> &'static str
     if deleting { "deleting" } else { "active" }
 }
 
-/// The state of a node (Azure: state of a compute node).
+/// The state of a node (Azure: state of a compute node). It does not allocate.
 #[tactic(auto, unfolding(crate::specs::Words::node_state_word))]
 pub fn node_state_word(state: NodeState) -> &'static str
     ensures { result.now ≡ node_state_word state }
@@ -34,7 +34,7 @@ pub fn node_state_word(state: NodeState) -> &'static str
     }
 }
 
-/// The state of a task (Azure: state of a task).
+/// The state of a task (Azure: state of a task). It does not allocate.
 #[tactic(auto, unfolding(crate::specs::Words::task_state_word))]
 pub fn task_state_word(state: TaskState) -> &'static str
     ensures { result.now ≡ task_state_word state }
@@ -47,7 +47,7 @@ pub fn task_state_word(state: TaskState) -> &'static str
     }
 }
 
-/// Whether a pool is being resized (Azure: allocationState).
+/// Whether a pool is being resized (Azure: allocationState). It does not allocate.
 #[tactic(auto, unfolding(crate::specs::Words::alloc_word))]
 pub fn alloc_word(alloc: Alloc) -> &'static str
     ensures { result.now ≡ alloc_word alloc }
@@ -59,7 +59,7 @@ pub fn alloc_word(alloc: Alloc) -> &'static str
     }
 }
 
-/// How tasks are distributed over the nodes of a pool (Azure: nodeFillType).
+/// How tasks are distributed over the nodes of a pool (Azure: nodeFillType). It does not allocate.
 #[tactic(auto, unfolding(crate::specs::Words::fill_word))]
 pub fn fill_word(fill: Fill) -> &'static str
     ensures { result.now ≡ fill_word fill }
@@ -70,7 +70,7 @@ pub fn fill_word(fill: Fill) -> &'static str
     }
 }
 
-/// The state of a job (Azure: state of a job).
+/// The state of a job (Azure: state of a job). It does not allocate.
 #[tactic(auto, unfolding(crate::specs::Words::job_state_word))]
 pub fn job_state_word(state: JobState) -> &'static str
     ensures { result.now ≡ job_state_word state }
@@ -86,7 +86,7 @@ pub fn job_state_word(state: JobState) -> &'static str
     }
 }
 
-/// What a run executes.
+/// What a run executes. It does not allocate.
 #[tactic(auto, unfolding(crate::specs::Words::run_kind_word))]
 pub fn run_kind_word(kind: RunKind) -> &'static str
     ensures { result.now ≡ run_kind_word kind }
@@ -100,7 +100,7 @@ pub fn run_kind_word(kind: RunKind) -> &'static str
     }
 }
 
-/// The state of a run.
+/// The state of a run. It does not allocate.
 #[tactic(auto, unfolding(crate::specs::Words::run_state_word))]
 pub fn run_state_word(state: RunState) -> &'static str
     ensures { result.now ≡ run_state_word state }
@@ -114,7 +114,7 @@ pub fn run_state_word(state: RunState) -> &'static str
     }
 }
 
-/// The state of a preparation.
+/// The state of a preparation. It does not allocate.
 #[tactic(auto, unfolding(crate::specs::Words::prep_state_word))]
 pub fn prep_state_word(state: PrepState) -> &'static str
     ensures { result.now ≡ prep_state_word state }
@@ -126,7 +126,7 @@ pub fn prep_state_word(state: PrepState) -> &'static str
     }
 }
 
-/// The state of a release task on a node.
+/// The state of a release task on a node. It does not allocate.
 #[tactic(auto, unfolding(crate::specs::Words::release_state_word))]
 pub fn release_state_word(state: ReleaseState) -> &'static str
     ensures { result.now ≡ release_state_word state }
@@ -138,18 +138,26 @@ pub fn release_state_word(state: ReleaseState) -> &'static str
     }
 }
 
-/// Whether a task succeeded, if it ended (Azure: executionInfo.result).
-#[tactic(auto, unfolding(crate::specs::Words::result_word, crate::specs::Words::success_word))]
+/// Whether a task succeeded (Azure: executionInfo.result). It does not allocate.
+#[tactic(auto, unfolding(crate::specs::Words::success_word))]
+pub fn success_word(success: bool) -> &'static str
+    ensures { result.now ≡ success_word success }
+{
+    if success { "success" } else { "failure" }
+}
+
+/// Whether a task succeeded, or `-` if it did not end. It does not allocate.
+#[tactic(auto, unfolding(crate::specs::Words::result_word))]
 pub fn result_word(closed: Option<Closed>) -> &'static str
     ensures { result.now ≡ result_word closed }
 {
     match closed {
         None => "-",
-        Some(closed) => if closed.success { "success" } else { "failure" },
+        Some(closed) => success_word(closed.success),
     }
 }
 
-/// The id, or `-` if it is absent.
+/// The id, or `-` if it is absent. It does not allocate.
 #[tactic(auto, unfolding(crate::specs::Words::text_or_dash))]
 pub fn id_or_dash(id: &Option<Id>) -> &str
     ensures { result.now ≡ text_or_dash id.now }
@@ -160,7 +168,7 @@ pub fn id_or_dash(id: &Option<Id>) -> &str
     }
 }
 
-/// The text, or `-` if it is absent.
+/// The text, or `-` if it is absent. It does not allocate.
 #[tactic(auto, unfolding(crate::specs::Words::text_or_dash))]
 pub fn text_or_dash(text: &Option<Text>) -> &str
     ensures { result.now ≡ text_or_dash text.now }
@@ -183,7 +191,7 @@ fn push_ending(out: &mut String, ending: Ending) -> Result<(), AllocError>
     }
 }
 
-/// Adds how a run ended, or `-` if it did not.
+/// Adds how a run ended, or `-` if it did not. It fails only when out of memory.
 #[tactic(auto, unfolding(crate::specs::Words::run_ending_text))]
 pub fn push_run_ending(out: &mut String, state: RunState) -> Result<(), AllocError>
     ensures { OnOk result (string_bytes out.new ≡ string_bytes out.old ++ run_ending_text state) }
@@ -195,9 +203,9 @@ pub fn push_run_ending(out: &mut String, state: RunState) -> Result<(), AllocErr
     }
 }
 
-/// Adds how a task ended.
+/// Adds how a task ended. It fails only when out of memory.
 #[tactic(auto, unfolding(crate::specs::Words::how_text))]
-fn push_how(out: &mut String, how: How) -> Result<(), AllocError>
+pub fn push_how(out: &mut String, how: How) -> Result<(), AllocError>
     ensures { OnOk result (string_bytes out.new ≡ string_bytes out.old ++ how_text how) }
 {
     match how {
@@ -207,7 +215,7 @@ fn push_how(out: &mut String, how: How) -> Result<(), AllocError>
     }
 }
 
-/// Adds how a task ended, or `-` if it did not.
+/// Adds how a task ended, or `-` if it did not. It fails only when out of memory.
 #[tactic(auto, unfolding(crate::specs::Words::exit_text))]
 pub fn push_exit(out: &mut String, closed: Option<Closed>) -> Result<(), AllocError>
     ensures { OnOk result (string_bytes out.new ≡ string_bytes out.old ++ exit_text closed) }
