@@ -1,0 +1,6 @@
+pub mod Paths
+pub mod Listings
+pub mod Events
+pub mod Reads
+pub mod Responses
+pub mod Requests
