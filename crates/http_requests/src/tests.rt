@@ -1,4 +1,7 @@
 //! Requests and what they are, written by hand from the profile.
+ghost use Rattle.std.specs.Prelude.{◌≡◌};
+ghost use Rattle.http_routes.specs.Table.{route_rows};
+
 use crate::{Wanted, read_request, reply_response};
 use bt_rows::event::EventKind;
 use bt_rows::refusal::Refusal;
@@ -48,18 +51,29 @@ const ANSWERED: &[(&[u8], &str, &[u8], u16, &str)] = &[
     (b"POST", "/pools/p/resize", b"{}", 400, UNREADABLE),
 ];
 
+/// Whether this is a response with this status and this body.
+fn is_response(wanted: &Wanted, status: u16, body: &str) -> bool {
+    match wanted {
+        Wanted::Answered(response) => {
+            response.status.as_u16() == status && response.body.as_str() == body
+        }
+        Wanted::Call(_) | Wanted::Look(_) => false,
+    }
+}
+
 /// Whether a request is answered as it is read, with this status and this body.
 fn is_answered(
     alloc: Global,
     router: &Router<Route>,
-    (method, target, body, status, answer): &(&[u8], &str, &[u8], u16, &str),
-) -> Result<bool, Fail> {
-    Ok(match read_request(alloc, router, method, target, body)? {
-        Wanted::Answered(response) => {
-            response.status.as_u16() == *status && response.body.as_str() == *answer
-        }
-        Wanted::Call(_) | Wanted::Look(_) => false,
-    })
+    request: &(&[u8], &str, &[u8], u16, &str),
+) -> Result<bool, Fail>
+    requires { router.now ≡ route_rows }
+{
+    let (method, target, body, status, answer) = request;
+    let wanted = read_request(alloc, router, method, target, body)?;
+    let found = is_response(&wanted, *status, answer);
+    drop(wanted);
+    Ok(found)
 }
 
 #[test]
@@ -72,6 +86,17 @@ fn some_requests_are_answered_as_they_are_read(rt: HostRuntime) -> Result<(), Fa
     Ok(())
 }
 
+/// Whether this is the read of so many jobs after this id.
+fn is_list_of_jobs(wanted: &Wanted, count: u32, id: &str) -> bool {
+    match wanted {
+        Wanted::Look(Read::ListJobs(listing)) => match &listing.after {
+            Some(after) => listing.count == count && after.as_str() == id,
+            None => false,
+        },
+        _ => false,
+    }
+}
+
 /// Whether a request asks for the list of so many jobs after this id.
 fn lists_jobs(
     alloc: Global,
@@ -79,22 +104,31 @@ fn lists_jobs(
     target: &str,
     count: u32,
     id: &str,
-) -> Result<bool, Fail> {
-    Ok(match read_request(alloc, router, b"GET", target, b"{")? {
-        Wanted::Look(Read::ListJobs(listing)) => match &listing.after {
-            Some(after) => listing.count == count && after.as_str() == id,
-            None => false,
-        },
+) -> Result<bool, Fail>
+    requires { router.now ≡ route_rows }
+{
+    let wanted = read_request(alloc, router, b"GET", target, b"{")?;
+    let found = is_list_of_jobs(&wanted, count, id);
+    drop(wanted);
+    Ok(found)
+}
+
+/// Whether this is the call that terminates a job without a reason.
+fn is_termination(wanted: &Wanted) -> bool {
+    match wanted {
+        Wanted::Call(event) => matches!(event.kind(), EventKind::TerminateJob(_, None)),
         _ => false,
-    })
+    }
 }
 
 /// Whether a request terminates a job without a reason.
-fn terminates(alloc: Global, router: &Router<Route>, target: &str) -> Result<bool, Fail> {
-    Ok(match read_request(alloc, router, b"POST", target, b"")? {
-        Wanted::Call(event) => matches!(event.kind(), EventKind::TerminateJob(_, None)),
-        _ => false,
-    })
+fn terminates(alloc: Global, router: &Router<Route>, target: &str) -> Result<bool, Fail>
+    requires { router.now ≡ route_rows }
+{
+    let wanted = read_request(alloc, router, b"POST", target, b"")?;
+    let found = is_termination(&wanted);
+    drop(wanted);
+    Ok(found)
 }
 
 #[test]
