@@ -1,4 +1,6 @@
 //! What scripts write, and with which status. Expected texts are written by hand.
+ghost use Rattle.std.specs.Prelude.{◌<◌, length};
+
 use crate::status::Status;
 use crate::tests::{ENDED, gives, run_anew, sure};
 use std::alloc::{AllocError, Global};
@@ -147,7 +149,9 @@ fn pools(alloc: Global, count: u64) -> Result<String, AllocError> {
 }
 
 /// Whether the output of 65 pools has this part.
-fn has_part(alloc: Global, wanted: &[u8]) -> Result<bool, AllocError> {
+fn has_part(alloc: Global, wanted: &[u8]) -> Result<bool, AllocError>
+    requires { 0 < length wanted.now }
+{
     let script = pools(alloc, 65)?;
     let (status, output, _keeper) = run_anew(alloc, sure(&["replay"], script.as_bytes()))?;
     Ok(status == Status::Done && output.windows(wanted.len()).any(|part| part == wanted))

@@ -10,3 +10,6 @@ mod service;
 
 pub use connection::serve;
 pub use service::HttpService;
+
+#[cfg(test)]
+mod tests;
