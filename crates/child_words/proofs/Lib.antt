@@ -1,0 +1,6 @@
+pub mod Asked
+pub mod InOrder
+pub mod Lines
+pub mod Lowest
+pub mod Parts
+mod Worked

@@ -1,0 +1,7 @@
+pub mod Filling
+pub mod InOrder
+pub mod Instances
+pub mod Lowest
+pub mod Names
+pub mod Queued
+pub mod RunNames
