@@ -1,0 +1,4 @@
+mod Closed
+mod Exchanging
+mod Opened
+mod Turning

@@ -1,0 +1,9 @@
+-- What the first pass has seen.
+use Rattle.std.proofs.Common.{◌≡◌, ℕ, ◌+◌, List, [], ◌∷◌, map, refl}
+use Rattle.std.specs.Prelude.{None}
+use Rattle.counted_lock.specs.Views.{places_from, stamped}
+
+-- entries without numbers have no places
+pub no_places : {E : Type 0} (k n : ℕ) (es : List E) → places_from k n (map (stamped None) es) ≡ []
+no_places k n [] = refl
+no_places k n (e ∷ es) = no_places (k + 1) n es

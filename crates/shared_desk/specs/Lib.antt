@@ -1,0 +1,4 @@
+pub mod Openings
+pub mod Sharing
+pub mod Turns
+pub mod Askers

@@ -1,0 +1,97 @@
+//! The desk in the lock, and what it was opened with.
+ghost use Rattle.std.specs.Prelude.{◌≡◌};
+ghost use Rattle.batch_model.specs.Sound.{IsSound};
+ghost use Rattle.batch_desk.specs.Answers.{AnswersCall, HasSameOpening, IsInOrder};
+
+use batch_desk::{Answer, Desk, Entry};
+use batch_keeper::Keeper;
+use bt_base::Moment;
+use bt_rows::event::Event;
+use bt_rows::tables::Tables;
+use counted_lock::Journaled;
+use std::alloc::Global;
+use std::marker::Model;
+
+/// What a desk was opened with: the opened tables, the number of seats (1 to 32), and the most calls that its journal takes. No
+/// value of it is made: it is for contracts and proofs alone.
+#[derive(Drop)]
+pub struct Origin {
+    opened: Tables,
+    seats: u8,
+    limit: u32,
+}
+
+impl Model for Origin {
+    ghost use Rattle.shared_desk.specs.Openings.{Opening};
+
+    ghost Value = { Opening };
+
+    ghost view = { λ o. record { opened = o.opened.state; seats = o.seats; limit = o.limit } };
+}
+
+/// A desk, of which contracts see that it is in order.
+#[derive(Drop)]
+pub struct OrderedDesk<K: Keeper + Drop> {
+    desk: Desk<K>,
+}
+
+impl<K: Keeper + Drop> Model for OrderedDesk<K> {
+    ghost use Rattle.batch_desk.specs.Kept.{Desk as Seen};
+    ghost use Rattle.batch_desk.specs.Answers.{IsInOrder};
+
+    ghost Value = { Seen K };
+
+    ghost view = { λ d. d.desk };
+
+    ghost invariant = { λ d. IsInOrder K.told K.faults d.desk };
+}
+
+impl<K: Keeper + Drop> Journaled<Entry, Origin> for OrderedDesk<K> {
+    ghost use Rattle.shared_desk.specs.Openings.{opening_of};
+
+    ghost entries = { λ d. d.entries };
+
+    ghost origin = { opening_of };
+
+    fn entry_count(&self) -> u64 {
+        self.desk.entry_count()
+    }
+}
+
+impl<K: Keeper + Drop> OrderedDesk<K> {
+    /// This desk.
+    pub fn of(desk: Desk<K>) -> OrderedDesk<K>
+        ensures { result ≡ desk }
+    {
+        // tells the check that the desk is in order
+        let _ = desk.entry_count();
+        OrderedDesk { desk }
+    }
+
+    /// The desk.
+    pub fn into_desk(self) -> Desk<K>
+        ensures desk { result ≡ self }
+        ensures in_order { IsInOrder K.told K.faults self }
+    {
+        let OrderedDesk { desk } = self;
+        desk
+    }
+
+    /// Makes a call, as `Desk::call` does.
+    pub fn call(&mut self, alloc: Global, moment: Moment, event: Event) -> Answer
+        ensures answers { AnswersCall K.faults self.old self.new moment event result }
+        ensures same { HasSameOpening self.old self.new }
+        ensures in_order { IsInOrder K.told K.faults self.new }
+    {
+        self.desk.call(alloc, moment, event)
+    }
+
+    /// The tables, which are sound.
+    pub fn tables(&self) -> &Tables
+        ensures state { result.now.state ≡ self.now.state }
+        ensures sound { IsSound self.now.seats self.now.state }
+        ensures in_order { IsInOrder K.told K.faults self.now }
+    {
+        self.desk.tables()
+    }
+}

@@ -1,0 +1,76 @@
+//! Turns of a shared desk: a pass takes the desk out of the lock, calls or reads it as if it were alone, and puts it back.
+ghost use Rattle.std.specs.Prelude.{◌≡◌};
+ghost use Rattle.counted_lock.specs.Passes.{IsPassOf};
+ghost use Rattle.shared_desk.specs.Sharing.{Asked, Looks};
+ghost use Rattle.shared_desk.specs.Turns.{HasTurn};
+
+use crate::ordered::{OrderedDesk, Origin};
+use crate::shared::{Pass, SharedDesk};
+use batch_desk::{Answer, Entry};
+use batch_keeper::Keeper;
+use bt_base::{Moment, NoMemory};
+use bt_rows::event::Event;
+use bt_rows::reply::Reply;
+use counted_lock::Held;
+use std::alloc::Global;
+use std::sync::Wait;
+use table_reads::{Read, read_reply};
+
+/// A pass that has the turn.
+type HeldPass<K> = Held<OrderedDesk<K>, Entry, Origin>;
+
+impl<K: Keeper + Drop> SharedDesk<K> {
+    /// Waits for the turn, and takes the desk. Its tables are those after what the pass has then seen.
+    fn begin<R: Wait>(&self, rt: &R, pass: Pass) -> (HeldPass<K>, OrderedDesk<K>)
+        requires pass { IsPassOf self.now pass }
+        ensures pass { IsPassOf self.now result.0 }
+        ensures turn { HasTurn K.told K.faults self.now.origin pass result.0 result.1 }
+    {
+        let (held, desk) = self.lock.begin(rt, pass);
+        // tells the check that the desk is in order
+        let _ = desk.tables();
+        (held, desk)
+    }
+
+    /// A call in a turn. Its entry is added to the history in the same turn.
+    pub(crate) fn asked<R: Wait>(
+        &self,
+        rt: &R,
+        alloc: Global,
+        pass: Pass,
+        moment: Moment,
+        event: Event,
+    ) -> (Pass, Answer)
+        requires pass { IsPassOf self.now pass }
+        ensures pass { IsPassOf self.now result.0 }
+        ensures number { result.0.number ≡ pass.number }
+        ensures asked { Asked self.now.origin pass result.0 moment event result.1 }
+    {
+        let (held, mut desk) = self.begin(rt, pass);
+        let answer = desk.call(alloc, moment, event);
+        match &answer {
+            Answer::Done { .. } => (self.lock.enter(held, desk), answer),
+            Answer::KeeperFault => (self.lock.enter(held, desk), answer),
+            Answer::JournalFull => (self.lock.leave(held, desk), answer),
+            Answer::Memory => (self.lock.leave(held, desk), answer),
+        }
+    }
+
+    /// A read in a turn, which leaves the desk as it is.
+    pub(crate) fn looked<R: Wait>(
+        &self,
+        rt: &R,
+        alloc: Global,
+        pass: Pass,
+        read: &Read,
+    ) -> (Pass, Result<Reply, NoMemory>)
+        requires pass { IsPassOf self.now pass }
+        ensures pass { IsPassOf self.now result.0 }
+        ensures number { result.0.number ≡ pass.number }
+        ensures looks { Looks self.now.origin pass result.0 read.now result.1 }
+    {
+        let (held, desk) = self.begin(rt, pass);
+        let shown = read_reply(alloc, desk.tables(), read);
+        (self.lock.leave(held, desk), shown)
+    }
+}
