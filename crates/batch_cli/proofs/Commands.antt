@@ -4,7 +4,7 @@ use Rattle.bt_base.proofs.Gaining.{gains_nothing}
 use Rattle.batch_model.specs.Variants.{State}
 use Rattle.batch_keeper.specs.declared.error.KeepError.TheVariants.{Memory as NoMemory}
 use Rattle.cli_words.specs.declared.command.Command.{Command}
-use Rattle.cli_words.specs.declared.command.Command.TheVariants.{Replay, Formula, Export, Drill}
+use Rattle.cli_words.specs.declared.command.Command.TheVariants.{Replay, Formula, Export, Drill, Serve}
 use Rattle.cli_words.specs.declared.command.Invocation.{Invocation}
 use Rattle.batch_cli.specs.Headline.{Observed, IsUnopened, RanCommand, Ran}
 use Rattle.batch_cli.specs.declared.status.Status.TheVariants.{Memory}
@@ -23,6 +23,7 @@ unread_command (Replay options) left taken told count = if_some_anyway left _ (�
 unread_command (Formula options) left taken told count = if_some_anyway left _ (λ formula. inl (gains_nothing taken))
 unread_command Export left taken told count = inl (unopened taken told count)
 unread_command (Drill tasks) left taken told count = inl (unopened taken told count)
+unread_command (Serve options) left taken told count = (inr refl, gains_nothing taken)
 
 -- nothing was done
 pub unread : (invocation : Option Invocation) (left taken : Option (List ℕ)) (told : Option State) (count : ℕ) →

@@ -22,7 +22,7 @@ use Rattle.batch_cli.specs.declared.drill.limits.TheConstants.{DRILL_SEATS}
 use Rattle.cli_words.specs.declared.command.ReplayOptions.{ReplayOptions as Options}
 use Rattle.cli_words.specs.declared.command.FormulaOptions.{FormulaOptions}
 use Rattle.cli_words.specs.declared.command.Command.{Command}
-use Rattle.cli_words.specs.declared.command.Command.TheVariants.{Replay, Formula, Export, Drill}
+use Rattle.cli_words.specs.declared.command.Command.TheVariants.{Replay, Formula, Export, Drill, Serve}
 use Rattle.cli_words.specs.declared.command.Invocation.{Invocation}
 use Rattle.cli_formula.specs.declared.end.End.{End}
 use Rattle.cli_formula.specs.declared.end.End.TheVariants as ends
@@ -220,18 +220,36 @@ RanDrill count seen ScriptTooLong = ⊥
 RanDrill count seen (FormulaError position) = ⊥
 RanDrill count seen JournalFull = ⊥
 
--- what a status says of a command, of what the source tells, and of sink and keeper
+-- no command was done: nothing was written, and the status says so, or that memory ran out
+abbrev pub RanNothing : Observed → Status → Type 0
+RanNothing seen status = ((status ≡ Usage) ⊎ (status ≡ Memory)) × Gains seen.taken_before seen.taken_now []
+
+-- what a status says of a command, of what the source tells, and of sink and keeper; `serve` is not done
 abbrev pub RanCommand : Command → Option (List ℕ) → Observed → Status → Type 0
 RanCommand (Replay options) left seen status = IfSome left (λ script. RanWith options script seen status)
 RanCommand (Formula options) left seen status =
     IfSome left (λ formula. RanFormula options formula seen.taken_before seen.taken_now (end_of status))
 RanCommand Export left seen status = RanExport seen status
 RanCommand (Drill count) left seen status = RanDrill count seen status
+RanCommand (Serve options) left seen status = RanNothing seen status
 
 -- the same of what words ask; if they are not a command, nothing is written
 abbrev pub Ran : Option Invocation → Option (List ℕ) → Observed → Status → Type 0
-Ran None left seen status = ((status ≡ Usage) ⊎ (status ≡ Memory)) × Gains seen.taken_before seen.taken_now []
+Ran None left seen status = RanNothing seen status
 Ran (Some invocation) left seen status = RanCommand invocation.command left seen status
+
+-- the command serves, and is not done here
+abbrev pub IsService : Command → Type 0
+IsService (Replay options) = ⊥
+IsService (Formula options) = ⊥
+IsService Export = ⊥
+IsService (Drill count) = ⊥
+IsService (Serve options) = Unit {0}
+
+-- words ask no command that is done here
+abbrev pub AsksNoRun : Option Invocation → Type 0
+AsksNoRun None = Unit {0}
+AsksNoRun (Some invocation) = IsService invocation.command
 
 -- the command needs no tables
 abbrev pub NeedsNoTables : Command → Type 0
@@ -239,6 +257,7 @@ NeedsNoTables (Replay options) = ⊥
 NeedsNoTables (Formula options) = Unit {0}
 NeedsNoTables Export = ⊥
 NeedsNoTables (Drill count) = ⊥
+NeedsNoTables (Serve options) = Unit {0}
 
 -- what words ask calls no keeper
 abbrev pub CallsNoKeeper : Option Invocation → Type 0

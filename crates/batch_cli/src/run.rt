@@ -1,11 +1,11 @@
 //! The top call.
-ghost use Rattle.std.specs.Prelude.{◌≡◌, ◌≤◌, ◌⊎◌, None, IfSome, nat_lt, if◌then◌else◌};
+ghost use Rattle.std.specs.Prelude.{◌≡◌, ◌≤◌, ◌⊎◌, IfSome, nat_lt, if◌then◌else◌};
 ghost use Rattle.bt_base.specs.Causes.{Rose};
 ghost use Rattle.batch_desk.specs.Answers.{IsInOrder, Begins};
 ghost use Rattle.cli_words.specs.Commands.{command_of};
 ghost use Rattle.cli_words.specs.Ranges.{IsInRange};
 ghost use Rattle.batch_cli.specs.Going.{DeskRan};
-ghost use Rattle.batch_cli.specs.Headline.{Ran, RanCommand, RanWith, WritesNothing, CallsNoKeeper, NeedsNoTables};
+ghost use Rattle.batch_cli.specs.Headline.{AsksNoRun, CallsNoKeeper, IsService, NeedsNoTables, Ran, RanCommand, RanWith, WritesNothing};
 
 use crate::drill::drill;
 use crate::export::export;
@@ -108,7 +108,7 @@ fn replay<R: Source, W: Sink, K: Keeper + Drop>(
     }
 }
 
-/// Does a command whose options are in their ranges, and returns the keeper.
+/// Does a command whose options are in their ranges, and returns the keeper. `serve` is not done here.
 fn do_command<R: Source, W: Sink, K: Keeper + Drop>(
     alloc: Global,
     command: Command,
@@ -128,7 +128,8 @@ fn do_command<R: Source, W: Sink, K: Keeper + Drop>(
         }) result.0 }
     ensures unwritten { WritesNothing result.0 → sink.new ≡ sink.old }
     ensures unused { NeedsNoTables command → result.1 ≡ keeper }
-    ensures no_usage { result.0 ≡ Status.Usage → ⊥ }
+    ensures usage { result.0 ≡ Status.Usage → IsService command }
+    ensures service { IsService command → result.0 ≡ Status.Usage }
     ensures later { K.faults keeper ≤ K.faults result.1 }
     ensures source_fault { result.0 ≡ Status.SourceFault → Rose (R.faults source.old) (R.faults source.new) }
     ensures sink_fault { result.0 ≡ Status.SinkFault → Rose (W.faults sink.old) (W.faults sink.new) }
@@ -139,6 +140,7 @@ fn do_command<R: Source, W: Sink, K: Keeper + Drop>(
         Command::Formula(options) => (formula(alloc, options, source, sink), keeper),
         Command::Export => export(alloc, sink, keeper),
         Command::Drill(count) => drill(alloc, count, sink, keeper),
+        Command::Serve(_) => (Status::Usage, keeper),
     }
 }
 
@@ -147,7 +149,8 @@ fn do_command<R: Source, W: Sink, K: Keeper + Drop>(
 /// of each line before it makes the next call; then the tables. `formula` with its options reads a formula from the source to
 /// its end, evaluates it over no samples and no current values, and writes its results or its fault; it calls no keeper.
 /// `export` writes the tables that the keeper loads, without opening them, and `drill` opens them and makes its calls, at most
-/// 900,034, one by one; then it writes its summary. Both read no source.
+/// 900,034, one by one; then it writes its summary. Both read no source. `serve` is not done here: its words give status 2, as do
+/// words that are not a command, and nothing is written.
 ///
 /// At each moment of the history of a script or of a drill the laws hold that stand at `Desk::call` of batch_desk: of slots, of
 /// ready tasks, of runs that are taken for the present attempt, of numbers that are given once and endings that count once, of
@@ -178,8 +181,8 @@ pub fn run_words<R: Source, W: Sink, K: Keeper + Drop>(
     // The keeper is not called if the words are not a command, or one that needs no tables.
     ensures unused { CallsNoKeeper (command_of words.now) → result.1 ≡ keeper }
     // Each status that names a fault has its cause. Reading the words may run out of memory.
-    ensures usage { result.0 ≡ Status.Usage → command_of words.now ≡ None }
-    ensures no_command { command_of words.now ≡ None → (result.0 ≡ Status.Usage) ⊎ (result.0 ≡ Status.Memory) }
+    ensures usage { result.0 ≡ Status.Usage → AsksNoRun (command_of words.now) }
+    ensures no_command { AsksNoRun (command_of words.now) → (result.0 ≡ Status.Usage) ⊎ (result.0 ≡ Status.Memory) }
     ensures later { K.faults keeper ≤ K.faults result.1 }
     ensures source_fault { result.0 ≡ Status.SourceFault → Rose (R.faults source.old) (R.faults source.new) }
     ensures sink_fault { result.0 ≡ Status.SinkFault → Rose (W.faults sink.old) (W.faults sink.new) }

@@ -9,7 +9,7 @@ pub enum Status {
     Done,
     /// 1: out of memory; the run ended at once.
     Memory,
-    /// 2: the words are not a command; nothing was written.
+    /// 2: the words are not a command, or `serve`, which `run_words` does not do; nothing was written.
     Usage,
     /// 3: the source failed; nothing was called or written.
     SourceFault,

@@ -172,3 +172,10 @@ fn words_that_are_not_a_command(rt: HostRuntime) -> Result<(), Fail> {
     }
     Ok(())
 }
+
+#[test]
+fn services_are_not_run(rt: HostRuntime) -> Result<(), Fail> {
+    let run = sure(&["serve", "--port", "0"], TAKEN.as_bytes());
+    assert!(rt; gives(rt.alloc(), run, Status::Usage, "")?);
+    Ok(())
+}

@@ -19,6 +19,7 @@ unfolding options_of
 named names.Replay = refl
 named names.Formula = refl
 named names.Export = refl
+named names.Serve = refl
 
 -- the settings of the texts that clap was given are those of the words
 pub settings_read : (name : CommandName) (words : List Text) (given made options : List (Bor Text)) → given ≡ made → texts made ≡ words

@@ -7,12 +7,13 @@ use Rattle.bt_base.specs.Moments.{last_moment}
 use Rattle.option_words.specs.Options.{Setting, Text, settings_in, value_for}
 use Rattle.wire_numbers.specs.Numbers.{number_in}
 use Rattle.bt_rows.specs.declared.limits.TheConstants.{SEAT_LIMIT, TARGET_LIMIT}
-use Rattle.cli_words.specs.declared.command.TheConstants.{DEFAULT_SEATS, DRILL_LIMIT, JOURNAL_LIMIT}
+use Rattle.cli_words.specs.declared.command.TheConstants.{DEFAULT_SEATS, DRILL_LIMIT, JOURNAL_LIMIT, DEFAULT_PORT, PORT_LIMIT}
+use Rattle.cli_words.specs.declared.command.TheConstants.{DEFAULT_DOORS, DOOR_LIMIT, CONNECTION_LIMIT}
 use Rattle.cli_words.specs.declared.number.TheConstants.{DIGIT_LIMIT}
 use Rattle.cli_words.specs.declared.command_name.CommandName.{CommandName}
 use Rattle.cli_words.specs.declared.command_name.CommandName.TheVariants as names
 use Rattle.cli_words.specs.declared.command.Command.{Command}
-use Rattle.cli_words.specs.declared.command.Command.TheVariants.{Replay, Formula, Export, Drill}
+use Rattle.cli_words.specs.declared.command.Command.TheVariants.{Replay, Formula, Export, Drill, Serve}
 use Rattle.cli_words.specs.declared.command.Invocation.{Invocation}
 
 -- the name of a command that has options
@@ -20,16 +21,18 @@ unfoldable pub command_text : CommandName → Text
 command_text names.Replay = codes "replay"
 command_text names.Formula = codes "formula"
 command_text names.Export = codes "export"
+command_text names.Serve = codes "serve"
 
 -- the command with this name
 unfoldable pub command_in : Text → Option CommandName
-command_in text = find (λ name. bytes_eq text (command_text name)) (names.Replay ∷ names.Formula ∷ names.Export ∷ [])
+command_in text = find (λ name. bytes_eq text (command_text name)) (names.Replay ∷ names.Formula ∷ names.Export ∷ names.Serve ∷ [])
 
 -- the names of its options
 unfoldable pub options_of : CommandName → List Text
 options_of names.Replay = codes "seats" ∷ codes "journal" ∷ codes "store" ∷ []
 options_of names.Formula = codes "now" ∷ codes "dedicated" ∷ []
 options_of names.Export = codes "store" ∷ []
+options_of names.Serve = codes "seats" ∷ codes "journal" ∷ codes "store" ∷ codes "port" ∷ codes "doors" ∷ codes "connections" ∷ []
 
 -- whether the word is the name of `drill`, which has no options
 unfoldable pub is_drill : Text → Bool
@@ -58,11 +61,28 @@ formula_with now dedicated =
     option_and_then (λ moment. option_map (λ nodes. Formula (record { now = moment; dedicated = nodes }))
     (number_or 0 0 TARGET_LIMIT dedicated)) (number_or 0 0 last_moment now)
 
+-- the number of connections that the text of `--connections` is, 1 to 1,000,000; `Some None`, no limit, if no text is given
+abbrev pub connections_in : Option Text → Option (Option ℕ)
+connections_in None = Some None
+connections_in (Some text) = option_map Some (number_from_to 1 CONNECTION_LIMIT text)
+
+-- `serve` with the texts of `--seats` and `--journal` as for `replay`, `--port`, 0 to 65,535 and by default 8,080, `--doors`, 1 to 16
+-- and by default 4, and `--connections`
+abbrev pub serve_with : Option Text → Option Text → Option Text → Option Text → Option Text → Option Command
+serve_with seats journal port doors connections =
+    option_and_then (λ count. option_and_then (λ calls. option_and_then (λ socket. option_and_then (λ served.
+    option_map (λ most. Serve (record { seats = count; journal = calls; port = socket; doors = served; connections = most }))
+    (connections_in connections)) (number_or DEFAULT_DOORS 1 DOOR_LIMIT doors)) (number_or DEFAULT_PORT 0 PORT_LIMIT port))
+    (number_or JOURNAL_LIMIT 1 JOURNAL_LIMIT journal)) (number_or DEFAULT_SEATS 1 SEAT_LIMIT seats)
+
 -- the command with the values of the settings
 abbrev pub command_with : CommandName → List Setting → Option Command
 command_with names.Replay settings = replay_with (value_for (codes "seats") settings) (value_for (codes "journal") settings)
 command_with names.Formula settings = formula_with (value_for (codes "now") settings) (value_for (codes "dedicated") settings)
 command_with names.Export settings = Some Export
+command_with names.Serve settings =
+    serve_with (value_for (codes "seats") settings) (value_for (codes "journal") settings) (value_for (codes "port") settings)
+    (value_for (codes "doors") settings) (value_for (codes "connections") settings)
 
 -- the path that a text is, which is not empty; `Some None` if no text is given
 abbrev pub path_in : Option Text → Option (Option Text)

@@ -11,6 +11,21 @@ pub const JOURNAL_LIMIT: u32 = 4_000_000;
 /// The greatest number of tasks that `drill` makes.
 pub const DRILL_LIMIT: u32 = 100_000;
 
+/// The port of `serve` if none is stated.
+pub const DEFAULT_PORT: u16 = 8_080;
+
+/// The greatest port.
+pub const PORT_LIMIT: u16 = u16::MAX;
+
+/// The number of doors of `serve` if none is stated.
+pub const DEFAULT_DOORS: u8 = 4;
+
+/// The greatest number of doors.
+pub const DOOR_LIMIT: u8 = 16;
+
+/// The greatest number of connections that is stated. If none is stated, there is no limit.
+pub const CONNECTION_LIMIT: u32 = 1_000_000;
+
 /// The options of `replay`.
 #[derive(Clone, Copy, Debug, PartialEq, Eq)]
 pub struct ReplayOptions {
@@ -29,6 +44,21 @@ pub struct FormulaOptions {
     pub dedicated: u32,
 }
 
+/// The options of `serve`.
+#[derive(Clone, Copy, Debug, PartialEq, Eq)]
+pub struct ServeOptions {
+    /// The number of seats of the machine, 1 to 32, by default 8.
+    pub seats: u8,
+    /// The number of calls that the journal takes, 1 to 4,000,000, by default that many.
+    pub journal: u32,
+    /// The port of 127.0.0.1, 0 to 65,535, by default 8,080.
+    pub port: u16,
+    /// The number of doors, each of which serves one connection at a time, 1 to 16, by default 4.
+    pub doors: u8,
+    /// The number of connections after which each listener ends, 1 to 1,000,000; None, the default, if they have no limit.
+    pub connections: Option<u32>,
+}
+
 /// A command with its options.
 #[derive(Clone, Copy, Debug, PartialEq, Eq)]
 pub enum Command {
@@ -40,6 +70,8 @@ pub enum Command {
     Export,
     /// Makes the calls of a drill of this number of tasks, 1 to 100,000.
     Drill(u32),
+    /// Serves HTTP on a port of 127.0.0.1.
+    Serve(ServeOptions),
 }
 
 /// What the words of a command line say.

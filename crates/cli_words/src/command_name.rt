@@ -11,6 +11,8 @@ pub enum CommandName {
     Formula,
     /// Writes the tables of a store.
     Export,
+    /// Serves HTTP.
+    Serve,
 }
 
 impl CommandName {
@@ -23,6 +25,7 @@ impl CommandName {
             CommandName::Replay => "replay",
             CommandName::Formula => "formula",
             CommandName::Export => "export",
+            CommandName::Serve => "serve",
         }
     }
 
@@ -35,6 +38,7 @@ impl CommandName {
             CommandName::Replay,
             CommandName::Formula,
             CommandName::Export,
+            CommandName::Serve,
         ]
         .iter()
         .copied()
@@ -50,6 +54,7 @@ impl CommandName {
             CommandName::Replay => &["seats", "journal", "store"],
             CommandName::Formula => &["now", "dedicated"],
             CommandName::Export => &["store"],
+            CommandName::Serve => &["seats", "journal", "store", "port", "doors", "connections"],
         }
     }
 }

@@ -12,6 +12,7 @@ mod values;
 mod words;
 
 pub use command::{
-    Command, DEFAULT_SEATS, DRILL_LIMIT, FormulaOptions, Invocation, JOURNAL_LIMIT, ReplayOptions,
+    CONNECTION_LIMIT, Command, DEFAULT_DOORS, DEFAULT_PORT, DEFAULT_SEATS, DOOR_LIMIT, DRILL_LIMIT,
+    FormulaOptions, Invocation, JOURNAL_LIMIT, PORT_LIMIT, ReplayOptions, ServeOptions,
 };
 pub use words::read_command;

@@ -132,3 +132,64 @@ fn other_words_are_no_command(rt: HostRuntime) -> Result<(), Fail> {
     }
     Ok(())
 }
+
+fn default_service() -> ServeOptions {
+    ServeOptions {
+        seats: 8,
+        journal: 4_000_000,
+        port: 8_080,
+        doors: 4,
+        connections: None,
+    }
+}
+
+#[test]
+fn services_are_read(rt: HostRuntime) -> Result<(), Fail> {
+    let wide = ServeOptions {
+        port: 65_535,
+        doors: 16,
+        connections: Some(1_000_000),
+        ..default_service()
+    };
+    let rows: [(&[&[u8]], ServeOptions, Option<&str>); 2] = [
+        (&[b"serve"], default_service(), None),
+        (
+            &[
+                b"serve",
+                b"--port=65535",
+                b"--doors",
+                b"16",
+                b"--store=a",
+                b"--connections",
+                b"1000000",
+            ],
+            wide,
+            Some("a"),
+        ),
+    ];
+    for (words, options, path) in rows {
+        assert!(rt;
+            are(rt.alloc(), words, Some(Command::Serve(options)), path) == Ok(true),
+            "{words:?}"
+        );
+    }
+    Ok(())
+}
+
+#[test]
+fn services_out_of_range_are_no_command(rt: HostRuntime) -> Result<(), Fail> {
+    let rows: [&[&[u8]]; 5] = [
+        &[b"serve", b"--port=65536"],
+        &[b"serve", b"--doors=0"],
+        &[b"serve", b"--doors", b"17"],
+        &[b"serve", b"--connections=0"],
+        &[b"serve", b"--connections", b"1000001"],
+    ];
+    for words in rows {
+        assert!(rt;
+            are(rt.alloc(), words, None, None) == Ok(false),
+            "{words:?}"
+        );
+    }
+    Ok(())
+}
