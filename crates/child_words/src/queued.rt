@@ -121,8 +121,8 @@ fn is_asked(run: &RunRow) -> bool
 
 /// The numbers of the taken runs whose child programs are to be stopped, in order of adding. It fails only when out of memory.
 #[tactic(auto, using(crate::proofs::Asked::listed, crate::proofs::Asked::passed_over, crate::proofs::Asked::none_left))]
-pub fn asked_runs(alloc: Global, tables: &Tables) -> Result<Vec<u64>, NoMemory>
-    ensures { IfOk result (λ numbers. numbers.items ≡ asked_runs tables.now.state) }
+pub fn asked_runs(alloc: Global, tables: &Tables) -> Result<List<u64>, NoMemory>
+    ensures { IfOk result (λ numbers. numbers ≡ asked_runs tables.now.state) }
 {
     let mut numbers = Vec::new(alloc);
     for run in tables.runs() {
@@ -130,5 +130,5 @@ pub fn asked_runs(alloc: Global, tables: &Tables) -> Result<Vec<u64>, NoMemory>
             numbers.push(run.number)?;
         }
     }
-    Ok(numbers)
+    Ok(List::of_vec(numbers))
 }

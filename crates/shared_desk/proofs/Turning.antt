@@ -4,9 +4,11 @@ use Rattle.std.specs.Prelude.{Some, Result, IfOk}
 use mathlib.Core.List.{IsPrefix, map-append}
 use Rattle.bt_base.specs.declared.memory.NoMemory.{NoMemory}
 use Rattle.bt_rows.specs.declared.reply.Reply.{Reply}
+use Rattle.bt_rows.specs.declared.reply.QueuedRun.{QueuedRun}
 use Rattle.batch_model.specs.Variants.{State}
 use Rattle.table_reads.specs.declared.request.Read.{Read}
 use Rattle.table_reads.specs.Reads.{read_reply}
+use Rattle.child_words.specs.Queued.{queued_at, asked_runs}
 use Rattle.batch_desk.specs.declared.answer.Answer.{Answer}
 use Rattle.batch_desk.specs.declared.entry.Entry.{Entry}
 use Rattle.batch_desk.specs.Kept.{Desk}
@@ -16,7 +18,7 @@ use Rattle.counted_lock.specs.declared.views.Stamped.{Stamped}
 use Rattle.counted_lock.specs.Views.{places_of, entry_of, stamped}
 use Rattle.counted_lock.proofs.Places.{places_last}
 use Rattle.shared_desk.specs.Openings.{Opening, opening_of}
-use Rattle.shared_desk.specs.Sharing.{Caller, calls_of, tables_after, IsLegalFrom, Extends, SeesLegal, Looks}
+use Rattle.shared_desk.specs.Sharing.{Caller, calls_of, tables_after, IsLegalFrom, Extends, SeesLegal, Looks, LooksAt, LooksAsked}
 use Rattle.shared_desk.specs.Turns.{HasTurn}
 
 module _ {K : Type 0} (told : K → Option State) (faults : K → ℕ) (o : Opening) where
@@ -91,4 +93,24 @@ module _ {K : Type 0} (told : K → Option State) (faults : K → ℕ) (o : Open
   looks p h q d s read reply turn same state shown = record {
     sees = sees_same p h q turn.sees same;
     shown = subst (λ (z : State). IfOk reply (λ shows. shows ≡ read_reply z read)) (state ∙ (turn.state ∙ sym (ap (tables_after o) same))) shown;
+  }
+
+  -- the tables in the turn are those after what is then seen
+  pub state_seen : (p h q : Caller) (d : Desk K) (s : State) → HasTurn told faults o p h d → q.seen ≡ h.seen → s ≡ d.state → s ≡ tables_after o q.seen
+  state_seen p h q d s turn same state = state ∙ (turn.state ∙ sym (ap (tables_after o) same))
+
+  -- a look at a seat in the turn
+  pub looks_at : (p h q : Caller) (d : Desk K) (s : State) (seat : ℕ) (run : Result (Option QueuedRun) NoMemory) → HasTurn told faults o p h d →
+      q.seen ≡ h.seen → s ≡ d.state → IfOk run (λ shows. shows ≡ queued_at s seat) → LooksAt o p q seat run
+  looks_at p h q d s seat run turn same state shown = record {
+    sees = sees_same p h q turn.sees same;
+    shown = subst (λ (z : State). IfOk run (λ shows. shows ≡ queued_at z seat)) (state_seen p h q d s turn same state) shown;
+  }
+
+  -- a look at the runs that are asked to stop, in the turn
+  pub looks_asked : (p h q : Caller) (d : Desk K) (s : State) (numbers : Result (List ℕ) NoMemory) → HasTurn told faults o p h d →
+      q.seen ≡ h.seen → s ≡ d.state → IfOk numbers (λ shows. shows ≡ asked_runs s) → LooksAsked o p q numbers
+  looks_asked p h q d s numbers turn same state shown = record {
+    sees = sees_same p h q turn.sees same;
+    shown = subst (λ (z : State). IfOk numbers (λ shows. shows ≡ asked_runs z)) (state_seen p h q d s turn same state) shown;
   }

@@ -1,12 +1,14 @@
 -- What calls and reads of a shared desk do, by what their pass has seen before and after.
-use Rattle.std.specs.Prelude.{◌≡◌, ℕ, List, [], ◌∷◌, ◌++◌, map, length, Some, Result, IfOk}
+use Rattle.std.specs.Prelude.{◌≡◌, ℕ, List, [], ◌∷◌, ◌++◌, map, length, Option, Some, Result, IfOk}
 use mathlib.Core.List.{IsPrefix}
 use Rattle.bt_base.specs.declared.memory.NoMemory.{NoMemory}
 use Rattle.bt_rows.specs.declared.event.EventKind.{EventKind}
 use Rattle.bt_rows.specs.declared.reply.Reply.{Reply}
+use Rattle.bt_rows.specs.declared.reply.QueuedRun.{QueuedRun}
 use Rattle.batch_model.specs.Variants.{State}
 use Rattle.table_reads.specs.declared.request.Read.{Read}
 use Rattle.table_reads.specs.Reads.{read_reply}
+use Rattle.child_words.specs.Queued.{queued_at, asked_runs}
 use Rattle.batch_desk.specs.declared.answer.Answer.{Answer}
 use Rattle.batch_desk.specs.declared.answer.Answer.TheVariants.{Done, KeeperFault, JournalFull, Memory}
 use Rattle.batch_desk.specs.declared.entry.Entry.{Entry}
@@ -66,6 +68,16 @@ pub record SeesLegal (o : Opening) (p q : Caller) : Type 0 where
 pub record Looks (o : Opening) (p q : Caller) (read : Read) (reply : Result Reply NoMemory) : Type 0 where
   pub sees : SeesLegal o p q
   pub shown : IfOk reply (λ shows. shows ≡ read_reply (tables_after o q.seen) read)
+
+-- a look at a seat shows its lowest queued run, of the tables after what is then seen
+pub record LooksAt (o : Opening) (p q : Caller) (seat : ℕ) (run : Result (Option QueuedRun) NoMemory) : Type 0 where
+  pub sees : SeesLegal o p q
+  pub shown : IfOk run (λ shows. shows ≡ queued_at (tables_after o q.seen) seat)
+
+-- a look at the runs that are asked to stop, of the tables after what is then seen
+pub record LooksAsked (o : Opening) (p q : Caller) (numbers : Result (List ℕ) NoMemory) : Type 0 where
+  pub sees : SeesLegal o p q
+  pub shown : IfOk numbers (λ shows. shows ≡ asked_runs (tables_after o q.seen))
 
 -- The journal is a shared history without numbers. The history begins with what each of these passes has seen, and has no calls of passes
 -- whose numbers are not below how many these are.

@@ -3,14 +3,14 @@ ghost use Rattle.std.specs.Prelude.{◌≡◌, [], map, None, IfOk, IfErr};
 ghost use Rattle.counted_lock.specs.Views.{places_of, stamped};
 ghost use Rattle.counted_lock.specs.Passes.{IsPassOf, IsNew};
 ghost use Rattle.shared_desk.specs.Openings.{opening_of};
-ghost use Rattle.shared_desk.specs.Sharing.{Asked, Looks, SeesMore};
+ghost use Rattle.shared_desk.specs.Sharing.{Asked, Looks, LooksAt, LooksAsked, SeesMore};
 
 use crate::ordered::{OrderedDesk, Origin};
 use batch_desk::{Answer, Desk, Entry};
 use batch_keeper::Keeper;
-use bt_base::{Moment, NoMemory};
+use bt_base::{List, Moment, NoMemory};
 use bt_rows::event::Event;
-use bt_rows::reply::Reply;
+use bt_rows::reply::{QueuedRun, Reply};
 use counted_lock::CountedLock;
 use std::alloc::Global;
 use std::marker::Model;
@@ -94,6 +94,46 @@ impl<K: Keeper + Drop> SharedDesk<K> {
     {
         let mine = mem::replace(pass, Pass::blank());
         let (mine, shown) = self.looked(rt, alloc, mine, read);
+        *pass = mine;
+        shown
+    }
+
+    /// The lowest queued run at the seat, in a turn, which it waits for, of the tables after the history that the pass has then seen,
+    /// with the words that its child program is started with; None if no run is queued there. The history begins with what the pass
+    /// had seen, and has no new call of it. The only error is out of memory.
+    pub fn queued_at<R: Wait>(
+        &self,
+        rt: &R,
+        alloc: Global,
+        pass: &mut Pass,
+        seat: u8,
+    ) -> Result<Option<QueuedRun>, NoMemory>
+        requires pass { IsPassOf self.now pass.old }
+        ensures pass { IsPassOf self.now pass.new }
+        ensures number { pass.new.number ≡ pass.old.number }
+        ensures looks { LooksAt self.now.origin pass.old pass.new seat result }
+    {
+        let mine = mem::replace(pass, Pass::blank());
+        let (mine, shown) = self.looked_at(rt, alloc, mine, seat);
+        *pass = mine;
+        shown
+    }
+
+    /// The numbers of the taken runs that are asked to stop, in a turn, which it waits for, of the tables after the history that the
+    /// pass has then seen. That begins with what the pass had seen, and has no new call of it. The only error is out of memory.
+    pub fn asked_runs<R: Wait>(
+        &self,
+        rt: &R,
+        alloc: Global,
+        pass: &mut Pass,
+    ) -> Result<List<u64>, NoMemory>
+        requires pass { IsPassOf self.now pass.old }
+        ensures pass { IsPassOf self.now pass.new }
+        ensures number { pass.new.number ≡ pass.old.number }
+        ensures looks { LooksAsked self.now.origin pass.old pass.new result }
+    {
+        let mine = mem::replace(pass, Pass::blank());
+        let (mine, shown) = self.looked_asked(rt, alloc, mine);
         *pass = mine;
         shown
     }

@@ -1,16 +1,17 @@
 //! Turns of a shared desk: a pass takes the desk out of the lock, calls or reads it as if it were alone, and puts it back.
 ghost use Rattle.std.specs.Prelude.{◌≡◌};
 ghost use Rattle.counted_lock.specs.Passes.{IsPassOf};
-ghost use Rattle.shared_desk.specs.Sharing.{Asked, Looks};
+ghost use Rattle.shared_desk.specs.Sharing.{Asked, Looks, LooksAt, LooksAsked};
 ghost use Rattle.shared_desk.specs.Turns.{HasTurn};
 
 use crate::ordered::{OrderedDesk, Origin};
 use crate::shared::{Pass, SharedDesk};
 use batch_desk::{Answer, Entry};
 use batch_keeper::Keeper;
-use bt_base::{Moment, NoMemory};
+use bt_base::{List, Moment, NoMemory};
 use bt_rows::event::Event;
-use bt_rows::reply::Reply;
+use bt_rows::reply::{QueuedRun, Reply};
+use child_words::{asked_runs, queued_at};
 use counted_lock::Held;
 use std::alloc::Global;
 use std::sync::Wait;
@@ -71,6 +72,41 @@ impl<K: Keeper + Drop> SharedDesk<K> {
     {
         let (held, desk) = self.begin(rt, pass);
         let shown = read_reply(alloc, desk.tables(), read);
+        (self.lock.leave(held, desk), shown)
+    }
+
+    /// A look at a seat in a turn, which leaves the desk as it is.
+    pub(crate) fn looked_at<R: Wait>(
+        &self,
+        rt: &R,
+        alloc: Global,
+        pass: Pass,
+        seat: u8,
+    ) -> (Pass, Result<Option<QueuedRun>, NoMemory>)
+        requires pass { IsPassOf self.now pass }
+        ensures pass { IsPassOf self.now result.0 }
+        ensures number { result.0.number ≡ pass.number }
+        ensures looks { LooksAt self.now.origin pass result.0 seat result.1 }
+    {
+        let (held, desk) = self.begin(rt, pass);
+        let shown = queued_at(alloc, desk.tables(), seat);
+        (self.lock.leave(held, desk), shown)
+    }
+
+    /// A look at the runs that are asked to stop, in a turn, which leaves the desk as it is.
+    pub(crate) fn looked_asked<R: Wait>(
+        &self,
+        rt: &R,
+        alloc: Global,
+        pass: Pass,
+    ) -> (Pass, Result<List<u64>, NoMemory>)
+        requires pass { IsPassOf self.now pass }
+        ensures pass { IsPassOf self.now result.0 }
+        ensures number { result.0.number ≡ pass.number }
+        ensures looks { LooksAsked self.now.origin pass result.0 result.1 }
+    {
+        let (held, desk) = self.begin(rt, pass);
+        let shown = asked_runs(alloc, desk.tables());
         (self.lock.leave(held, desk), shown)
     }
 }
