@@ -4,13 +4,16 @@ ghost use Rattle.std.specs.Prelude.{◌≡◌, None, IfOk};
 use bt_base::Failed;
 use http_link::Link;
 use std::io;
-use std::io::{Read, Write};
+use std::io::{ErrorKind, Read, Write};
 use std::marker::Model;
 use std::net::{Shutdown, TcpStream};
 use std::time::Duration;
 
 /// The longest time that a read or a write waits for the peer, in seconds (this project's profile).
 pub const MAX_WAIT_SECONDS: u64 = 60;
+
+/// How many signals may interrupt one read or one write before it counts as a fault.
+const MAX_INTERRUPTS: u32 = 1_000_000;
 
 /// The longest time that the end of a connection waits for bytes of the peer, in milliseconds.
 const MAX_DRAIN_WAIT_MS: u64 = 1000;
@@ -71,29 +74,41 @@ impl Link for TcpLink {
 
     ghost faults = { λ l. l };
 
-    /// Reads from the connection. Returns `Failed` if it fails, or if no byte comes for `MAX_WAIT_SECONDS`.
+    /// Reads from the connection, again if a signal interrupts the wait. Returns `Failed` if it fails, or if no byte comes for
+    /// `MAX_WAIT_SECONDS`.
     fn read(&mut self, room: &mut [u8]) -> Result<usize, Failed> {
-        match self.stream.read(room) {
-            Ok(count) => Ok(count),
-            Err(_) => {
-                self.faults = self.faults.saturating_add(1);
-                Err(Failed)
+        for _ in 0..MAX_INTERRUPTS {
+            match self.stream.read(room) {
+                Ok(count) => return Ok(count),
+                Err(error) => {
+                    if error.kind() != ErrorKind::Interrupted {
+                        break;
+                    }
+                }
             }
         }
+        self.faults = self.faults.saturating_add(1);
+        Err(Failed)
     }
 
-    /// Writes to the connection. Returns `Failed` if it fails, if the peer takes no byte for `MAX_WAIT_SECONDS`, or if the
-    /// connection takes nothing of a piece that is not empty.
+    /// Writes to the connection, again if a signal interrupts the wait. Returns `Failed` if it fails, if the peer takes no byte for
+    /// `MAX_WAIT_SECONDS`, or if the connection takes nothing of a piece that is not empty.
     fn write(&mut self, piece: &[u8]) -> Result<usize, Failed> {
         if piece.is_empty() {
             return Ok(0);
         }
-        match self.stream.write(piece) {
-            Ok(0) | Err(_) => {
-                self.faults = self.faults.saturating_add(1);
-                Err(Failed)
+        for _ in 0..MAX_INTERRUPTS {
+            match self.stream.write(piece) {
+                Ok(0) => break,
+                Ok(count) => return Ok(count),
+                Err(error) => {
+                    if error.kind() != ErrorKind::Interrupted {
+                        break;
+                    }
+                }
             }
-            Ok(count) => Ok(count),
         }
+        self.faults = self.faults.saturating_add(1);
+        Err(Failed)
     }
 }
