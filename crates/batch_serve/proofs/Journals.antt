@@ -1,0 +1,67 @@
+-- Workers from their passes to the journal.
+use Rattle.std.proofs.Common.{◌≡◌, ℕ, zero, suc, ◌+◌, ◌<◌, ◌≤◌, List, [], ◌∷◌, ◌++◌, length, map, get_or, refl, ap, sym, ◌∙◌, subst, arith}
+use Rattle.std.specs.Prelude.{All}
+use mathlib.Core.List.{IsPrefix, map-append}
+use Rattle.batch_desk.specs.declared.entry.Entry.{Entry}
+use Rattle.batch_desk.specs.declared.journal.Journal.{Journal}
+use Rattle.counted_lock.specs.declared.views.Stamped.{Stamped}
+use Rattle.counted_lock.specs.Passes.{LockIdentity, IsPassOf}
+use Rattle.shared_desk.specs.Openings.{Opening}
+use Rattle.shared_desk.specs.Sharing.{Caller, calls_of, IsSharedJournal}
+use Rattle.batch_serve.specs.declared.worker.Worker.{Worker}
+use Rattle.batch_serve.specs.Passes.{AtEach, IsGiven, CanWork, IsSameKind, WorksWithPass, Serves}
+
+-- what stands of each element stands of each image
+all_map : {A B : Type 0} (f : A → B) (P : B → Type 0) (xs : List A) → ((k : ℕ) (d : A) → k < length xs → P (f (get_or xs k d))) → (k : ℕ) (e : B) → k < length (map f xs)
+    → P (get_or (map f xs) k e)
+all_map f P [] h k e lt = absurd (omega arith)
+all_map f P (x ∷ xs) h zero e lt = h 0 x (omega arith)
+all_map f P (x ∷ xs) h (suc k) e lt = all_map f P xs (λ j d l. h (suc j) d (omega arith)) k e (omega arith)
+
+-- an image at a place
+at_map : {A B : Type 0} (f : A → B) (xs : List A) (k : ℕ) (d : A) (e : B) → k < length xs → get_or (map f xs) k e ≡ f (get_or xs k d)
+at_map f [] k d e lt = absurd (omega arith)
+at_map f (x ∷ xs) zero d e lt = refl
+at_map f (x ∷ xs) (suc k) d e lt = at_map f xs k d e (omega arith)
+
+length_map : {A B : Type 0} (f : A → B) (xs : List A) → length (map f xs) ≡ length xs
+length_map f [] = refl
+length_map f (x ∷ xs) = ap (λ (n : ℕ). suc n) (length_map f xs)
+
+prefix_map : {A B : Type 0} (f : A → B) (xs ys : List A) → IsPrefix xs ys → IsPrefix (map f xs) (map f ys)
+prefix_map f xs ys p = (map f p.0, sym (map-append f xs p.0) ∙ ap (map f) p.1)
+
+module _ {W : Type 0} (desk : LockIdentity Opening) where
+  -- workers that were given passes can work, if they could before
+  pub can_all : (can : W → Type 0) (old given : List (Worker W)) → AtEach (IsGiven desk) old given → All (λ w. can w.kind) old → All (CanWork can desk) given
+  can_all can old given gives ready k d lt =
+      let count = gives.count in let inside : k < length old = omega arith in let one = gives.each k d inside in
+      record { pass = one.pass; ready = subst can (sym one.kind) (ready k d inside) }
+
+  -- the first pass and those of the workers are passes of the desk
+  pub passes_all : (first : Caller) (workers : List (Worker W)) → IsPassOf desk first → ((k : ℕ) (d : Worker W) → k < length workers → IsPassOf desk (get_or workers k d).pass)
+      → All (IsPassOf desk) (first ∷ map (λ w. w.pass) workers)
+  passes_all first workers p ps zero d lt = p
+  passes_all first workers p ps (suc k) d lt = all_map (λ (w : Worker W). w.pass) (IsPassOf desk) workers ps k d (omega arith)
+
+  module _ (worked : LockIdentity Opening → Caller → W → Caller → W → Type 0) (journal : Journal) (first : Caller) (old given ended new : List (Worker W)) where
+    -- what each worker did stands in the journal
+    pub serves_all : AtEach (IsGiven desk) old given → length ended ≡ length given → ((k : ℕ) (d : Worker W) → k < length given → WorksWithPass worked desk (get_or given k d) (get_or ended k d))
+        → AtEach IsSameKind ended new → IsSharedJournal journal (first ∷ map (λ w. w.pass) ended) → AtEach (Serves worked desk journal.entries) old new
+    serves_all gives same works takes shared = record {
+      count = takes.count ∙ (same ∙ gives.count);
+      each = λ k d lt.
+          let few = gives.count in let inside : k < length given = omega arith in let within : k < length ended = omega arith in
+          let one = gives.each k d lt in let work = works k d inside in let took = takes.each k d within in
+          let before = (get_or given k d).pass in let after = (get_or ended k d).pass in
+          let long = length_map (λ (w : Worker W). w.pass) ended in
+          let seen = subst (λ (p : Caller). IsPrefix p.seen shared.history) (at_map (λ (w : Worker W). w.pass) ended k d first within) (shared.seen (suc k) first (omega arith)) in
+          record {
+            before = before;
+            after = after;
+            given = one.pass;
+            work = subst (λ v. worked desk before v after (get_or new k d).kind) one.kind
+                (subst (λ v. worked desk before (get_or given k d).kind after v) (sym took) work.work);
+            stands = subst (λ (es : List Entry). IsPrefix (calls_of after.seen) es) (sym shared.journal) (prefix_map _ after.seen shared.history seen);
+          };
+    }

@@ -1,0 +1,5 @@
+mod Askers
+mod Journals
+mod Loops
+mod Outcomes
+mod Sends
