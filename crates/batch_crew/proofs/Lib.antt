@@ -1,2 +1,5 @@
+mod Added
+pub mod FirstTicks
+pub mod GivenRuns
 mod Stops
 mod Turns

@@ -1,5 +1,5 @@
 -- What the stops of a timer make of the runs that are asked to stop.
-use Rattle.std.proofs.Common.{◌≡◌, ℕ, ◌+◌, ◌<◌, ◌≤◌, ◌-◌, ◌^◌, true, false, ◌||◌, ◌⊎◌, inl, inr, List, [], ◌∷◌, ◌++◌, refl, sym, ◌∙◌, arith, eq-eqb}
+use Rattle.std.proofs.Common.{◌≡◌, ℕ, ◌+◌, ◌<◌, ◌≤◌, ◌-◌, ◌^◌, true, false, ◌⊎◌, inl, inr, List, ◌∷◌, refl, sym, ◌∙◌, arith, eq-eqb}
 use Rattle.std.specs.Prelude.{nat_eq}
 use Rattle.bt_base.specs.Causes.{Rose}
 use Rattle.bt_rows.specs.Lists.{AreDistinct}

@@ -1,5 +1,5 @@
 -- What the turns of a timer leave.
-use Rattle.std.proofs.Common.{◌≡◌, ℕ, ◌<◌, ◌≤◌, ◌+◌, true, false, Bool, Option, ◌⊎◌, inl, inr, List, [], ◌∷◌, ◌++◌, refl, sym, ap, subst, ◌∙◌, arith}
+use Rattle.std.proofs.Common.{◌≡◌, ℕ, ◌≤◌, true, false, Bool, Option, ◌⊎◌, inl, inr, List, [], ◌∷◌, sym, ap, subst, arith}
 use Rattle.std.specs.Prelude.{nat_eq, Result, Ok, Err, Some}
 use mathlib.Core.List.{IsPrefix}
 use Rattle.bt_rows.specs.Lists.{AreDistinct}
@@ -8,16 +8,15 @@ use Rattle.batch_desk.specs.declared.answer.Answer.{Answer}
 use Rattle.batch_desk.specs.declared.answer.Answer.TheVariants.{Done, KeeperFault, JournalFull, Memory}
 use Rattle.batch_desk.specs.declared.entry.Entry.{Entry}
 use Rattle.child_runs.specs.Stops.{Stop}
-use Rattle.child_words.specs.Queued.{asked_runs}
 use Rattle.counted_lock.specs.Views.{stamped}
 use Rattle.counted_lock.proofs.Prefixes.{prefix_self, prefix_trans, prefix_more}
 use Rattle.shared_desk.specs.Openings.{Opening}
-use Rattle.shared_desk.specs.Sharing.{Caller, Asked, Extends, SeesLegal, LooksAsked, tables_after}
+use Rattle.shared_desk.specs.Sharing.{Caller, Asked, Extends}
 use Rattle.batch_crew.specs.declared.cut.Cut.{Cut}
 use Rattle.batch_crew.specs.declared.cut.Cut.TheVariants.{JournalFull as Full, Memory as NoMemory}
 use Rattle.batch_crew.specs.declared.cut.LaneEnd.{LaneEnd}
 use Rattle.batch_crew.specs.declared.cut.LaneEnd.TheVariants as end
-use Rattle.batch_crew.specs.Timers.{is_tick_due, TicksWhen, TicksIfDue, is_in, left_out, StopRuns, TimerState, timer_at_start, after_pause, IsTimerTurn, IsTimerCut, CutsBy, AreTimerTurns, none, more}
+use Rattle.batch_crew.specs.Timers.{is_tick_due, TicksWhen, TicksIfDue, is_in, left_out, TimerState, timer_at_start, IsTimerTurn, IsTimerCut, CutsBy, AreTimerTurns, none, more}
 use Rattle.batch_crew.specs.Ends.{end_of}
 use Rattle.batch_crew.specs.Timers.{EndsAfterTurn, EndsInTurn, IsTimer, WasAsked, AreAllStopped, RunsTimer}
 use Rattle.batch_crew.proofs.Stops.{few_left, from_all, distinct_all, later_all}

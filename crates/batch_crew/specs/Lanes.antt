@@ -8,7 +8,6 @@ use Rattle.batch_desk.specs.declared.answer.Answer.TheVariants.{Done, KeeperFaul
 use Rattle.batch_desk.specs.History.{refusal_of}
 use Rattle.child_runs.specs.declared.ran.ChildRun.{ChildRun}
 use Rattle.child_runs.specs.declared.ran.Ran.{Ran}
-use Rattle.child_runs.specs.declared.ran.Ran.TheVariants.{Memory as NotRun}
 use Rattle.child_runs.specs.Runs.{told_ending}
 use Rattle.bt_rows.specs.declared.reply.QueuedRun.{QueuedRun}
 use Rattle.shared_desk.specs.Openings.{Opening}

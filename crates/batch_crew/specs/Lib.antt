@@ -1,3 +1,4 @@
 pub mod Ends
+pub mod Journals
 pub mod Lanes
 pub mod Timers

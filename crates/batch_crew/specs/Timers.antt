@@ -9,7 +9,7 @@ use Rattle.batch_desk.specs.declared.answer.Answer.{Answer}
 use Rattle.batch_desk.specs.declared.answer.Answer.TheVariants.{Done, KeeperFault, JournalFull, Memory}
 use Rattle.batch_desk.specs.declared.entry.Entry.{Entry}
 use Rattle.child_runs.specs.Stops.{Stop}
-use Rattle.child_words.specs.Queued.{asked_runs}
+use Rattle.machine_index.specs.Seats.{asked_runs}
 use Rattle.counted_lock.specs.declared.views.Stamped.{Stamped}
 use Rattle.shared_desk.specs.Openings.{Opening}
 use Rattle.shared_desk.specs.Sharing.{Caller, Asked, SeesLegal, LooksAsked, tables_after}
@@ -51,7 +51,7 @@ module _ (o : Opening) where
     pub given : gives c moment d
     pub ticks : TicksWhen (is_tick_due last moment) p last q moment now outcome
 
-  -- what cuts a turn short after a tick with this outcome: the tick, or else want of memory at the look or after it
+  -- what cuts a turn short after a tick with this outcome: the tick, or else that memory ran out at the look or after it
   abbrev pub CutsBy : Result (Unit {0}) Cut → Caller → Caller → Cut → Type 0
   CutsBy (Ok u) ticked q cut = SeesLegal o ticked q × (cut ≡ NoMemory)
   CutsBy (Err why) ticked q cut = (q ≡ ticked) × (cut ≡ why)

@@ -29,7 +29,7 @@ pub enum LaneEnd {
     Ended,
     /// The journal of the desk has as many calls as it takes.
     JournalFull,
-    /// Memory ran out. A run whose child program was not started for want of memory stays taken until the desk is opened again.
+    /// Memory ran out. A run whose child program was not started because memory ran out stays taken until the desk is opened again.
     Memory,
 }
 

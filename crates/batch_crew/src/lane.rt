@@ -18,7 +18,7 @@ use std::sync::Wait;
 /// spawner's count of faults rose in that start. If no run is queued, or the run was not taken, the clock pauses.
 ///
 /// It ends with `Ended` only if a pause of the clock said that the service is to end, after a turn in which nothing was run; with `JournalFull`
-/// only if what the pass has then seen has as many calls as the journal takes; and with `Memory` for want of memory. Returns the pass.
+/// only if what the pass has then seen has as many calls as the journal takes; and with `Memory` if memory ran out. Returns the pass.
 pub fn run_lane<K: Keeper + Drop, S: Spawner, C: Clock, R: Wait>(
     rt: &R,
     alloc: Global,

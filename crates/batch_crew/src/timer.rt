@@ -54,7 +54,7 @@ fn timer_turn<K: Keeper + Drop, P: Stopper, C: Clock, R: Wait>(
 ///
 /// It ends with `Ended` only if a pause of the clock said that the service is to end; then all runs that are asked to stop, by the tables
 /// after what the pass has then seen, were stopped, but at most as many as the stopper's count of faults rose by. It ends with
-/// `JournalFull` only if what the pass has then seen has as many calls as the journal takes, and with `Memory` for want of memory. Returns
+/// `JournalFull` only if what the pass has then seen has as many calls as the journal takes, and with `Memory` if memory ran out. Returns
 /// the pass.
 pub fn run_timer<K: Keeper + Drop, P: Stopper, C: Clock, R: Wait>(
     rt: &R,

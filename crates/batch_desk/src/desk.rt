@@ -1,9 +1,11 @@
 //! The desk and its journal.
 ghost use Rattle.std.specs.Prelude.{◌≡◌, ◌≤◌, None, IfOk, IfErr, IfSome, OnOk, OnErr, nat_lt, length};
+ghost use Rattle.std.specs.Option.{option_copied};
 ghost use Rattle.bt_rows.specs.Changes.{apply_changes};
 ghost use Rattle.batch_model.specs.Opening.{opening};
 ghost use Rattle.batch_model.specs.Sound.{IsSound};
 ghost use Rattle.machine_index.specs.Queued.{lowest_queued};
+ghost use Rattle.machine_index.specs.Seats.{asked_runs, lowest_at};
 ghost use Rattle.batch_keeper.specs.Told.{FailsWithCause};
 ghost use Rattle.table_reads.specs.Reads.{read_reply};
 ghost use Rattle.batch_desk.specs.Kept.{Tells};
@@ -22,6 +24,7 @@ use batch_machine::Machine;
 use bt_base::{List, Moment, NoMemory};
 use bt_rows::event::Event;
 use bt_rows::reply::Reply;
+use bt_rows::run::RunRow;
 use bt_rows::tables::{Change, Tables};
 use std::alloc::Global;
 use std::marker::Model;
@@ -188,6 +191,22 @@ impl<K: Keeper + Drop> Desk<K> {
         ensures { result ≡ lowest_queued self.now.state.runs }
     {
         self.saved.lowest_queued()
+    }
+
+    /// The queued run with the lowest number among those of nodes at this seat. None if there is none. It goes over the queued runs
+    /// alone, and does not allocate.
+    pub fn lowest_at(&self, seat: u8) -> Option<&RunRow>
+        ensures { option_copied result ≡ lowest_at self.now.state seat }
+    {
+        self.saved.lowest_at(seat)
+    }
+
+    /// The numbers of the taken runs that are asked to stop, in order of adding. It goes over these runs alone. The only error is out
+    /// of memory.
+    pub fn asked_runs(&self, alloc: Global) -> Result<List<u64>, NoMemory>
+        ensures { IfOk result (λ numbers. numbers ≡ asked_runs self.now.state) }
+    {
+        self.saved.asked_runs(alloc)
     }
 
     /// The most calls that the journal takes.

@@ -1,5 +1,6 @@
 //! The machine: tables, seats, and a plan that may be reserved.
 ghost use Rattle.std.specs.Prelude.{◌≡◌, ◌≤◌, max, Some, None, IfOk, OnOk, OnErr, IsSome, IfSome};
+ghost use Rattle.std.specs.Option.{option_copied};
 ghost use Rattle.bt_rows.specs.declared.event.EventKind.TheVariants.{Tick};
 ghost use Rattle.bt_rows.specs.declared.refusal.Refusal.{Refusal};
 ghost use Rattle.bt_rows.specs.declared.reply.Reply.TheVariants.{Refused};
@@ -9,6 +10,7 @@ ghost use Rattle.batch_model.specs.Events.{at_moment, event_step};
 ghost use Rattle.batch_model.specs.Sound.{IsSound};
 ghost use Rattle.batch_model.specs.WellFormed.{IsWellFormed};
 ghost use Rattle.machine_index.specs.Queued.{lowest_queued};
+ghost use Rattle.machine_index.specs.Seats.{asked_runs, lowest_at};
 ghost use Rattle.machine_plans.specs.Plans.{IsPlanOf, IsRule, moved_to};
 ghost use Rattle.table_reads.specs.Reads.{read_reply};
 ghost use Rattle.batch_machine.specs.Machines.{IsMade, IsOpened};
@@ -19,6 +21,7 @@ use bt_base::{Duplicate, List, Moment, NoMemory};
 use bt_rows::event::Event;
 use bt_rows::plan::Plan;
 use bt_rows::reply::Reply;
+use bt_rows::run::RunRow;
 use bt_rows::tables::{Change, Tables};
 use machine_index::IndexedTables;
 use machine_opening::opening_changes;
@@ -82,6 +85,22 @@ impl Machine {
         ensures { result ≡ lowest_queued self.now.state.runs }
     {
         self.indexed.lowest_queued()
+    }
+
+    /// The queued run with the lowest number among those of nodes at this seat. None if there is none. It goes over the queued runs
+    /// alone, and does not allocate.
+    pub fn lowest_at(&self, seat: u8) -> Option<&RunRow>
+        ensures { option_copied result ≡ lowest_at self.now.state seat }
+    {
+        self.indexed.lowest_at(seat)
+    }
+
+    /// The numbers of the taken runs that are asked to stop, in order of adding. It goes over these runs alone. The only error is out
+    /// of memory.
+    pub fn asked_runs(&self, alloc: Global) -> Result<List<u64>, NoMemory>
+        ensures { IfOk result (λ numbers. numbers ≡ asked_runs self.now.state) }
+    {
+        self.indexed.asked_runs(alloc)
     }
 
     /// What the read shows of the tables, which stay as they are. The only error is out of memory.

@@ -5,7 +5,7 @@ use Rattle.batch_http.specs.Services.{HttpService}
 use Rattle.counted_lock.specs.Passes.{LockIdentity}
 use Rattle.shared_desk.specs.Openings.{Opening}
 use Rattle.shared_desk.specs.Sharing.{Caller}
-use Rattle.shared_desk.specs.Askers.{AskerState, IsSameAsker, IsSharedExchange}
+use Rattle.shared_desk.specs.Askers.{AskerState, IsSharedExchange}
 
 -- an exchange leaves the asker its desk
 same_desk : (old new : AskerState) (x : Exchange) → IsSharedExchange old x new → new.desk ≡ old.desk

@@ -1,7 +1,8 @@
 -- Workers from their passes to the journal.
-use Rattle.std.proofs.Common.{◌≡◌, ℕ, zero, suc, ◌+◌, ◌<◌, ◌≤◌, List, [], ◌∷◌, ◌++◌, length, map, get_or, refl, ap, sym, ◌∙◌, subst, arith}
+use Rattle.std.proofs.Common.{◌≡◌, ℕ, zero, suc, ◌<◌, List, [], ◌∷◌, length, map, get_or, nat_eq, refl, ap, sym, ◌∙◌, subst, arith}
 use Rattle.std.specs.Prelude.{All}
 use mathlib.Core.List.{IsPrefix, map-append}
+use Rattle.bt_rows.specs.Lists.{AreDistinct}
 use Rattle.batch_desk.specs.declared.entry.Entry.{Entry}
 use Rattle.batch_desk.specs.declared.journal.Journal.{Journal}
 use Rattle.counted_lock.specs.declared.views.Stamped.{Stamped}
@@ -9,7 +10,7 @@ use Rattle.counted_lock.specs.Passes.{LockIdentity, IsPassOf}
 use Rattle.shared_desk.specs.Openings.{Opening}
 use Rattle.shared_desk.specs.Sharing.{Caller, calls_of, IsSharedJournal}
 use Rattle.batch_serve.specs.declared.worker.Worker.{Worker}
-use Rattle.batch_serve.specs.Passes.{AtEach, IsGiven, CanWork, IsSameKind, WorksWithPass, Serves}
+use Rattle.batch_serve.specs.Passes.{AtEach, IsGiven, CanWork, IsSameKind, WorksWithPass, AllServe}
 
 -- what stands of each element stands of each image
 all_map : {A B : Type 0} (f : A → B) (P : B → Type 0) (xs : List A) → ((k : ℕ) (d : A) → k < length xs → P (f (get_or xs k d))) → (k : ℕ) (e : B) → k < length (map f xs)
@@ -31,6 +32,11 @@ length_map f (x ∷ xs) = ap (λ (n : ℕ). suc n) (length_map f xs)
 prefix_map : {A B : Type 0} (f : A → B) (xs ys : List A) → IsPrefix xs ys → IsPrefix (map f xs) (map f ys)
 prefix_map f xs ys p = (map f p.0, sym (map-append f xs p.0) ∙ ap (map f) p.1)
 
+-- what begins a history without numbers, if it begins the history
+pub stands_in : (seen history : List (Stamped Entry)) (entries : List Entry) → entries ≡ calls_of history → IsPrefix seen history
+    → IsPrefix (calls_of seen) entries
+stands_in seen history entries is begins = subst (λ (es : List Entry). IsPrefix (calls_of seen) es) (sym is) (prefix_map _ seen history begins)
+
 module _ {W : Type 0} (desk : LockIdentity Opening) where
   -- workers that were given passes can work, if they could before
   pub can_all : (can : W → Type 0) (old given : List (Worker W)) → AtEach (IsGiven desk) old given → All (λ w. can w.kind) old → All (CanWork can desk) given
@@ -38,30 +44,39 @@ module _ {W : Type 0} (desk : LockIdentity Opening) where
       let count = gives.count in let inside : k < length old = omega arith in let one = gives.each k d inside in
       record { pass = one.pass; ready = subst can (sym one.kind) (ready k d inside) }
 
-  -- the first pass and those of the workers are passes of the desk
-  pub passes_all : (first : Caller) (workers : List (Worker W)) → IsPassOf desk first → ((k : ℕ) (d : Worker W) → k < length workers → IsPassOf desk (get_or workers k d).pass)
-      → All (IsPassOf desk) (first ∷ map (λ w. w.pass) workers)
-  passes_all first workers p ps zero d lt = p
-  passes_all first workers p ps (suc k) d lt = all_map (λ (w : Worker W). w.pass) (IsPassOf desk) workers ps k d (omega arith)
+  -- the next pass and those of the workers are passes of the desk
+  pub passes_all : (next : Caller) (workers : List (Worker W)) → IsPassOf desk next → ((k : ℕ) (d : Worker W) → k < length workers → IsPassOf desk (get_or workers k d).pass)
+      → All (IsPassOf desk) (next ∷ map (λ w. w.pass) workers)
+  passes_all next workers p ps zero d lt = p
+  passes_all next workers p ps (suc k) d lt = all_map (λ (w : Worker W). w.pass) (IsPassOf desk) workers ps k d (omega arith)
 
-  module _ (worked : LockIdentity Opening → Caller → W → Caller → W → Type 0) (journal : Journal) (first : Caller) (old given ended new : List (Worker W)) where
+  module _ (worked : LockIdentity Opening → Caller → W → Caller → W → Type 0) (journal : Journal) (next : Caller) (old given ended new : List (Worker W)) where
     -- what each worker did stands in the journal
-    pub serves_all : AtEach (IsGiven desk) old given → length ended ≡ length given → ((k : ℕ) (d : Worker W) → k < length given → WorksWithPass worked desk (get_or given k d) (get_or ended k d))
-        → AtEach IsSameKind ended new → IsSharedJournal journal (first ∷ map (λ w. w.pass) ended) → AtEach (Serves worked desk journal.entries) old new
-    serves_all gives same works takes shared = record {
+    pub serves_all : AtEach (IsGiven desk) old given → AreDistinct nat_eq (map (λ w. w.pass.number) given) → length ended ≡ length given
+        → ((k : ℕ) (d : Worker W) → k < length given → WorksWithPass worked desk (get_or given k d) (get_or ended k d))
+        → AtEach IsSameKind ended new → IsSharedJournal journal (next ∷ map (λ w. w.pass) ended) → AllServe worked desk journal.entries old new
+    serves_all gives distinct same works takes shared = record {
+      history = shared.history;
+      journal = shared.journal;
+      numbers = map (λ w. w.pass.number) given;
+      distinct = distinct;
+      numbered = length_map (λ (w : Worker W). w.pass.number) given ∙ gives.count;
       count = takes.count ∙ (same ∙ gives.count);
       each = λ k d lt.
           let few = gives.count in let inside : k < length given = omega arith in let within : k < length ended = omega arith in
           let one = gives.each k d lt in let work = works k d inside in let took = takes.each k d within in
           let before = (get_or given k d).pass in let after = (get_or ended k d).pass in
           let long = length_map (λ (w : Worker W). w.pass) ended in
-          let seen = subst (λ (p : Caller). IsPrefix p.seen shared.history) (at_map (λ (w : Worker W). w.pass) ended k d first within) (shared.seen (suc k) first (omega arith)) in
+          let seen = subst (λ (p : Caller). IsPrefix p.seen shared.history)
+          (at_map (λ (w : Worker W). w.pass) ended k d next within) (shared.seen (suc k) next (omega arith)) in
           record {
             before = before;
             after = after;
             given = one.pass;
+            numbered = sym (at_map (λ (w : Worker W). w.pass.number) given k d 0 inside);
+            fresh = one.fresh;
             work = subst (λ v. worked desk before v after (get_or new k d).kind) one.kind
                 (subst (λ v. worked desk before (get_or given k d).kind after v) (sym took) work.work);
-            stands = subst (λ (es : List Entry). IsPrefix (calls_of after.seen) es) (sym shared.journal) (prefix_map _ after.seen shared.history seen);
+            stands = seen;
           };
     }

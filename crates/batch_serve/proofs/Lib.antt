@@ -1,5 +1,7 @@
 mod Askers
 mod Journals
 mod Loops
+mod Numbers
 mod Outcomes
+mod Promises
 mod Sends

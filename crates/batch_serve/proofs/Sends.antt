@@ -1,7 +1,6 @@
 -- Workers may go to other threads, if what they have may.
 use denote.RattleType.{RattleType}
 use denote.Param.Send.{IsSend, sendable}
-use Rattle.std.proofs.Common.{rules}
 use Rattle.std.proofs.Crossing.{crosses}
 use Rattle.batch_serve.specs.contracts.worker.Lane as lane
 use Rattle.batch_serve.specs.contracts.worker.Timer as timer

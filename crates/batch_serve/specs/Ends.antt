@@ -20,7 +20,7 @@ exit_code SinkFault = 4
 exit_code KeeperFault = 5
 exit_code JournalFull = 9
 
--- whether a lane or a timer ended for want of memory
+-- whether a lane or a timer ended because memory ran out
 abbrev pub is_memory : LaneEnd → Bool
 is_memory end.Ended = false
 is_memory end.JournalFull = false

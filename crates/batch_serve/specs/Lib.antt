@@ -2,3 +2,4 @@ pub mod Ends
 pub mod Passes
 pub mod Works
 pub mod Serving
+pub mod Promises

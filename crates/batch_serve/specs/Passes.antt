@@ -1,7 +1,10 @@
 -- Workers that are given passes, work with them, and hand them back.
-use Rattle.std.specs.Prelude.{◌≡◌, ◌<◌, ℕ, List, length, slice_index_or}
+use Rattle.std.specs.Prelude.{◌≡◌, ◌<◌, ℕ, List, [], length, nat_eq, slice_index_or}
 use mathlib.Core.List.{IsPrefix}
+use Rattle.bt_rows.specs.Lists.{AreDistinct}
 use Rattle.counted_lock.specs.Passes.{LockIdentity, IsPassOf}
+use Rattle.counted_lock.specs.declared.views.Stamped.{Stamped}
+use Rattle.counted_lock.specs.Views.{places_of}
 use Rattle.batch_desk.specs.declared.entry.Entry.{Entry}
 use Rattle.shared_desk.specs.Openings.{Opening}
 use Rattle.shared_desk.specs.Sharing.{Caller, calls_of}
@@ -13,9 +16,10 @@ pub record AtEach {A : Type 0} (r : A → A → Type 0) (old new : List A) : Typ
   pub each : (k : ℕ) (d : A) → k < length old → r (slice_index_or old k d) (slice_index_or new k d)
 
 module _ {W : Type 0} where
-  -- the worker was given a pass of the desk, and is the same otherwise
+  -- the worker was given a pass of the desk that has made no calls, and is the same otherwise
   pub record IsGiven (desk : LockIdentity Opening) (old new : Worker W) : Type 0 where
     pub pass : IsPassOf desk new.pass
+    pub fresh : places_of new.pass.number new.pass.seen ≡ []
     pub kind : new.kind ≡ old.kind
 
   -- the worker has a pass of the desk, and what it needs before it works
@@ -33,10 +37,24 @@ module _ {W : Type 0} (worked : LockIdentity Opening → Caller → W → Caller
     pub pass : IsPassOf desk new.pass
     pub work : worked desk old.pass old.kind new.pass new.kind
 
-  -- The worker did its work with a pass of the desk. The calls that the journal has are those that the pass had then seen, and perhaps more.
-  pub record Serves (entries : List Entry) (old new : Worker W) : Type 0 where
+  -- The worker did its work with a pass of the desk, under this number, that had made no calls before. What the pass had then seen is the
+  -- beginning of the history.
+  pub record Serves (history : List (Stamped Entry)) (number : ℕ) (old new : Worker W) : Type 0 where
     pub before : Caller
     pub after : Caller
     pub given : IsPassOf desk before
+    pub numbered : before.number ≡ number
+    pub fresh : places_of before.number before.seen ≡ []
     pub work : worked desk before old.kind after new.kind
-    pub stands : IsPrefix (calls_of after.seen) entries
+    pub stands : IsPrefix after.seen history
+
+  -- Each worker did its work with a pass under a number of its own: the k-th worker under the k-th of these numbers, of which there are as many
+  -- as workers, and no two are the same. The entries are the calls of one history, of which each pass has seen the beginning.
+  pub record AllServe (entries : List Entry) (old new : List (Worker W)) : Type 0 where
+    pub history : List (Stamped Entry)
+    pub journal : entries ≡ calls_of history
+    pub numbers : List ℕ
+    pub distinct : AreDistinct nat_eq numbers
+    pub numbered : length numbers ≡ length old
+    pub count : length new ≡ length old
+    pub each : (k : ℕ) (d : Worker W) → k < length old → Serves history (slice_index_or numbers k 0) (slice_index_or old k d) (slice_index_or new k d)

@@ -1,6 +1,6 @@
 -- What the command `serve` leaves.
-use Rattle.std.specs.Prelude.{◌≡◌, ◌≤◌, ◌⊎◌, ℕ, List, [], ◌∷◌, ◌++◌, length, codes, Option, Some, None, IfSome, option_and_then}
-use Rattle.bt_base.specs.Content.{Gains}
+use Rattle.std.specs.Prelude.{◌≡◌, ◌≤◌, ◌⊎◌, ℕ, List, [], length, codes, Option, Some, None, IfSome, option_and_then}
+use Rattle.bt_base.specs.Content.{Gains, GainsFront}
 use Rattle.batch_keeper.specs.declared.error.KeepError.{KeepError}
 use Rattle.batch_keeper.specs.declared.error.KeepError.TheVariants.{Failed, Memory as NoMemory}
 use Rattle.batch_model.specs.Opening.{opening}
@@ -21,7 +21,7 @@ use Rattle.batch_serve.specs.declared.worker.Worker.{Worker}
 use Rattle.batch_serve.specs.declared.worker.WorkerKind.{WorkerKind}
 use Rattle.batch_serve.specs.Ends.{status_of}
 use Rattle.batch_serve.specs.Works.{Parts, Works}
-use Rattle.batch_serve.specs.Passes.{AtEach, Serves}
+use Rattle.batch_serve.specs.Passes.{AllServe}
 
 -- the line that says that the service listens
 abbrev pub listening : List ℕ
@@ -59,11 +59,19 @@ pub record KeepsHistory {K : Type 0} (told : K → Option State) (faults : K →
   pub kept : Tells (told keeper) (after_all journal.seats journal.opened.state journal.entries)
   pub counted : fault_count journal.entries ≤ faults keeper
 
+-- the shared desk was opened as the desk of the journal was
+pub record IsDeskOf (journal : Journal) (desk : LockIdentity Opening) : Type 0 where
+  pub opened : desk.origin.opened ≡ journal.opened.state
+  pub seats : desk.origin.seats ≡ journal.seats
+  pub limit : desk.origin.limit ≡ journal.limit
+
 module _ {S P N L C : Type 0} (t : Parts S P N L C) (old new : List (Worker (WorkerKind S P N C L))) (before now : Option (List ℕ)) where
-  -- How the service left its workers and what was written, by its status and its journal: no desk was opened; or one was, and no worker
-  -- began; or each worker did its work with a pass of the shared desk, and all of them have ended.
+  -- How the service left its workers and what was written, by its status and its journal: no desk was opened, and nothing was written; or one
+  -- was, no worker began, and a beginning of the line was written, perhaps nothing or all of it; or the line was written, each worker did
+  -- its work with a pass of the shared desk under a number of its own, and all of them have ended.
   pub data IsServed : ServeStatus → Option Journal → Type 0 where
     unopened : (status : ServeStatus) → new ≡ old → now ≡ before → (status ≡ Memory) ⊎ ((status ≡ Usage) ⊎ (status ≡ KeeperFault)) → IsServed status None
-    unshared : (status : ServeStatus) (journal : Journal) → new ≡ old → journal.entries ≡ [] → (status ≡ Memory) ⊎ (status ≡ SinkFault) → IsServed status (Some journal)
-    served : (journal : Journal) (desk : LockIdentity Opening) → Gains before now listening → AtEach (Serves (λ l p w q v. Works l t p w q v) desk journal.entries) old new
-        → IsServed (status_of new) (Some journal)
+    unshared : (status : ServeStatus) (journal : Journal) → new ≡ old → journal.entries ≡ [] → GainsFront before now listening → (status ≡ Memory) ⊎ (status ≡ SinkFault)
+        → IsServed status (Some journal)
+    served : (journal : Journal) (desk : LockIdentity Opening) → IsDeskOf journal desk → Gains before now listening
+        → AllServe (λ l p w q v. Works l t p w q v) desk journal.entries old new → IsServed (status_of new) (Some journal)

@@ -1,10 +1,9 @@
 -- What the workers of a crew do, each with its pass.
-use Rattle.std.specs.Prelude.{◌≡◌, ◌<◌, ◌≤◌, ℕ, Bool, true, false, List, length, Option, Some, IsSome}
+use Rattle.std.specs.Prelude.{◌≡◌, ◌≤◌, ℕ, Bool, true, false, List, length, Option, Some, IsSome}
 use Rattle.bt_base.specs.Causes.{Rose}
 use Rattle.child_runs.specs.declared.ran.ChildRun.{ChildRun}
 use Rattle.child_runs.specs.Stops.{Stop}
 use Rattle.counted_lock.specs.Passes.{LockIdentity}
-use Rattle.batch_http.specs.Services.{HttpService}
 use Rattle.link_doors.specs.declared.accepted.Accepted.{Accepted}
 use Rattle.http_doors.specs.declared.door.DoorEnd.{DoorEnd}
 use Rattle.http_doors.specs.Doors.{DoorState, ServesAll}

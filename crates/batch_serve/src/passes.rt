@@ -1,9 +1,11 @@
 //! The passes of workers.
-ghost use Rattle.std.specs.Prelude.{◌≡◌, ◌+◌, ◌≤◌, ◌++◌, All, map, length, vec_len, vec_capacity};
+ghost use Rattle.std.specs.Prelude.{◌≡◌, ◌+◌, ◌<◌, ◌≤◌, ◌++◌, [], All, map, length, nat_eq, vec_len, vec_capacity};
+ghost use Rattle.bt_rows.specs.Lists.{AreDistinct};
 ghost use Rattle.batch_desk.specs.Kept.{Tells};
 ghost use Rattle.batch_desk.specs.Laws.{KeepsLaws};
 ghost use Rattle.batch_desk.specs.History.{IsLegal, after_all, fault_count};
-ghost use Rattle.counted_lock.specs.Passes.{IsPassOf};
+ghost use Rattle.counted_lock.specs.Passes.{IsNew, IsPassOf};
+ghost use Rattle.counted_lock.specs.Views.{places_of};
 ghost use Rattle.shared_desk.specs.Sharing.{IsSharedJournal};
 ghost use Rattle.batch_serve.specs.Passes.{AtEach, IsGiven, IsSameKind};
 
@@ -14,47 +16,56 @@ use shared_desk::{NotClosed, Pass, SharedDesk};
 use std::mem;
 use std::sync::Wait;
 
-/// A new pass. It is tried again until it is there: the only error comes once 2^64 - 1 passes were made.
-fn new_pass<K: Keeper + Drop, R: Wait>(rt: &R, desk: &SharedDesk<K>, first: &mut Pass) -> Pass
-    requires first { IsPassOf desk.now first.old }
-    ensures first { IsPassOf desk.now first.new }
+/// A new pass that is split from the given one. It is tried again until it is there: the only error comes once 2^64 - 1 passes were
+/// made.
+fn new_pass<K: Keeper + Drop, R: Wait>(rt: &R, desk: &SharedDesk<K>, pass: &mut Pass) -> Pass
+    requires pass { IsPassOf desk.now pass.old }
+    ensures same { pass.new ≡ pass.old }
     ensures pass { IsPassOf desk.now result }
+    ensures new { IsNew pass.old result }
 {
     for _ in rt.forever() {
-        if let Ok(pass) = desk.split(rt, first) {
-            return pass;
+        if let Ok(new) = desk.split(rt, pass) {
+            return new;
         }
     }
     unreachable!()
 }
 
-/// Gives the worker a new pass.
+/// Gives the worker the next pass, and replaces it by a new one with a greater number. Both have made no calls.
 fn give_pass<K: Keeper + Drop, W, R: Wait>(
     rt: &R,
     desk: &SharedDesk<K>,
-    first: &mut Pass,
+    next: &mut Pass,
     worker: &mut Worker<W>,
 )
-    requires first { IsPassOf desk.now first.old }
-    ensures first { IsPassOf desk.now first.new }
+    requires next { IsPassOf desk.now next.old }
+    requires fresh { places_of next.old.number next.old.seen ≡ [] }
+    ensures next { IsPassOf desk.now next.new }
+    ensures fresh { places_of next.new.number next.new.seen ≡ [] }
     ensures given { IsGiven desk.now worker.old worker.new }
+    ensures number { worker.new.pass.number ≡ next.old.number }
+    ensures above { next.old.number < next.new.number }
 {
-    worker.pass = new_pass(rt, desk, first);
+    let new = new_pass(rt, desk, next);
+    worker.pass = mem::replace(next, new);
 }
 
-/// Gives each worker a new pass.
+/// Gives each worker a pass, the first one the next pass. No two of them have the same number. The next pass is then another one.
 pub(crate) fn give_passes<K: Keeper + Drop, W, R: Wait>(
     rt: &R,
     desk: &SharedDesk<K>,
-    first: &mut Pass,
+    next: &mut Pass,
     workers: &mut [Worker<W>],
 )
-    requires first { IsPassOf desk.now first.old }
-    ensures first { IsPassOf desk.now first.new }
+    requires next { IsPassOf desk.now next.old }
+    requires fresh { places_of next.old.number next.old.seen ≡ [] }
+    ensures next { IsPassOf desk.now next.new }
     ensures given { AtEach (IsGiven desk.now) workers.old workers.new }
+    ensures distinct { AreDistinct nat_eq (map (λ w. w.pass.number) workers.new) }
 {
     for worker in workers.iter_mut() {
-        give_pass(rt, desk, first, worker);
+        give_pass(rt, desk, next, worker);
     }
 }
 

@@ -5,9 +5,11 @@ ghost use Rattle.batch_desk.specs.Answers.{IsInOrder};
 ghost use Rattle.cli_words.specs.Commands.{command_of};
 ghost use Rattle.cli_words.specs.Ranges.{IsInRange};
 ghost use Rattle.counted_lock.specs.Passes.{IsPassOf};
+ghost use Rattle.counted_lock.specs.Views.{places_of};
 ghost use Rattle.batch_serve.specs.Ends.{status_of};
 ghost use Rattle.batch_serve.specs.Works.{IsReady};
-ghost use Rattle.batch_serve.specs.Passes.{AtEach, Serves};
+ghost use Rattle.batch_serve.specs.Passes.{AllServe};
+ghost use Rattle.batch_serve.specs.Promises.{KeepsPromises};
 ghost use Rattle.batch_serve.specs.Serving.{open_status, serve_options, IsOpenedFor, KeepsHistory, IsServed};
 ghost use Rattle.batch_serve.specs.declared.status.ServeStatus.TheVariants.{Memory as MemoryStatus, Usage as UsageStatus, SinkFault as SinkStatus, KeeperFault as KeeperStatus};
 
@@ -89,18 +91,19 @@ fn run_crew<K: Keeper + Drop + Send, W: Work + Send, R: Threads + Wait + Sync>(
     workers: &mut [Worker<W>],
 ) -> (K, Journal)
     requires first { IsPassOf desk first }
+    requires fresh { places_of first.number first.seen ≡ [] }
     requires empty { room.items ≡ [] }
     requires room { length workers.old + 1 ≤ vec_capacity room }
     requires ready { All (λ w. W.can_work w.kind) workers.old }
     ensures opened { (result.1.seats ≡ desk.origin.seats) × (result.1.limit ≡ desk.origin.limit) × (result.1.opened.state ≡ desk.origin.opened) }
     ensures kept { KeepsHistory K.told K.faults result.0 result.1 }
-    ensures serves { AtEach (Serves W.worked desk result.1.entries) workers.old workers.new }
+    ensures serves { AllServe W.worked desk result.1.entries workers.old workers.new }
 {
-    let mut first = first;
+    let mut next = first;
     let mut passes = room;
-    give_passes(rt, &desk, &mut first, workers);
+    give_passes(rt, &desk, &mut next, workers);
     crew(rt, alloc, &desk, workers);
-    passes.push_reserved(first);
+    passes.push_reserved(next);
     take_passes(workers, &mut passes);
     close(rt, desk, passes)
 }
@@ -285,6 +288,23 @@ where
       gives = C.gives;
       clock_ended = C.has_ended;
     }) workers.old workers.new (W.taken sink.old) (W.taken sink.new) result.status result.journal }
+    ensures promises { IfSome result.journal (λ j. KeepsPromises (record {
+      ran = S.ran;
+      stopped = P.stopped;
+      stop_faults = P.faults;
+      listener = record {
+        is_out = N.is_out;
+        has_ended = N.has_ended;
+        faults = N.faults;
+        accepted = N.accepted;
+        taken_back = N.taken_back;
+        left = N.Link.left;
+        taken = N.Link.taken;
+        link_faults = N.Link.faults;
+      };
+      gives = C.gives;
+      clock_ended = C.has_ended;
+    }) workers.old workers.new result.status j) }
     ensures opened { IfSome result.journal (λ j. IfSome (serve_options (command_of words.now)) (λ options. IsOpenedFor options (K.told keeper) j)) }
     ensures kept { IfSome result.journal (λ j. KeepsHistory K.told K.faults result.keeper j) }
     ensures untouched { result.journal ≡ None → K.told result.keeper ≡ K.told keeper }

@@ -58,7 +58,7 @@ fn has_failed<S, P, N: Listener, C>(worker: &Worker<WorkerKind<S, P, N, C>>) -> 
     }
 }
 
-/// Whether a lane or a timer ended for want of memory.
+/// Whether a lane or a timer ended because memory ran out.
 fn is_memory(end: Option<LaneEnd>) -> bool
     ensures { result ≡ option_map_or is_memory end false }
 {

@@ -1,7 +1,6 @@
 pub mod Filling
 pub mod InOrder
 pub mod Instances
-pub mod Lowest
 pub mod Names
 pub mod Queued
 pub mod RunNames

@@ -203,44 +203,27 @@ fn is_run_9(alloc: Global, run: &QueuedRun) -> Result<bool, Fail> {
     Ok(run.number == 9 && words.as_slice() == b"p/node-1,node-2;node-1,false,".as_slice())
 }
 
-/// Whether the run 9 is queued at seat 1.
-fn has_run_9(alloc: Global, tables: &Tables) -> Result<bool, Fail> {
-    match queued_at(alloc, tables, 1)? {
+/// Whether the tables show the run 9 with its words.
+fn shows_run_9(alloc: Global, tables: &Tables) -> Result<bool, Fail> {
+    match tables.find_run(9) {
         Some(run) => {
-            let is_9 = is_run_9(alloc, &run);
-            drop(run);
+            let queued = with_words(alloc, tables, run)?;
+            let is_9 = is_run_9(alloc, &queued);
+            drop(queued);
             is_9
         }
         None => Ok(false),
     }
 }
 
-/// Whether a run is queued at seat 2.
-fn has_run_at_2(alloc: Global, tables: &Tables) -> Result<bool, Fail> {
-    Ok(queued_at(alloc, tables, 2)?.is_some())
-}
-
-/// Whether the run 8 alone is to be stopped.
-fn asks_8(alloc: Global, tables: &Tables) -> Result<bool, Fail> {
-    let asked = asked_runs(alloc, tables)?;
-    Ok(asked.as_slice() == [8].as_slice())
-}
-
-/// Whether run 9 is the only queued one, and run 8 the only one to be stopped.
-fn shows_both(alloc: Global, tables: &Tables) -> Result<bool, Fail> {
-    let queued = has_run_9(alloc, tables)?;
-    let other = has_run_at_2(alloc, tables)?;
-    Ok(queued && !other && asks_8(alloc, tables)?)
-}
-
 /// What the tables show once all is added.
 fn shown_with_all(alloc: Global, tables: &mut Tables) -> Result<bool, Fail> {
     put_all(alloc, tables)?;
-    shows_both(alloc, tables)
+    shows_run_9(alloc, tables)
 }
 
 #[test]
-fn runs_of_several_nodes_are_read(rt: HostRuntime) -> Result<(), Fail> {
+fn words_of_a_run_of_several_nodes(rt: HostRuntime) -> Result<(), Fail> {
     let alloc = rt.alloc();
     let mut tables = Tables::empty(alloc);
     let shown = shown_with_all(alloc, &mut tables);

@@ -113,7 +113,7 @@ halves_by size at first width (suc k) is place above =
 pub halves : (size at first width : ℕ) → IsPower width → at * width ≡ size + first → at < size → Halves size at first width
 halves size at first width power = halves_by size at first width power.exponent power.is
 
-bottom_by : (size at first width e : ℕ) → width ≡ 2 ^ e → at * width ≡ size + first → first + width ≤ size → size ≤ at → (at ≡ size + first) × (0 < width)
+bottom_by : (size at first width e : ℕ) → width ≡ 2 ^ e → at * width ≡ size + first → first + width ≤ size → size ≤ at → (at ≡ size + first) × (width ≡ 1)
 bottom_by size at first width zero is place fits below =
     let flat : at * 1 ≡ size + first = ap (λ (n : ℕ). at * n) (sym is) ∙ place in
     (omega arith, omega arith)
@@ -125,6 +125,6 @@ bottom_by size at first width (suc k) is place fits below =
     let more : at ≤ at * half = le-mul_of_pos_right at pos in
     absurd (omega arith)
 
--- a leaf covers itself
-pub bottom : (size at first width : ℕ) → IsPower width → at * width ≡ size + first → first + width ≤ size → size ≤ at → (at ≡ size + first) × (0 < width)
+-- a leaf covers itself alone
+pub bottom : (size at first width : ℕ) → IsPower width → at * width ≡ size + first → first + width ≤ size → size ≤ at → (at ≡ size + first) × (width ≡ 1)
 bottom size at first width power = bottom_by size at first width power.exponent power.is

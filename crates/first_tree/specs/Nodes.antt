@@ -32,3 +32,27 @@ pub record IsFirst (nodes : List ℕ) (size : ℕ) (bound : ℕ) (leaf : ℕ) : 
 abbrev pub IsSizeFor : ℕ → Option ℕ → Type 0
 IsSizeFor wanted None = Unit {0}
 IsSizeFor wanted (Some size) = IsPower size × (wanted ≤ size) × (size + size < 2 ^ 64)
+
+-- the node covers the leaves from the first on, so many of them
+pub record Covers (size at first width : ℕ) : Type 0 where
+  pub one : 1 ≤ at
+  pub place : at * width ≡ size + first
+  pub power : IsPower width
+  pub fits : first + width ≤ size
+
+-- the leaves that come at or after both of these places, and before the end, are above the bound
+pub record AreAbove (nodes : List ℕ) (size bound first from end : ℕ) : Type 0 where
+  pub each : (leaf : ℕ) → first ≤ leaf → from ≤ leaf → leaf < end → bound < slice_index nodes (size + leaf)
+
+-- this leaf is one of them and at most the bound, and those before it are above the bound
+pub record IsFirstOf (nodes : List ℕ) (size bound first from end leaf : ℕ) : Type 0 where
+  pub low : first ≤ leaf
+  pub after : from ≤ leaf
+  pub high : leaf < end
+  pub passes : slice_index nodes (size + leaf) ≤ bound
+  pub before : AreAbove nodes size bound first from leaf
+
+-- the first of these leaves that is at most the bound, if there is one
+abbrev pub IsFirstFrom : List ℕ → (size bound first from end : ℕ) → Option ℕ → Type 0
+IsFirstFrom nodes size bound first from end None = AreAbove nodes size bound first from end
+IsFirstFrom nodes size bound first from end (Some leaf) = IsFirstOf nodes size bound first from end leaf

@@ -17,6 +17,10 @@ abbrev pub first_within : ℕ → List ℕ → Option ℕ
 first_within bound [] = None
 first_within bound (rank ∷ ranks) = if nat_le rank bound then Some 0 else option_map suc (first_within bound ranks)
 
+-- the place of the first rank at or after this place that is at most the bound
+abbrev pub first_within_from : (from bound : ℕ) → List ℕ → Option ℕ
+first_within_from from bound ranks = option_map (λ place. from + place) (first_within bound (drop from ranks))
+
 -- the least of the ranks, and no rank if there are none
 abbrev pub least_rank : List ℕ → ℕ
 least_rank [] = no_rank

@@ -1,7 +1,7 @@
 //! The nodes of a tree of minima, in a slice of `2 * size` numbers: the root is node 1, the children of node i are nodes 2i and
 //! 2i + 1, and the last `size` nodes are the leaves. Each node above the leaves is the lesser of its children. Node 0 is unused.
 ghost use Rattle.std.specs.Prelude.{◌≡◌, ◌+◌, ◌*◌, ◌≤◌, ◌<◌, length, drop, slice_index};
-ghost use Rattle.first_tree.specs.Nodes.{IsTree, IsTreeExcept, IsPower, IsFirst};
+ghost use Rattle.first_tree.specs.Nodes.{IsTree, IsTreeExcept, IsPower, IsFirst, Covers, IsFirstFrom};
 
 /// Computes the nodes from this one up to the root again.
 pub fn repair_path(nodes: &mut [u64], size: usize, from: usize)
@@ -54,4 +54,37 @@ pub fn first_leaf(nodes: &[u64], size: usize, bound: u64) -> usize
         }
     }
     first
+}
+
+/// The number of the first leaf that is at or after `from` and at most the bound, of those that node `at` covers: `width` leaves from
+/// `first` on. It goes down once to the leaf `from`, and once to the leaf that it finds.
+pub fn first_from(
+    nodes: &[u64],
+    size: usize,
+    at: usize,
+    first: usize,
+    width: usize,
+    from: usize,
+    bound: u64,
+) -> Option<usize>
+    requires length { length nodes.now ≡ size + size }
+    requires tree { IsTree nodes.now size }
+    requires covers { Covers size at first width }
+    ensures { IsFirstFrom nodes.now size bound first from (first + width) result }
+{
+    if first + width <= from {
+        return None;
+    }
+    let least = nodes[at];
+    if least > bound {
+        return None;
+    }
+    if at >= size {
+        return Some(first);
+    }
+    let half = width / 2;
+    match first_from(nodes, size, 2 * at, first, half, from, bound) {
+        Some(leaf) => Some(leaf),
+        None => first_from(nodes, size, 2 * at + 1, first + half, half, from, bound),
+    }
 }

@@ -15,6 +15,9 @@ fn first_rank_within_a_bound(rt: HostRuntime) -> Result<(), Fail> {
     assert_eq!(rt; tree.least(), 4);
     tree.set(1, 5);
     assert_eq!(rt; tree.first(6), Some(1));
+    assert_eq!(rt; tree.first_from(1, 6), Some(1));
+    assert_eq!(rt; tree.first_from(2, 6), Some(2));
+    assert_eq!(rt; tree.first_from(3, 6), None);
     assert_eq!(rt; tree.get(2), 4);
     assert_eq!(rt; tree.len(), 3);
     Ok(())

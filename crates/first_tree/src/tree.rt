@@ -1,7 +1,7 @@
 //! The tree over a list of ranks.
-ghost use Rattle.std.specs.Prelude.{◌≡◌, ◌+◌, ◌*◌, ◌<◌, ◌≤◌, ◌-◌, ◌^◌, length, drop, take, set, replicate, [], ◌∷◌, ◌++◌, slice_index, OnOk, IfOk};
+ghost use Rattle.std.specs.Prelude.{◌≡◌, ◌+◌, ◌*◌, ◌<◌, ◌≤◌, ◌-◌, ◌^◌, length, drop, take, set, replicate, [], ◌∷◌, ◌++◌, slice_index, OnOk, IfOk, IfSome};
 ghost use Rattle.first_tree.specs.Nodes.{IsTree, IsPower, IsSizeFor};
-ghost use Rattle.first_tree.specs.Ranks.{Ranks, no_rank, first_within, least_rank, IsWhole};
+ghost use Rattle.first_tree.specs.Ranks.{Ranks, no_rank, first_within, first_within_from, least_rank, IsWhole};
 
 use crate::nodes;
 use bt_base::NoMemory;
@@ -163,5 +163,15 @@ impl FirstTree {
             return None;
         }
         Some(nodes::first_leaf(&self.nodes, self.size, bound))
+    }
+
+    /// The place of the first rank at or after this place that is at most the bound, which is below `NO_RANK`. None if all of these are
+    /// above it, or if there are none. A place that is found can be counted up. It does not allocate.
+    pub fn first_from(&self, from: usize, bound: u64) -> Option<usize>
+        requires { bound < no_rank }
+        ensures found { result ≡ first_within_from from bound self.now.items }
+        ensures next { IfSome result (λ place. place + 1 < 2 ^ 64) }
+    {
+        nodes::first_from(&self.nodes, self.size, 1, 0, self.size, from, bound)
     }
 }

@@ -17,27 +17,30 @@ use Rattle.machine_index.specs.Over.{AreOver, IsRunStep, over_rank, place_named,
 use Rattle.machine_index.specs.Active.{AreItemsOf}
 use Rattle.machine_index.specs.Timed.{AreTimed}
 use Rattle.machine_index.specs.Queued.{AreQueued}
+use Rattle.machine_index.specs.Asked.{AreAsked}
 use Rattle.machine_index.specs.Numbered.{HasNumbered}
 use Rattle.machine_index.proofs.OverRanks.{over_step}
 use Rattle.machine_index.proofs.ActiveItems.{items_length}
 use Rattle.machine_index.proofs.ChangedSlots.{none_there}
 use Rattle.machine_index.proofs.RunSteps.{found_at, step_put, step_clear}
+use Rattle.machine_index.proofs.AskedRanks.{asked_length}
 use Rattle.machine_index.proofs.QueuedRanks.{queued_length}
 use Rattle.machine_index.proofs.TimedRanks.{timed_length}
 
 -- of the tasks and the runs that are these
 pub indexed_at : (tasks others : List (Option TaskRow)) (slots placed : List (Option RunRow)) (view : ChainsView) (groups : GroupsView)
-    (ranks : Ranks) (sums : SumsView) (times numbers : Ranks) (chains : ChainsView)
+    (ranks : Ranks) (sums : SumsView) (times numbers stops : Ranks) (chains : ChainsView)
     → others ≡ tasks → placed ≡ slots → HasRuns view slots → AreItemsOf tasks groups.items → AreOver (rows slots) tasks ranks.items
-    → HasHeld sums (rows tasks) slots → AreTimed tasks times.items → AreQueued slots numbers.items → HasNumbered chains tasks
-    → IsIndexed others placed view groups ranks sums times numbers chains
-indexed_at tasks others slots placed view groups ranks sums times numbers chains e f runs active over held timed queued numbered = record {
+    → HasHeld sums (rows tasks) slots → AreTimed tasks times.items → AreQueued slots numbers.items → AreAsked slots stops.items → HasNumbered chains tasks
+    → IsIndexed others placed view groups ranks sums times numbers stops chains
+indexed_at tasks others slots placed view groups ranks sums times numbers stops chains e f runs active over held timed queued asked numbered = record {
   runs = rw f runs;
   active = rw e active;
   over = rw (e, f) over;
   held = rw (e, f) held;
   timed = rw e timed;
   queued = rw f queued;
+  asked = rw f asked;
   numbered = rw e numbered;
 }
 
@@ -128,15 +131,15 @@ over_after was is slots placed tasks others runs p q ranks first second apart st
 
 -- with other room
 pub indexed_kept : (tasks others : List (Option TaskRow)) (slots placed : List (Option RunRow)) (view changed : ChainsView)
-    (groups grouped : GroupsView) (ranks ranked : Ranks) (sums summed : SumsView) (times timed : Ranks) (numbers numbered : Ranks) (chains chained : ChainsView)
+    (groups grouped : GroupsView) (ranks ranked : Ranks) (sums summed : SumsView) (times timed : Ranks) (numbers numbered : Ranks) (stops stopped : Ranks) (chains chained : ChainsView)
     → others ≡ tasks → placed ≡ slots → (HasRuns view slots → HasRuns changed slots) → grouped.items ≡ groups.items → ranked.items ≡ ranks.items
-    → (HasHeld sums (rows tasks) slots → HasHeld summed (rows tasks) slots) → timed.items ≡ times.items → numbered.items ≡ numbers.items
+    → (HasHeld sums (rows tasks) slots → HasHeld summed (rows tasks) slots) → timed.items ≡ times.items → numbered.items ≡ numbers.items → stopped.items ≡ stops.items
     → (HasNumbered chains tasks → HasNumbered chained tasks)
-    → IsIndexed tasks slots view groups ranks sums times numbers chains → IsIndexed others placed changed grouped ranked summed timed numbered chained
-indexed_kept tasks others slots placed view changed groups grouped ranks ranked sums summed times timed numbers numbered chains chained e f runs active over held later
-    queued known indexed =
-    indexed_at tasks others slots placed changed grouped ranked summed timed numbered chained e f (runs indexed.runs) (rw active indexed.active)
-    (rw over indexed.over) (held indexed.held) (rw later indexed.timed) (rw queued indexed.queued) (known indexed.numbered)
+    → IsIndexed tasks slots view groups ranks sums times numbers stops chains → IsIndexed others placed changed grouped ranked summed timed numbered stopped chained
+indexed_kept tasks others slots placed view changed groups grouped ranks ranked sums summed times timed numbers numbered stops stopped chains chained e f runs active over
+    held later queued asked known indexed =
+    indexed_at tasks others slots placed changed grouped ranked summed timed numbered stopped chained e f (runs indexed.runs) (rw active indexed.active)
+    (rw over indexed.over) (held indexed.held) (rw later indexed.timed) (rw queued indexed.queued) (rw asked indexed.asked) (known indexed.numbered)
 
 -- a place that was found is one of the parts'
 pub within_active : (test : TaskRow → Bool) (place : Option ℕ) (tasks : List (Option TaskRow)) (groups : GroupsView) → place ≡ place_of test tasks → AreItemsOf tasks groups.items
@@ -164,6 +167,14 @@ within_queued test None slots ranks e queued = tt
 within_queued test (Some at) slots ranks e queued =
     let within = place_of_within test slots at (sym e) in
     let long = queued_length slots ranks queued in
+    omega (arith, within, long)
+
+pub within_asked : (test : RunRow → Bool) (place : Option ℕ) (slots : List (Option RunRow)) (ranks : List ℕ)
+    → place ≡ place_of test slots → AreAsked slots ranks → IfSome place (λ at. at < length ranks)
+within_asked test None slots ranks e asked = tt
+within_asked test (Some at) slots ranks e asked =
+    let within = place_of_within test slots at (sym e) in
+    let long = asked_length slots ranks asked in
     omega (arith, within, long)
 
 pub within_named : (run : Option RunRow) (place : Option ℕ) (tasks : List (Option TaskRow)) (ranks : List ℕ) → place ≡ place_of_run tasks run → length ranks ≡ length tasks

@@ -4,6 +4,9 @@ pub mod HeldSums
 pub mod HeldTasks
 pub mod IndexedSteps
 pub mod LowestPlaces
+pub mod LowestRuns
+pub mod PassedRuns
+pub mod AskedRanks
 pub mod RunPlaces
 pub mod NextPlaces
 pub mod OverRanks

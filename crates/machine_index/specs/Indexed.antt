@@ -11,6 +11,7 @@ use Rattle.machine_index.specs.Over.{AreOver}
 use Rattle.machine_index.specs.Active.{AreItemsOf}
 use Rattle.machine_index.specs.Timed.{AreTimed}
 use Rattle.machine_index.specs.Queued.{AreQueued}
+use Rattle.machine_index.specs.Asked.{AreAsked}
 use Rattle.machine_index.specs.Numbered.{HasNumbered}
 
 -- what contracts see of the tables: the state, and how many changes can be made without allocating
@@ -20,17 +21,18 @@ pub record IndexedView : Type 0 where
 
 -- each part is that of these tasks and runs
 pub record IsIndexed (tasks : List (Option TaskRow)) (slots : List (Option RunRow)) (view : ChainsView) (groups : GroupsView)
-    (ranks : Ranks) (sums : SumsView) (times numbers : Ranks) (chains : ChainsView) : Type 0 where
+    (ranks : Ranks) (sums : SumsView) (times numbers stops : Ranks) (chains : ChainsView) : Type 0 where
   pub runs : HasRuns view slots
   pub active : AreItemsOf tasks groups.items
   pub over : AreOver (rows slots) tasks ranks.items
   pub held : HasHeld sums (rows tasks) slots
   pub timed : AreTimed tasks times.items
   pub queued : AreQueued slots numbers.items
+  pub asked : AreAsked slots stops.items
   pub numbered : HasNumbered chains tasks
 
 -- the tables and each part have room for so many changes
-pub record HasRoom (room tables runs active over held timed queued numbered : ℕ) : Type 0 where
+pub record HasRoom (room tables runs active over held timed queued asked numbered : ℕ) : Type 0 where
   pub of_tables : room ≤ tables
   pub of_runs : room ≤ runs
   pub of_active : room ≤ active
@@ -38,4 +40,5 @@ pub record HasRoom (room tables runs active over held timed queued numbered : �
   pub of_held : room ≤ held
   pub of_timed : room ≤ timed
   pub of_queued : room ≤ queued
+  pub of_asked : room ≤ asked
   pub of_numbered : room ≤ numbered

@@ -6,4 +6,7 @@ pub mod Over
 pub mod Active
 pub mod Timed
 pub mod Queued
+pub mod Seats
+pub mod Lowest
+pub mod Asked
 pub mod Numbered

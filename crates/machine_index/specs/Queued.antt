@@ -1,5 +1,5 @@
 -- Queued runs by their numbers.
-use Rattle.std.specs.Prelude.{◌≡◌, ℕ, nat_lt, min, List, map, Option, Some, None, if◌then◌else◌}
+use Rattle.std.specs.Prelude.{◌≡◌, ℕ, ◌-◌, nat_lt, min, List, map, Option, Some, None, if◌then◌else◌}
 use Rattle.std.specs.List.{filter, reduce}
 use Rattle.first_tree.specs.Ranks.{no_rank}
 use Rattle.batch_model.specs.Finding.{Each}
@@ -18,9 +18,13 @@ lowest_queued runs = reduce min (queued_numbers runs)
 abbrev pub AreNumbered : State → Type 0
 AreNumbered s = Each (λ run. nat_lt run.number s.next_run) s.runs
 
--- the number of a queued run, and no rank of another one
+-- the last rank that a bound reaches
+abbrev pub last_rank : ℕ
+last_rank = no_rank - 1
+
+-- the number of a queued run, at most the last rank, and no rank of another one
 abbrev pub queued_rank : RunRow → ℕ
-queued_rank run = if is_queued run.state then run.number else no_rank
+queued_rank run = if is_queued run.state then min run.number last_rank else no_rank
 
 abbrev pub queued_rank_at : Option RunRow → ℕ
 queued_rank_at None = no_rank

@@ -1,6 +1,7 @@
 //! What is kept beside the tables, made from them.
 ghost use Rattle.std.specs.Prelude.{IfOk};
 ghost use Rattle.machine_index.specs.Active.{AreItemsOf};
+ghost use Rattle.machine_index.specs.Asked.{AreAsked};
 ghost use Rattle.machine_index.specs.Attempts.{HasRuns};
 ghost use Rattle.machine_index.specs.Held.{HasHeld};
 ghost use Rattle.machine_index.specs.Numbered.{HasNumbered};
@@ -9,6 +10,7 @@ ghost use Rattle.machine_index.specs.Queued.{AreQueued};
 ghost use Rattle.machine_index.specs.Timed.{AreTimed};
 
 use crate::active_tasks::ActiveTasks;
+use crate::asked_runs::AskedRuns;
 use crate::held_slots::HeldSlots;
 use crate::numbered_tasks::NumberedTasks;
 use crate::placed_tasks::PlacedTasks;
@@ -28,6 +30,8 @@ pub struct RunParts {
     pub held: HeldSlots,
     /// The queued runs by their numbers.
     pub queued: QueuedRuns,
+    /// The taken runs that are asked to stop.
+    pub asked: AskedRuns,
 }
 
 /// What is kept of the tasks.
@@ -49,11 +53,18 @@ impl RunParts {
         ensures runs { IfOk result (λ parts. HasRuns parts.runs tables.now.run_slots) }
         ensures held { IfOk result (λ parts. HasHeld parts.held tables.now.state.tasks tables.now.run_slots) }
         ensures queued { IfOk result (λ parts. AreQueued tables.now.run_slots parts.queued.items) }
+        ensures asked { IfOk result (λ parts. AreAsked tables.now.run_slots parts.asked.items) }
     {
         let runs = RunsOfAttempts::of_tables(alloc, tables)?;
         let held = HeldSlots::of_tables(alloc, tables)?;
         let queued = QueuedRuns::of_tables(alloc, tables)?;
-        Ok(RunParts { runs, held, queued })
+        let asked = AskedRuns::of_tables(alloc, tables)?;
+        Ok(RunParts {
+            runs,
+            held,
+            queued,
+            asked,
+        })
     }
 }
 

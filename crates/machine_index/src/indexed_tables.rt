@@ -14,8 +14,10 @@ ghost use Rattle.machine_index.specs.Active.{AreItemsOf, is_active_within};
 ghost use Rattle.machine_index.specs.Indexed.{IsIndexed};
 ghost use Rattle.machine_index.specs.Timed.{AreTimed, is_overdue};
 ghost use Rattle.machine_index.specs.Queued.{AreNumbered, lowest_queued};
+ghost use Rattle.machine_index.specs.Seats.{lowest_at, asked_runs};
 
 use crate::active_tasks::ActiveTasks;
+use crate::asked_runs::AskedRuns;
 use crate::held_slots::HeldSlots;
 use crate::index_parts::{RunParts, TaskParts};
 use crate::numbered_tasks::NumberedTasks;
@@ -42,6 +44,7 @@ pub struct IndexedTables {
     held: HeldSlots,
     timed: TimedTasks,
     queued: QueuedRuns,
+    asked: AskedRuns,
     numbered: NumberedTasks,
     room: usize,
 }
@@ -53,7 +56,7 @@ impl Model for IndexedTables {
 
     ghost view = { λ i. record { state = i.tables.state; room = i.room } };
 
-    ghost invariant = { λ i. IsIndexed i.tables.task_slots i.tables.run_slots i.runs i.active i.over i.held i.timed i.queued i.numbered × HasRoom i.room i.tables.room i.runs.room i.active.room i.over.room i.held.room i.timed.room i.queued.room i.numbered.room };
+    ghost invariant = { λ i. IsIndexed i.tables.task_slots i.tables.run_slots i.runs i.active i.over i.held i.timed i.queued i.asked i.numbered × HasRoom i.room i.tables.room i.runs.room i.active.room i.over.room i.held.room i.timed.room i.queued.room i.asked.room i.numbered.room };
 }
 
 /// The place of the task that the run at this place names.
@@ -105,7 +108,7 @@ fn clear_timed(timed: &mut TimedTasks, place: Option<usize>)
 impl IndexedTables {
     /// These tables with what is kept of them, and without room.
     fn of_parts(tables: Tables, runs: RunParts, tasks: TaskParts) -> IndexedTables
-        requires { IsIndexed tables.task_slots tables.run_slots runs.runs tasks.active tasks.over runs.held tasks.timed runs.queued tasks.numbered }
+        requires { IsIndexed tables.task_slots tables.run_slots runs.runs tasks.active tasks.over runs.held tasks.timed runs.queued runs.asked tasks.numbered }
         ensures { result.state ≡ tables.state }
     {
         IndexedTables {
@@ -116,6 +119,7 @@ impl IndexedTables {
             held: runs.held,
             timed: tasks.timed,
             queued: runs.queued,
+            asked: runs.asked,
             numbered: tasks.numbered,
             room: 0,
         }
@@ -175,6 +179,7 @@ impl IndexedTables {
         self.held.reserve(additional)?;
         self.timed.reserve(additional)?;
         self.queued.reserve(additional)?;
+        self.asked.reserve(additional)?;
         self.numbered.reserve(additional)?;
         self.room = additional;
         Ok(())
@@ -233,6 +238,7 @@ impl IndexedTables {
         self.held.release_run(&self.tables, place);
         self.runs.add(&run, place);
         self.queued.put(before, &run);
+        self.asked.put(before, &run);
         self.tables.apply_one(Change::PutRun(run));
         self.tables.places_known();
         self.tables.keys_known();
@@ -255,6 +261,7 @@ impl IndexedTables {
         self.tables.keys_known();
         self.held.release_run(&self.tables, place);
         self.queued.clear(before);
+        self.asked.clear(before);
         self.tables.apply_one(Change::DropRun(number));
         self.tables.places_known();
         self.over.refresh(&self.tables, &self.runs, old_task);
@@ -326,6 +333,22 @@ impl IndexedTables {
         ensures { result ≡ lowest_queued self.now.state.runs }
     {
         self.queued.lowest(&self.tables)
+    }
+
+    /// The queued run with the lowest number of the nodes at this seat. None if there is none. It goes over the queued runs alone, and
+    /// does not allocate.
+    pub fn lowest_at(&self, seat: u8) -> Option<&RunRow>
+        ensures { option_copied result ≡ lowest_at self.now.state seat }
+    {
+        self.queued.lowest_at(&self.tables, seat)
+    }
+
+    /// The numbers of the taken runs that are asked to stop, in order of adding. It goes over these runs alone. It fails only when out of
+    /// memory.
+    pub fn asked_runs(&self, alloc: Global) -> Result<List<u64>, NoMemory>
+        ensures { IfOk result (λ numbers. numbers ≡ asked_runs self.now.state) }
+    {
+        self.asked.numbers(alloc, &self.tables)
     }
 
     /// Whether a task of the job whose id is this number is completed, and lets the tasks that depend on it go on. It looks at the tasks

@@ -3,6 +3,7 @@
 #![tactic(auto)]
 
 mod active_tasks;
+mod asked_runs;
 mod attempt_text;
 mod chains;
 mod held_slots;
@@ -17,6 +18,7 @@ mod runs_of_attempts;
 mod timed_tasks;
 
 pub use active_tasks::ActiveTasks;
+pub use asked_runs::AskedRuns;
 pub use held_slots::HeldSlots;
 pub use indexed_tables::IndexedTables;
 pub use numbered_tasks::NumberedTasks;

@@ -1,7 +1,10 @@
-//! The queued runs by their numbers.
-ghost use Rattle.std.specs.Prelude.{◌≡◌, ◌+◌, ◌<◌, ◌≤◌, [], List, Option, length, take, IfOk, IfSome, OnOk};
+//! The queued runs by their numbers, and the lowest of a seat.
+ghost use Rattle.std.specs.Prelude.{◌≡◌, ◌+◌, ◌<◌, ◌≤◌, [], List, Option, Some, length, take, IfOk, IfSome, OnOk};
+ghost use Rattle.std.specs.Option.{option_copied};
 ghost use Rattle.kept_table.specs.Slots.{slot_at, put_at, clear_at};
-ghost use Rattle.batch_model.specs.Variants.{RunRow};
+ghost use Rattle.batch_model.specs.Variants.{RunRow as Run};
+ghost use Rattle.machine_index.specs.Lowest.{lower_of, CountsRun, CountsSlot};
+ghost use Rattle.machine_index.specs.Seats.{sits_on, is_queued_at, lowest_at};
 ghost use Rattle.machine_index.specs.Queued.{AreNumbered, AreQueued, lowest_queued, queued_rank, queued_rank_at};
 
 use crate::row_tests::is_queued;
@@ -28,11 +31,18 @@ impl Model for QueuedRuns {
     ghost view = { λ q. q.ranks };
 }
 
-/// The number of a queued run, and no rank of another one.
+/// The last rank that a bound reaches.
+const LAST_RANK: u64 = NO_RANK - 1;
+
+/// The number of a queued run, at most the last rank, and no rank of another one.
 fn queued_rank(run: &RunRow) -> u64
     ensures { result ≡ queued_rank run.now }
 {
-    if is_queued(run) { run.number } else { NO_RANK }
+    if is_queued(run) {
+        run.number.min(LAST_RANK)
+    } else {
+        NO_RANK
+    }
 }
 
 /// The rank of the run at this place.
@@ -42,6 +52,65 @@ fn queued_rank_at(tables: &Tables, place: usize) -> u64
     match tables.run_at(place) {
         None => NO_RANK,
         Some(run) => queued_rank(run),
+    }
+}
+
+/// Whether the node with this number sits on the seat.
+fn sits_on(tables: &Tables, seat: u8, number: u64) -> bool
+    ensures { result ≡ sits_on tables.now.state seat number }
+{
+    match tables.find_node(number) {
+        None => false,
+        Some(node) => node.seat == seat,
+    }
+}
+
+/// Whether the run is queued, and its node sits on the seat.
+fn is_queued_at(tables: &Tables, seat: u8, run: &RunRow) -> bool
+    ensures { result ≡ is_queued_at tables.now.state seat run.now }
+{
+    is_queued(run) && sits_on(tables, seat, run.node)
+}
+
+/// The run, unless the lowest so far has no higher number.
+fn lower_of<'a>(lowest: Option<&'a RunRow>, run: &'a RunRow) -> &'a RunRow
+    ensures { Some result.now ≡ lower_of (option_copied lowest.entry) (Some run.now) }
+{
+    match lowest {
+        Some(other) if other.number <= run.number => other,
+        _ => run,
+    }
+}
+
+/// The lowest so far and the run together: the run counts if it is queued at the seat.
+#[tactic(auto, using(crate::proofs::LowestRuns::counted, crate::proofs::LowestRuns::passed_over))]
+fn lowest_with<'a>(
+    tables: &Tables,
+    seat: u8,
+    lowest: Option<&'a RunRow>,
+    run: &'a RunRow,
+) -> Option<&'a RunRow>
+    ensures { CountsRun tables.now.state seat (option_copied lowest.entry) (option_copied result) run.now }
+{
+    if is_queued_at(tables, seat, run) {
+        Some(lower_of(lowest, run))
+    } else {
+        lowest
+    }
+}
+
+/// The lowest so far and the run at this place together.
+fn lowest_with_place<'a>(
+    tables: &'a Tables,
+    seat: u8,
+    lowest: Option<&'a RunRow>,
+    place: usize,
+) -> Option<&'a RunRow>
+    ensures { CountsSlot tables.now.state seat (option_copied lowest.entry) (option_copied result) (slot_at tables.now.run_slots place) }
+{
+    match tables.run_at(place) {
+        None => lowest,
+        Some(run) => lowest_with(tables, seat, lowest, run),
     }
 }
 
@@ -66,7 +135,7 @@ impl QueuedRuns {
     pub fn put(&mut self, before: Option<usize>, run: &RunRow)
         requires room { 0 < self.old.room }
         requires place { IfSome before (λ place. place < length self.old.items) }
-        ensures ranks { (slots : List (Option RunRow)) → AreQueued slots self.old.items → AreQueued (put_at before run.now slots) self.new.items }
+        ensures ranks { (slots : List (Option Run)) → AreQueued slots self.old.items → AreQueued (put_at before run.now slots) self.new.items }
         ensures room { self.old.room ≤ self.new.room + 1 }
     {
         let rank = queued_rank(run);
@@ -100,7 +169,7 @@ impl QueuedRuns {
     /// Follows a run that is removed from this place, if there is one. It does not allocate.
     pub fn clear(&mut self, before: Option<usize>)
         requires { IfSome before (λ place. place < length self.old.items) }
-        ensures ranks { (slots : List (Option RunRow)) → AreQueued slots self.old.items → AreQueued (clear_at before slots) self.new.items }
+        ensures ranks { (slots : List (Option Run)) → AreQueued slots self.old.items → AreQueued (clear_at before slots) self.new.items }
         ensures room { self.new.room ≡ self.old.room }
     {
         match before {
@@ -123,5 +192,21 @@ impl QueuedRuns {
         } else {
             None
         }
+    }
+
+    /// The queued run at the seat that has the lowest number. None if there is none. It goes over the queued runs alone, each of which is
+    /// found by a walk down a tree, and does not allocate.
+    pub fn lowest_at<'a>(&self, tables: &'a Tables, seat: u8) -> Option<&'a RunRow>
+        requires ranks { AreQueued tables.now.run_slots self.now.items }
+        ensures { option_copied result ≡ lowest_at tables.now.state seat }
+    {
+        tables.places_known();
+        let mut lowest = None;
+        let mut from = 0;
+        while let Some(place) = self.ranks.first_from(from, LAST_RANK) {
+            lowest = lowest_with_place(tables, seat, lowest, place);
+            from = place + 1;
+        }
+        lowest
     }
 }

@@ -5,6 +5,7 @@ ghost use Rattle.batch_model.specs.Readiness.{has_number, satisfies_others};
 ghost use Rattle.batch_model.specs.Runs.{is_present, is_busy_for, is_main, is_queued, is_unended};
 ghost use Rattle.batch_model.specs.Tasks.{is_completed, is_placed, is_undisturbed};
 ghost use Rattle.machine_index.specs.Numbered.{satisfies_number};
+ghost use Rattle.machine_index.specs.Seats.{is_asked};
 ghost use Rattle.machine_index.specs.Timed.{is_timed};
 
 use bt_base::Id;
@@ -61,6 +62,13 @@ pub fn is_queued(run: &RunRow) -> bool
     ensures { result ≡ is_queued run.now.state }
 {
     matches!(run.state, RunState::Queued)
+}
+
+/// Whether the run is taken and asked to stop.
+pub fn is_asked(run: &RunRow) -> bool
+    ensures { result ≡ is_asked run.now }
+{
+    matches!(run.state, RunState::Taken) && run.asked
 }
 
 /// Whether the run is of the task's present attempt and has not ended.

@@ -8,7 +8,8 @@ use Rattle.bt_rows.specs.declared.reply.QueuedRun.{QueuedRun}
 use Rattle.batch_model.specs.Variants.{State}
 use Rattle.table_reads.specs.declared.request.Read.{Read}
 use Rattle.table_reads.specs.Reads.{read_reply}
-use Rattle.child_words.specs.Queued.{queued_at, asked_runs}
+use Rattle.machine_index.specs.Seats.{asked_runs}
+use Rattle.child_words.specs.Queued.{queued_at}
 use Rattle.batch_desk.specs.declared.answer.Answer.{Answer}
 use Rattle.batch_desk.specs.declared.entry.Entry.{Entry}
 use Rattle.batch_desk.specs.Kept.{Desk}
@@ -37,7 +38,7 @@ module _ {K : Type 0} (told : K → Option State) (faults : K → ℕ) (o : Open
       d.entries ≡ calls_of h.seen → opening_of d ≡ o → IsInOrder told faults d → HasTurn told faults o p h d
   has_turn p h d same begins placed journal from order = record {
     number = same;
-    sees = record { more = record { begins = begins; places = placed }; legal = legal_seen d h.seen order from journal };
+    sees = record { more = record { number = same; begins = begins; places = placed }; legal = legal_seen d h.seen order from journal };
     journal = journal;
     opening = from;
     state = tables_seen d h.seen order from journal;
@@ -51,15 +52,16 @@ module _ {K : Type 0} (told : K → Option State) (faults : K → ℕ) (o : Open
 
   -- a call that was entered in the turn
   pub extends : (p h q : Caller) (d after : Desk K) (e : Entry) (answer : Answer) → HasTurn told faults o p h d → Enters d after e answer →
-      HasSameOpening d after → IsInOrder told faults after →
+      HasSameOpening d after → IsInOrder told faults after → q.number ≡ h.number →
       ((x : Entry) → after.entries ≡ calls_of h.seen ++ x ∷ [] → q.seen ≡ h.seen ++ stamped (Some h.number) x ∷ []) → Extends o p q e answer
-  extends p h q d after e answer turn enters same order entered =
+  extends p h q d after e answer turn enters same order numbered entered =
       let journal = journal_after p h d after e answer turn enters in
       let now : q.seen ≡ h.seen ++ stamped (Some p.number) e ∷ [] =
       entered e journal ∙ ap (λ (n : ℕ). h.seen ++ stamped (Some n) e ∷ []) turn.number in
       let calls : calls_of q.seen ≡ calls_of h.seen ++ e ∷ [] = ap calls_of now ∙ map-append entry_of h.seen (stamped (Some p.number) e ∷ []) in
       let opening : opening_of after ≡ o = same_opening same ∙ turn.opening in
       record {
+        number = numbered ∙ turn.number;
         before = h.seen;
         begins = turn.sees.more.begins;
         seen = now;
@@ -78,9 +80,10 @@ module _ {K : Type 0} (told : K → Option State) (faults : K → ℕ) (o : Open
           opening a b c = record { opened = a; seats = b; limit = c }
 
   -- a pass whose turn ended without a call
-  pub sees_same : (p h q : Caller) → SeesLegal o p h → q.seen ≡ h.seen → SeesLegal o p q
-  sees_same p h q sees same = record {
+  pub sees_same : (p h q : Caller) → SeesLegal o p h → q.number ≡ h.number → q.seen ≡ h.seen → SeesLegal o p q
+  sees_same p h q sees numbered same = record {
     more = record {
+      number = numbered ∙ sees.more.number;
       begins = subst (λ xs. IsPrefix p.seen xs) (sym same) sees.more.begins;
       places = ap (places_of p.number) same ∙ sees.more.places;
     };
@@ -88,10 +91,10 @@ module _ {K : Type 0} (told : K → Option State) (faults : K → ℕ) (o : Open
   }
 
   -- a read of the tables in the turn
-  pub looks : (p h q : Caller) (d : Desk K) (s : State) (read : Read) (reply : Result Reply NoMemory) → HasTurn told faults o p h d → q.seen ≡ h.seen →
-      s ≡ d.state → IfOk reply (λ shows. shows ≡ read_reply s read) → Looks o p q read reply
-  looks p h q d s read reply turn same state shown = record {
-    sees = sees_same p h q turn.sees same;
+  pub looks : (p h q : Caller) (d : Desk K) (s : State) (read : Read) (reply : Result Reply NoMemory) → HasTurn told faults o p h d →
+      q.number ≡ h.number → q.seen ≡ h.seen → s ≡ d.state → IfOk reply (λ shows. shows ≡ read_reply s read) → Looks o p q read reply
+  looks p h q d s read reply turn numbered same state shown = record {
+    sees = sees_same p h q turn.sees numbered same;
     shown = subst (λ (z : State). IfOk reply (λ shows. shows ≡ read_reply z read)) (state ∙ (turn.state ∙ sym (ap (tables_after o) same))) shown;
   }
 
@@ -101,16 +104,16 @@ module _ {K : Type 0} (told : K → Option State) (faults : K → ℕ) (o : Open
 
   -- a look at a seat in the turn
   pub looks_at : (p h q : Caller) (d : Desk K) (s : State) (seat : ℕ) (run : Result (Option QueuedRun) NoMemory) → HasTurn told faults o p h d →
-      q.seen ≡ h.seen → s ≡ d.state → IfOk run (λ shows. shows ≡ queued_at s seat) → LooksAt o p q seat run
-  looks_at p h q d s seat run turn same state shown = record {
-    sees = sees_same p h q turn.sees same;
+      q.number ≡ h.number → q.seen ≡ h.seen → s ≡ d.state → IfOk run (λ shows. shows ≡ queued_at s seat) → LooksAt o p q seat run
+  looks_at p h q d s seat run turn numbered same state shown = record {
+    sees = sees_same p h q turn.sees numbered same;
     shown = subst (λ (z : State). IfOk run (λ shows. shows ≡ queued_at z seat)) (state_seen p h q d s turn same state) shown;
   }
 
   -- a look at the runs that are asked to stop, in the turn
   pub looks_asked : (p h q : Caller) (d : Desk K) (s : State) (numbers : Result (List ℕ) NoMemory) → HasTurn told faults o p h d →
-      q.seen ≡ h.seen → s ≡ d.state → IfOk numbers (λ shows. shows ≡ asked_runs s) → LooksAsked o p q numbers
-  looks_asked p h q d s numbers turn same state shown = record {
-    sees = sees_same p h q turn.sees same;
+      q.number ≡ h.number → q.seen ≡ h.seen → s ≡ d.state → IfOk numbers (λ shows. shows ≡ asked_runs s) → LooksAsked o p q numbers
+  looks_asked p h q d s numbers turn numbered same state shown = record {
+    sees = sees_same p h q turn.sees numbered same;
     shown = subst (λ (z : State). IfOk numbers (λ shows. shows ≡ asked_runs z)) (state_seen p h q d s turn same state) shown;
   }

@@ -8,7 +8,8 @@ use Rattle.bt_rows.specs.declared.reply.QueuedRun.{QueuedRun}
 use Rattle.batch_model.specs.Variants.{State}
 use Rattle.table_reads.specs.declared.request.Read.{Read}
 use Rattle.table_reads.specs.Reads.{read_reply}
-use Rattle.child_words.specs.Queued.{queued_at, asked_runs}
+use Rattle.machine_index.specs.Seats.{asked_runs}
+use Rattle.child_words.specs.Queued.{queued_at}
 use Rattle.batch_desk.specs.declared.answer.Answer.{Answer}
 use Rattle.batch_desk.specs.declared.answer.Answer.TheVariants.{Done, KeeperFault, JournalFull, Memory}
 use Rattle.batch_desk.specs.declared.entry.Entry.{Entry}
@@ -37,14 +38,16 @@ tables_after o h = after_all o.seats o.opened (calls_of h)
 abbrev pub IsLegalFrom : Opening → List (Stamped Entry) → Type 0
 IsLegalFrom o h = IsLegal o.seats o.opened (calls_of h)
 
--- what is seen begins with what was seen, and has no other calls of the pass
+-- the pass is the same, by its number, and what is seen begins with what was seen, and has no other calls of the pass
 pub record SeesMore (p q : Caller) : Type 0 where
+  pub number : q.number ≡ p.number
   pub begins : IsPrefix p.seen q.seen
   pub places : places_of p.number q.seen ≡ places_of p.number p.seen
 
--- What is then seen is a legal history, which begins with what was seen, perhaps goes on with calls of other passes, and ends with the call
--- under the number of the pass. The answer is that of the tables before the call, and the places are the old ones and that of the call.
+-- The pass is the same, by its number. What is then seen is a legal history, which begins with what was seen, perhaps goes on with calls of
+-- other passes, and ends with the call under the number of the pass. The answer is that of the tables before the call, and the places are the old ones and that of the call.
 pub record Extends (o : Opening) (p q : Caller) (entry : Entry) (answer : Answer) : Type 0 where
+  pub number : q.number ≡ p.number
   pub before : List (Stamped Entry)
   pub begins : IsPrefix p.seen before
   pub seen : q.seen ≡ before ++ stamped (Some p.number) entry ∷ []

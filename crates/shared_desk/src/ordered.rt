@@ -1,13 +1,17 @@
 //! The desk in the lock, and what it was opened with.
-ghost use Rattle.std.specs.Prelude.{◌≡◌};
+ghost use Rattle.std.specs.Prelude.{◌≡◌, IfOk};
 ghost use Rattle.batch_model.specs.Sound.{IsSound};
+ghost use Rattle.machine_index.specs.Seats.{asked_runs};
+ghost use Rattle.child_words.specs.Queued.{queued_at};
 ghost use Rattle.batch_desk.specs.Answers.{AnswersCall, HasSameOpening, IsInOrder};
 
 use batch_desk::{Answer, Desk, Entry};
 use batch_keeper::Keeper;
-use bt_base::Moment;
+use bt_base::{List, Moment, NoMemory};
 use bt_rows::event::Event;
+use bt_rows::reply::QueuedRun;
 use bt_rows::tables::Tables;
+use child_words::with_words;
 use counted_lock::Journaled;
 use std::alloc::Global;
 use std::marker::Model;
@@ -93,5 +97,23 @@ impl<K: Keeper + Drop> OrderedDesk<K> {
         ensures in_order { IsInOrder K.told K.faults self.now }
     {
         self.desk.tables()
+    }
+
+    /// The lowest queued run at the seat, with the words that its child program is started with. None if no run is queued there. The
+    /// only error is out of memory.
+    pub fn queued_at(&self, alloc: Global, seat: u8) -> Result<Option<QueuedRun>, NoMemory>
+        ensures { IfOk result (λ queued. queued ≡ queued_at self.now.state seat) }
+    {
+        match self.desk.lowest_at(seat) {
+            None => Ok(None),
+            Some(run) => Ok(Some(with_words(alloc, self.desk.tables(), run)?)),
+        }
+    }
+
+    /// The numbers of the taken runs that are asked to stop. The only error is out of memory.
+    pub fn asked_runs(&self, alloc: Global) -> Result<List<u64>, NoMemory>
+        ensures { IfOk result (λ numbers. numbers ≡ asked_runs self.now.state) }
+    {
+        self.desk.asked_runs(alloc)
     }
 }

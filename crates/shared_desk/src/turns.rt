@@ -11,7 +11,6 @@ use batch_keeper::Keeper;
 use bt_base::{List, Moment, NoMemory};
 use bt_rows::event::Event;
 use bt_rows::reply::{QueuedRun, Reply};
-use child_words::{asked_runs, queued_at};
 use counted_lock::Held;
 use std::alloc::Global;
 use std::sync::Wait;
@@ -89,7 +88,7 @@ impl<K: Keeper + Drop> SharedDesk<K> {
         ensures looks { LooksAt self.now.origin pass result.0 seat result.1 }
     {
         let (held, desk) = self.begin(rt, pass);
-        let shown = queued_at(alloc, desk.tables(), seat);
+        let shown = desk.queued_at(alloc, seat);
         (self.lock.leave(held, desk), shown)
     }
 
@@ -106,7 +105,7 @@ impl<K: Keeper + Drop> SharedDesk<K> {
         ensures looks { LooksAsked self.now.origin pass result.0 result.1 }
     {
         let (held, desk) = self.begin(rt, pass);
-        let shown = asked_runs(alloc, desk.tables());
+        let shown = desk.asked_runs(alloc);
         (self.lock.leave(held, desk), shown)
     }
 }

@@ -1,4 +1,4 @@
-use Rattle.std.proofs.Common.{◌≡◌, ◌+◌, ◌≤◌, ℕ, List, length, drop, vec_len, vec_capacity}
+use Rattle.std.proofs.Common.{◌+◌, ◌≤◌, ℕ, List, length, drop, vec_len, vec_capacity}
 use Rattle.batch_crew.specs.Timers.{StopRuns}
 use Rattle.batch_crew.proofs.stopping.stop_runs.Given as goal
 

@@ -1,4 +1,4 @@
-use Rattle.std.proofs.Common.{◌≡◌, Option}
+use Rattle.std.proofs.Common.{◌≡◌}
 use Rattle.counted_lock.specs.Passes.{IsPassOf}
 use Rattle.batch_crew.specs.Timers.{AreTimerTurns, timer_at_start}
 use Rattle.batch_crew.proofs.timer.run_timer.Given as goal

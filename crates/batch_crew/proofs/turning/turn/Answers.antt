@@ -1,4 +1,4 @@
-use Rattle.std.proofs.Common.{rules, ◌≡◌, ◌∙◌, subst, sym, refl, ap, Some, None, Ok, Err, true, false}
+use Rattle.std.proofs.Common.{rules, ◌≡◌, ◌∙◌, subst, sym, refl, Ok, Err}
 use Rattle.shared_desk.specs.Sharing.{LooksAt}
 use Rattle.batch_crew.specs.Lanes.{IsTurned, Takes, Starts, idles, misses, runs, unseen, untaken, unrun, untold}
 use Rattle.batch_crew.specs.declared.cut.Cut.TheVariants.{Memory as NoMemory}

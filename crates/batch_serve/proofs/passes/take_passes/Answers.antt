@@ -1,4 +1,4 @@
-use Rattle.std.proofs.Common.{arith, ap, sym, subst, ◌∙◌, append_assoc, ◌<◌, ◌+◌, ◌++◌, ◌∷◌, [], length, map, take, get_or}
+use Rattle.std.proofs.Common.{arith, ap, sym, subst, ◌∙◌, append_assoc, ◌<◌, ◌++◌, ◌∷◌, [], length, map, take}
 use Rattle.batch_serve.specs.Passes.{IsSameKind}
 use Rattle.batch_serve.proofs.Loops.{here, done_more, rest_less, map_more}
 use Rattle.batch_serve.proofs.passes.take_passes.Goals as goal

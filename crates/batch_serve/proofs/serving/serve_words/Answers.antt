@@ -1,8 +1,9 @@
-use Rattle.std.proofs.Common.{rules, Some, ◌≡◌, ◌∙◌, sym, refl, subst, ap, inl, inr}
+use Rattle.std.proofs.Common.{rules, Some, ◌≡◌, sym, refl, subst, inl, inr}
 use Rattle.std.specs.Prelude.{IfSome}
 use Rattle.cli_words.specs.Commands.{command_of}
 use Rattle.batch_serve.specs.Serving.{serve_options, IsOpenedFor}
 use Rattle.batch_serve.proofs.Outcomes.{unopened_is}
+use Rattle.batch_serve.proofs.Promises.{promises}
 use Rattle.batch_serve.proofs.serving.serve_words.Goals as goal
 
 pub returns-in-Err-clause-served : goal.returns-in-Err-clause-served
@@ -15,3 +16,6 @@ returns-in-Some-clause-opened g c =
 
 pub returns-clause-served : goal.returns-clause-served
 returns-clause-served g c = let left = c.unopened-in-None.ensures in unopened_is _ _ _ _ _ _ _ refl refl left.journal (inr (inl left.status))
+
+pub returns-in-Some-clause-promises : goal.returns-in-Some-clause-promises
+returns-in-Some-clause-promises g c = promises _ _ _ _ _ c.serve.ensures.served

@@ -7,8 +7,9 @@ use Rattle.machine_index.specs.Attempts.{HasRuns, run_attempt_text}
 use Rattle.machine_index.specs.Active.{AreItemsOf}
 use Rattle.machine_index.specs.Timed.{AreTimed}
 use Rattle.machine_index.specs.Queued.{AreQueued}
+use Rattle.machine_index.specs.Asked.{AreAsked}
 use Rattle.machine_index.specs.Numbered.{HasNumbered}
-use Rattle.machine_index.proofs.IndexedSteps.{within_queued, within_named, over_after, clear_step, held_cleared}
+use Rattle.machine_index.proofs.IndexedSteps.{within_queued, within_asked, within_named, over_after, clear_step, held_cleared}
 use Rattle.machine_index.proofs.TextPlaces.{row_cleared}
 use Rattle.machine_index.proofs.indexed_tables.IndexedTables.drop_run.Goals as goal
 
@@ -17,6 +18,12 @@ clear-requires c =
     let s = c.self.inside in
     within_queued (run_has_number c.args.number) c.run_place-before.result s.tables.run_slots s.queued.items c.run_place-before.ensures
     c.self.invariant.0.queued
+
+pub clear-requires-2 : goal.clear-requires-2
+clear-requires-2 c =
+    let s = c.self.inside in
+    within_asked (run_has_number c.args.number) c.run_place-before.result s.tables.run_slots s.asked.items c.run_place-before.ensures
+    c.self.invariant.0.asked
 
 pub refresh-requires-clause-runs : goal.refresh-requires-clause-runs
 refresh-requires-clause-runs c =
@@ -55,6 +62,7 @@ invariant_of-self c =
             (ap rows c.apply_one.ensures.tasks ∙ c.places_known.ensures.tasks) placed place c.release_run.ensures.held;
         timed = subst (λ (ts : List (Option TaskRow)). AreTimed ts s.timed.items) (sym c.apply_one.ensures.tasks) old.timed;
         queued = subst (λ (ss : List (Option RunRow)). AreQueued ss c.clear.new.self.items) (sym placed) (c.clear.ensures.ranks t.run_slots old.queued);
+        asked = subst (λ (ss : List (Option RunRow)). AreAsked ss c.clear-2.new.self.items) (sym placed) (c.clear-2.ensures.ranks t.run_slots old.asked);
         numbered = subst (λ (ts : List (Option TaskRow)). HasNumbered s.numbered ts) (sym c.apply_one.ensures.tasks) old.numbered;
       },
       search rules,

@@ -16,5 +16,6 @@ of_parts-requires c =
       held = subst (λ (ts : List TaskRow). HasHeld runs.runs.held ts t.run_slots) (sym c.places_known.ensures.tasks) runs.ensures.held;
       timed = tasks.ensures.timed;
       queued = runs.ensures.queued;
+      asked = runs.ensures.asked;
       numbered = tasks.ensures.numbered;
     }

@@ -8,8 +8,9 @@ use Rattle.machine_index.specs.Held.{HasHeld}
 use Rattle.machine_index.specs.Active.{AreItemsOf}
 use Rattle.machine_index.specs.Timed.{AreTimed}
 use Rattle.machine_index.specs.Queued.{AreQueued}
+use Rattle.machine_index.specs.Asked.{AreAsked}
 use Rattle.machine_index.specs.Numbered.{HasNumbered}
-use Rattle.machine_index.proofs.IndexedSteps.{within_queued, within_named, within_again, over_after, put_step, held_beside_run}
+use Rattle.machine_index.proofs.IndexedSteps.{within_queued, within_asked, within_named, within_again, over_after, put_step, held_beside_run}
 use Rattle.machine_index.proofs.indexed_tables.IndexedTables.put_run.Goals as goal
 
 pub put-requires-clause-place : goal.put-requires-clause-place
@@ -17,6 +18,12 @@ put-requires-clause-place c =
     let s = c.self.inside in
     within_queued (run_has_number c.args.run.number) c.run_place-before.result s.tables.run_slots s.queued.items c.run_place-before.ensures
     c.self.invariant.0.queued
+
+pub put-requires-2-clause-place : goal.put-requires-2-clause-place
+put-requires-2-clause-place c =
+    let s = c.self.inside in
+    within_asked (run_has_number c.args.run.number) c.run_place-before.result s.tables.run_slots s.asked.items c.run_place-before.ensures
+    c.self.invariant.0.asked
 
 pub hold_run-requires-clause-held : goal.hold_run-requires-clause-held
 hold_run-requires-clause-held c =
@@ -64,6 +71,7 @@ invariant_of-self c =
             subst (λ (ts : List TaskRow). HasHeld c.hold_run.new.self ts new.run_slots) (sym c.places_known-2.ensures.tasks) c.hold_run.ensures.held;
         timed = subst (λ (ts : List (Option TaskRow)). AreTimed ts s.timed.items) (sym c.apply_one.ensures.tasks) old.timed;
         queued = subst (λ (ss : List (Option RunRow)). AreQueued ss c.put.new.self.items) (sym placed) (c.put.ensures.ranks t.run_slots old.queued);
+        asked = subst (λ (ss : List (Option RunRow)). AreAsked ss c.put-2.new.self.items) (sym placed) (c.put-2.ensures.ranks t.run_slots old.asked);
         numbered = subst (λ (ts : List (Option TaskRow)). HasNumbered s.numbered ts) (sym c.apply_one.ensures.tasks) old.numbered;
       },
       search rules,

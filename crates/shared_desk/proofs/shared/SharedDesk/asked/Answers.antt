@@ -28,7 +28,7 @@ returns-in-Done-clause-asked g c =
     let called = subst (λ a. AnswersCall g.K.Keeper.faults old new c.args.moment c.args.event a) c.in-Done.is c.call-answer.ensures.answers in
     subst (λ a. Asked o c.args.pass c.enter.result c.args.moment c.args.event a) (sym c.in-Done.is)
     (extends g.K.Keeper.told g.K.Keeper.faults o c.args.pass c.begin-held.result.0 c.enter.result old new _ _
-    c.begin-held.ensures.turn called.0 c.call-answer.ensures.same c.call-answer.ensures.in_order c.enter.ensures.seen)
+    c.begin-held.ensures.turn called.0 c.call-answer.ensures.same c.call-answer.ensures.in_order c.enter.ensures.number c.enter.ensures.seen)
 
 pub returns-in-KeeperFault-clause-asked : goal.returns-in-KeeperFault-clause-asked
 returns-in-KeeperFault-clause-asked g c =
@@ -36,4 +36,4 @@ returns-in-KeeperFault-clause-asked g c =
     let called = subst (λ a. AnswersCall g.K.Keeper.faults old new c.args.moment c.args.event a) c.in-KeeperFault.is c.call-answer.ensures.answers in
     subst (λ a. Asked o c.args.pass c.enter-in-KeeperFault.result c.args.moment c.args.event a) (sym c.in-KeeperFault.is)
     (extends g.K.Keeper.told g.K.Keeper.faults o c.args.pass c.begin-held.result.0 c.enter-in-KeeperFault.result old new _ _
-    c.begin-held.ensures.turn called.0 c.call-answer.ensures.same c.call-answer.ensures.in_order c.enter-in-KeeperFault.ensures.seen)
+    c.begin-held.ensures.turn called.0 c.call-answer.ensures.same c.call-answer.ensures.in_order c.enter-in-KeeperFault.ensures.number c.enter-in-KeeperFault.ensures.seen)

@@ -4,8 +4,8 @@ use Rattle.std.proofs.lemmas.Bool.Decides.{nat_tests}
 use Rattle.batch_model.specs.Finding.{best}
 use Rattle.batch_model.specs.Variants.{State, RunRow}
 use Rattle.model_lists.proofs.BestRows.{leading, best_first_row, leading_joined}
-use Rattle.child_words.specs.Queued.{is_queued_at, is_lower}
-use Rattle.child_words.specs.Lowest.{lower_of, lowest_from}
+use Rattle.machine_index.specs.Seats.{is_queued_at, is_lower}
+use Rattle.machine_index.specs.Lowest.{lower_of, lowest_run_from}
 
 -- the lower of two runs is the leading one
 same_leading : (a b : Option RunRow) → lower_of a b ≡ leading is_lower a b
@@ -33,12 +33,12 @@ none_later None = refl
 none_later (Some run) = refl
 
 -- the lowest so far is the lowest once no run is left
-pub none_left : (s : State) (seat : ℕ) (so_far : Option RunRow) → lowest_from s seat so_far [] ≡ so_far
+pub none_left : (s : State) (seat : ℕ) (so_far : Option RunRow) → lowest_run_from s seat so_far [] ≡ so_far
 none_left s seat so_far = none_later so_far
 
 -- a run that is queued at the seat counts
 pub counted : (s : State) (seat : ℕ) (so_far : Option RunRow) (run : RunRow) (rest : List RunRow) → is_queued_at s seat run ≡ true →
-    lowest_from s seat (lower_of so_far (Some run)) rest ≡ lowest_from s seat so_far (run ∷ rest)
+    lowest_run_from s seat (lower_of so_far (Some run)) rest ≡ lowest_run_from s seat so_far (run ∷ rest)
 counted s seat so_far run rest h =
     sym
     (ap (λ b. lower_of so_far (best is_lower (cond b (run ∷ filter (is_queued_at s seat) rest) (filter (is_queued_at s seat) rest)))) h
@@ -50,6 +50,6 @@ counted s seat so_far run rest h =
 
 -- any other changes nothing
 pub passed_over : (s : State) (seat : ℕ) (so_far : Option RunRow) (run : RunRow) (rest : List RunRow) → is_queued_at s seat run ≡ false →
-    lowest_from s seat so_far rest ≡ lowest_from s seat so_far (run ∷ rest)
+    lowest_run_from s seat so_far rest ≡ lowest_run_from s seat so_far (run ∷ rest)
 passed_over s seat so_far run rest h =
     ap (λ b. lower_of so_far (best is_lower (cond b (run ∷ filter (is_queued_at s seat) rest) (filter (is_queued_at s seat) rest)))) (sym h)

@@ -1,0 +1,115 @@
+"""What is measured of a running service, and beside it."""
+import os
+import statistics
+import subprocess
+import time
+
+from service import Service, wait_for
+
+NODES, COLLECTION, ROUNDS = 8, 100, 3
+SECONDS_AT_REST = 3
+CONNECTIONS = (1, 4, 16)
+
+
+class Plain:
+    """The C program."""
+
+    def __init__(self, folder):
+        source = os.path.join(os.path.dirname(os.path.abspath(__file__)), "plain.c")
+        self.folder, self.path = folder, os.path.join(folder, "plain")
+        subprocess.run(["cc", "-O2", "-pthread", "-o", self.path, source], check=True)
+
+    def seconds(self, *words):
+        done = subprocess.run([self.path, *map(str, words)], cwd=self.folder, stdout=subprocess.PIPE, check=True)
+        return float(done.stdout)
+
+    def children(self, count, at_once, files):
+        """Child programs a second."""
+        return count / self.seconds("spawn", count, at_once, files)
+
+    def requests(self, service, connections, count, what, name):
+        """Requests a second."""
+        each = count // connections
+        return each * connections / self.seconds("ask", service.port, connections, each * connections, what, name)
+
+
+def begun(path, folder, name, *words):
+    """A service in a new folder, with a pool of 8 nodes, and a job that is disabled."""
+    folder = os.path.join(folder, name)
+    os.mkdir(folder)
+    service = Service(path, folder, *words)
+    with service.client() as client:
+        client.add("/pools", {"id": "p", "targetDedicatedNodes": NODES})
+        client.add("/jobs", {"id": "j", "poolInfo": {"poolId": "p"}})
+        client.ask("POST", "/jobs/j/disable", {"disableTasks": "requeue"})
+    if not service.comes_to("j", "disabled")[0]:
+        raise RuntimeError("the job is not disabled")
+    return service
+
+
+def rest(service):
+    """How much of one processor a service takes that is asked nothing, in percent."""
+    before = service.processor_seconds()
+    time.sleep(SECONDS_AT_REST)
+    return (service.processor_seconds() - before) / SECONDS_AT_REST * 100
+
+
+def run_children(service, count):
+    """Adds tasks, enables the job, and waits for their end: the seconds from the enabling to the end."""
+    with service.client() as client:
+        for first in range(1, count + 1, COLLECTION):
+            last = min(first + COLLECTION, count + 1)
+            client.add("/jobs/j/addtaskcollection", {"value": [{"id": f"t{n}", "commandLine": "true"} for n in range(first, last)]})
+        since = time.monotonic()
+        client.ask("POST", "/jobs/j/enable")
+        done = wait_for(lambda: client.ask("GET", "/jobs/j/taskcounts")[1]["taskCounts"]["completed"] == count)
+        seconds = time.monotonic() - since
+    counts = service.counts("j")
+    if not done or counts["succeeded"] != count:
+        raise RuntimeError(f"tasks have failed: {counts}")
+    return seconds
+
+
+def children_round(path, plain, folder, number, count):
+    """Child programs a second: plain ones, and those of services."""
+    rates = {"one": plain.children(count, 1, "bare"), "eight": plain.children(count, NODES, "bare"), "kept": plain.children(count, NODES, "kept")}
+    for name, words in (("memory", []), ("store", ["--store", "night.db"])):
+        service = begun(path, folder, f"children-{name}-{number}", *words)
+        empty, before = rest(service), service.processor_seconds()
+        rates[name] = count / run_children(service, count)
+        spent = (service.processor_seconds() - before) / count * 1e6
+        print(f"round {number}, {name}: {spent:.0f} us of processor time a child program in the service itself, "
+              f"{service.status_line('VmHWM') / 1024:.0f} MB at most; at rest {empty:.0f} % of a processor before, and {rest(service):.0f} % after", flush=True)
+        service.kill()
+    return rates
+
+
+def told(rates):
+    return (f"plain {rates['one']:.0f} a second one at a time, {rates['eight']:.0f} eight at a time, {rates['kept']:.0f} with a pipe and two files each; "
+            f"service {rates['memory']:.0f} in memory ({rates['memory'] / rates['eight']:.2f} of eight at a time), "
+            f"{rates['store']:.0f} with a store ({rates['store'] / rates['eight']:.2f})")
+
+
+def children(path, plain, folder, count):
+    """Prints how many child programs are run in a second."""
+    print(f"{count} child programs `true` on {NODES} nodes, load {os.getloadavg()[0]:.1f}", flush=True)
+    rounds = []
+    for number in range(1, ROUNDS + 1):
+        rates = children_round(path, plain, folder, number, count)
+        rounds.append(rates)
+        print(f"round {number}: {told(rates)}", flush=True)
+    print(f"medians: {told({name: statistics.median(each[name] for each in rounds) for name in rounds[0]})}, load {os.getloadavg()[0]:.1f}", flush=True)
+
+
+def requests(path, plain, folder, count):
+    """Prints how many requests are answered in a second."""
+    for name, words in (("memory", []), ("store", ["--store", "night.db"])):
+        service = begun(path, folder, f"requests-{name}", "--doors", "16", *words)
+        for what, text in (("read", "reads of a pool"), ("add", "tasks added")):
+            for connections in CONNECTIONS:
+                rates = [plain.requests(service, connections, count, what, f"{what}{connections}-{number}") for number in range(1, ROUNDS + 1)]
+                print(f"{name}, {text}, {connections} connections: {statistics.median(rates):.0f} a second, in rounds "
+                      f"{', '.join(f'{rate:.0f}' for rate in rates)}, load {os.getloadavg()[0]:.1f}", flush=True)
+        tasks = sum(service.counts("j")[state] for state in ("active", "running", "completed"))
+        print(f"{name}: {tasks} tasks, {service.status_line('VmHWM') / 1024:.0f} MB at most; at rest {rest(service):.0f} % of a processor", flush=True)
+        service.kill()
