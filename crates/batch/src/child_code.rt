@@ -2,11 +2,15 @@
 use bt_base::{Word, text_of};
 use std::process::ExitCode;
 
-/// The exit code that the words ask for, if they are `child` and a number: the number modulo 256.
+/// The exit code that the words ask for, if they are `child` and a number, which is digits alone: the number modulo 256.
 fn code_of(words: &[Word]) -> Option<u8> {
     match words {
         [name, code] if text_of(name.as_bytes())? == "child" => {
-            let code: u64 = text_of(code.as_bytes())?.parse().ok()?;
+            let digits = text_of(code.as_bytes())?;
+            if !digits.bytes().all(|digit| digit.is_ascii_digit()) {
+                return None;
+            }
+            let code: u64 = digits.parse().ok()?;
             u8::try_from(code % 256).ok()
         }
         _ => None,

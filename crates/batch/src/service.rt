@@ -33,7 +33,7 @@ const LANES_PER_SEAT: u8 = 9;
 /// The folder with what child programs write, in the folder of the service.
 const OUTPUT_FOLDER: &str = "batch-runs";
 
-/// Why the service did not begin.
+/// Why the service did not begin, or could not close its store.
 #[derive(Clone, Copy)]
 pub enum StartFault {
     /// It is out of memory.
@@ -51,7 +51,7 @@ impl StartFault {
     pub fn text(&self) -> &'static str {
         match self {
             StartFault::Memory =>
-                "batch: out of memory; the service did not begin: give the program more memory",
+                "batch: out of memory; the service did not begin, or its store could not be closed: give the program more memory",
             StartFault::Store => "store fault",
             StartFault::Port => "port fault",
             StartFault::Folder => "folder fault",

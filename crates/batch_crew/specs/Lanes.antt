@@ -8,7 +8,7 @@ use Rattle.batch_desk.specs.declared.answer.Answer.TheVariants.{Done, KeeperFaul
 use Rattle.batch_desk.specs.History.{refusal_of}
 use Rattle.child_runs.specs.declared.ran.ChildRun.{ChildRun}
 use Rattle.child_runs.specs.declared.ran.Ran.{Ran}
-use Rattle.child_runs.specs.Runs.{told_ending}
+use Rattle.child_runs.specs.Runs.{told_ending, HasStartCause}
 use Rattle.bt_rows.specs.declared.reply.QueuedRun.{QueuedRun}
 use Rattle.shared_desk.specs.Openings.{Opening}
 use Rattle.shared_desk.specs.Sharing.{Caller, Asked, SeesLegal, LooksAt}
@@ -32,6 +32,11 @@ tell_outcome (Done reply dues stop) = Some (Ok tt)
 tell_outcome KeeperFault = None
 tell_outcome JournalFull = Some (Err Full)
 tell_outcome Memory = Some (Err NoMemory)
+
+-- a spawner was given a child program, by its relation; that the child program was not started has its cause, that the count of faults rose
+pub record RanFor {S : Type 0} (ran : S → ChildRun → S → Type 0) (faults : S → ℕ) (before : S) (run : ChildRun) (now : S) : Type 0 where
+  pub by : ran before run now
+  pub cause : HasStartCause (faults before) (faults now) run.how
 
 module _ (o : Opening) where
   -- the pass asked for the run with this number, once, and this is what it came to

@@ -1,7 +1,7 @@
 //! A lane.
 ghost use Rattle.std.specs.Prelude.{◌≡◌, true, length};
 ghost use Rattle.counted_lock.specs.Passes.{IsPassOf};
-ghost use Rattle.batch_crew.specs.Lanes.{IsLane};
+ghost use Rattle.batch_crew.specs.Lanes.{IsLane, RanFor};
 ghost use Rattle.batch_crew.specs.declared.cut.LaneEnd.TheVariants.{Ended, JournalFull};
 
 use crate::cut::LaneEnd;
@@ -31,7 +31,7 @@ pub fn run_lane<K: Keeper + Drop, S: Spawner, C: Clock, R: Wait>(
     requires pass { IsPassOf desk.now pass }
     ensures pass { IsPassOf desk.now result.0 }
     ensures number { result.0.number ≡ pass.number }
-    ensures turns { IsLane desk.now.origin seat S.ran pass spawner.old result.0 spawner.new result.1 }
+    ensures turns { IsLane desk.now.origin seat (RanFor S.ran S.faults) pass spawner.old result.0 spawner.new result.1 }
     ensures ended { result.1 ≡ Ended → C.has_ended clock.new ≡ true }
     ensures full { result.1 ≡ JournalFull → length result.0.seen ≡ desk.now.origin.limit }
 {

@@ -1,7 +1,7 @@
-//! The crew of a service: lanes, a timer and doors, which share one desk, each in a thread of its own (this project's own). A lane takes
-//! the runs that are queued at its seat, runs their child programs, and tells how they ended; any number of lanes may have one seat. The
-//! timer ticks, and has the child programs of runs that are asked to stop stopped. What a door does is its own. Contracts see the turns of
-//! lanes and of the timer by what their passes have seen (`specs/Lanes.antt`, `specs/Timers.antt`).
+//! Lanes and the timer of a service, as turns over a shared desk (this project's own). A lane takes the runs that are queued at its seat,
+//! runs their child programs, and tells how they ended; any number of lanes may have one seat. The timer ticks, and has the child programs
+//! of runs that are asked to stop stopped. In which thread they run is for their caller to say. Contracts see the turns by what their
+//! passes have seen.
 #![tactic(auto)]
 
 mod calls;

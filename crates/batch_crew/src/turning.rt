@@ -1,7 +1,7 @@
 //! One turn of a lane.
 ghost use Rattle.std.specs.Prelude.{◌≡◌};
 ghost use Rattle.counted_lock.specs.Passes.{IsPassOf};
-ghost use Rattle.batch_crew.specs.Lanes.{IsTurned};
+ghost use Rattle.batch_crew.specs.Lanes.{IsTurned, RanFor};
 
 use crate::calls::{take, tell};
 use crate::cut::Cut;
@@ -34,7 +34,7 @@ pub fn turn<K: Keeper + Drop, S: Spawner, C: Clock, R: Wait>(
     requires pass { IsPassOf desk.now pass.old }
     ensures pass { IsPassOf desk.now pass.new }
     ensures number { pass.new.number ≡ pass.old.number }
-    ensures turned { IsTurned desk.now.origin seat S.ran pass.old spawner.old pass.new spawner.new result }
+    ensures turned { IsTurned desk.now.origin seat (RanFor S.ran S.faults) pass.old spawner.old pass.new spawner.new result }
 {
     let Some(run) = desk.queued_at(rt, alloc, pass, seat)? else {
         return Ok(Turned::Rested);

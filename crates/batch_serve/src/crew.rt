@@ -25,7 +25,7 @@ fn work<K: Keeper + Drop, W: Work, R: Wait>(
     worker.pass = worker.kind.work(rt, alloc, desk, pass);
 }
 
-/// Runs all workers, each in a thread of its own, and returns once all have ended.
+/// Runs all workers, each in a thread of its own where one can be made, and returns once all have ended.
 pub(crate) fn crew<K: Keeper + Drop + Send, W: Work + Send, R: Threads + Wait + Sync>(
     rt: &R,
     alloc: Global,

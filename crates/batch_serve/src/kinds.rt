@@ -1,6 +1,7 @@
 //! What lanes, timers and doors do.
 ghost use Rattle.std.specs.Prelude.{◌≡◌, IsSome, false};
 ghost use Rattle.counted_lock.specs.Passes.{IsPassOf};
+ghost use Rattle.batch_crew.specs.Lanes.{RanFor};
 ghost use Rattle.batch_serve.specs.Works.{LaneWorks, TimerWorks, DoorWorks, Works, IsReady};
 
 use crate::work::Work;
@@ -27,7 +28,7 @@ fn work_lane<K: Keeper + Drop, S: Spawner, C: Clock, R: Wait>(
 ) -> Pass
     requires pass { IsPassOf desk.now pass }
     ensures pass { IsPassOf desk.now result }
-    ensures works { LaneWorks desk.now S.ran C.has_ended pass lane.old result lane.new }
+    ensures works { LaneWorks desk.now (RanFor S.ran S.faults) C.has_ended pass lane.old result lane.new }
 {
     let (pass, end) = run_lane(
         rt,
@@ -117,7 +118,7 @@ impl<S: Spawner, P: Stopper, N: Listener, C: Clock + Drop> Work for WorkerKind<S
     ghost can_work = { IsReady N.is_out };
 
     ghost worked = { λ desk p old q new. Works desk (record {
-      ran = S.ran;
+      ran = RanFor S.ran S.faults;
       stopped = P.stopped;
       stop_faults = P.faults;
       listener = record {

@@ -1,4 +1,4 @@
-//! The command `serve`: it opens a desk, shares it among the workers of a crew, each in a thread of its own, and closes it once all of
+//! The command `serve`: it opens a desk, shares it among workers, each in a thread of its own where one can be made, and closes it once all of
 //! them have ended (this project's own). A worker is a lane, which runs child programs, a timer, or a door, which serves the links of a
 //! listener as HTTP. What each worker did is told by its pass, whose calls stand in the journal that is returned.
 #![tactic(auto)]

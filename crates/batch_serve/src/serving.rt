@@ -5,6 +5,7 @@ ghost use Rattle.batch_desk.specs.Answers.{IsInOrder};
 ghost use Rattle.cli_words.specs.Commands.{command_of};
 ghost use Rattle.cli_words.specs.Ranges.{IsInRange};
 ghost use Rattle.counted_lock.specs.Passes.{IsPassOf};
+ghost use Rattle.batch_crew.specs.Lanes.{RanFor};
 ghost use Rattle.counted_lock.specs.Views.{places_of};
 ghost use Rattle.batch_serve.specs.Ends.{status_of};
 ghost use Rattle.batch_serve.specs.Works.{IsReady};
@@ -130,7 +131,7 @@ where
     requires in_order { IsInOrder K.told K.faults desk }
     requires ready { All (λ w. IsReady N.is_out w.kind) workers.old }
     ensures served { IsServed (record {
-      ran = S.ran;
+      ran = RanFor S.ran S.faults;
       stopped = P.stopped;
       stop_faults = P.faults;
       listener = record {
@@ -201,7 +202,7 @@ where
     requires few { options.seats ≤ 32 }
     requires ready { All (λ w. IsReady N.is_out w.kind) workers.old }
     ensures served { IsServed (record {
-      ran = S.ran;
+      ran = RanFor S.ran S.faults;
       stopped = P.stopped;
       stop_faults = P.faults;
       listener = record {
@@ -246,7 +247,8 @@ fn options_of(invocation: &Option<Invocation>) -> Option<ServeOptions>
 }
 
 /// Does the command `serve` that the words are: opens a desk over the keeper, writes the line `listening` to the sink, and has the workers
-/// work, each in a thread of its own, until all of them have ended. Then it closes the desk, and returns its keeper and its journal.
+/// work, each in a thread of its own where one can be made, until all of them have ended. Then it closes the desk, and returns its
+/// keeper and its journal.
 ///
 /// `Usage` comes exactly if the words are not a command `serve`, unless memory runs out before that is known; `KeeperFault` only if the
 /// keeper's count of faults rose at the opening, and `SinkFault` only if that of the sink rose. The status is otherwise what the ends of
@@ -272,7 +274,7 @@ where
     N::Link: Send,
     requires ready { All (λ w. IsReady N.is_out w.kind) workers.old }
     ensures served { IsServed (record {
-      ran = S.ran;
+      ran = RanFor S.ran S.faults;
       stopped = P.stopped;
       stop_faults = P.faults;
       listener = record {
@@ -289,7 +291,7 @@ where
       clock_ended = C.has_ended;
     }) workers.old workers.new (W.taken sink.old) (W.taken sink.new) result.status result.journal }
     ensures promises { IfSome result.journal (λ j. KeepsPromises (record {
-      ran = S.ran;
+      ran = RanFor S.ran S.faults;
       stopped = P.stopped;
       stop_faults = P.faults;
       listener = record {

@@ -1,11 +1,11 @@
 use Rattle.std.proofs.Common.{◌≡◌}
 use Rattle.counted_lock.specs.Passes.{IsPassOf}
-use Rattle.batch_crew.specs.Lanes.{AreTurns}
+use Rattle.batch_crew.specs.Lanes.{AreTurns, RanFor}
 use Rattle.batch_crew.proofs.lane.run_lane.Given as goal
 
 abbrev pub invariant-loop : goal.invariant-loop
 invariant-loop g l = record {
   pass : IsPassOf l.desk l.pass;
   number : l.pass.number ≡ l.initial.pass.number;
-  turns : AreTurns l.desk.origin l.seat g.S.Spawner.ran l.initial.pass l.initial.spawner l.pass l.spawner;
+  turns : AreTurns l.desk.origin l.seat (RanFor g.S.Spawner.ran g.S.Spawner.faults) l.initial.pass l.initial.spawner l.pass l.spawner;
 }

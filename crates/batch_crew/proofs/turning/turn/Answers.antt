@@ -1,13 +1,13 @@
 use Rattle.std.proofs.Common.{rules, ◌≡◌, ◌∙◌, subst, sym, refl, Ok, Err}
 use Rattle.shared_desk.specs.Sharing.{LooksAt}
-use Rattle.batch_crew.specs.Lanes.{IsTurned, Takes, Starts, idles, misses, runs, unseen, untaken, unrun, untold}
+use Rattle.batch_crew.specs.Lanes.{IsTurned, RanFor, Takes, Starts, idles, misses, runs, unseen, untaken, unrun, untold}
 use Rattle.batch_crew.specs.declared.cut.Cut.TheVariants.{Memory as NoMemory}
 use Rattle.batch_crew.proofs.turning.turn.Goals as goal
 
 pub returns-in_err-run-clause-turned : goal.returns-in_err-run-clause-turned
 returns-in_err-run-clause-turned g c =
     let e : c.from_residual.result ≡ Err NoMemory = search rules in
-    subst (λ r. IsTurned c.args.desk.now.origin c.args.seat g.S.Spawner.ran c.args.pass.now c.args.spawner.now c.queued_at.new.pass c.args.spawner.now r) (sym e)
+    subst (λ r. IsTurned c.args.desk.now.origin c.args.seat (RanFor g.S.Spawner.ran g.S.Spawner.faults) c.args.pass.now c.args.spawner.now c.queued_at.new.pass c.args.spawner.now r) (sym e)
     (unseen _ _ _ c.in_err-run.ensures.looks.sees)
 
 pub returns-in_default-clause-turned : goal.returns-in_default-clause-turned
@@ -19,7 +19,7 @@ returns-in_err-take-clause-turned g c =
     let cut = c.in_err-take.field-0.0 in
     let e : c.from_residual-in_err-take.result ≡ Err cut = search rules in
     let shown = subst (λ r. LooksAt c.args.desk.now.origin c.args.pass.now c.queued_at.new.pass c.args.seat (Ok r)) c.in-Some.is c.in_ok-run.ensures.looks in
-    subst (λ r. IsTurned c.args.desk.now.origin c.args.seat g.S.Spawner.ran c.args.pass.now c.args.spawner.now c.take.new.pass c.args.spawner.now r) (sym e)
+    subst (λ r. IsTurned c.args.desk.now.origin c.args.seat (RanFor g.S.Spawner.ran g.S.Spawner.faults) c.args.pass.now c.args.spawner.now c.take.new.pass c.args.spawner.now r) (sym e)
     (untaken _ _ _ _ c.in-Some.run' cut shown c.in_err-take.ensures.takes)
 
 pub returns-then-not-branch-clause-turned : goal.returns-then-not-branch-clause-turned
@@ -37,7 +37,10 @@ returns-in_default-ending-clause-turned g c =
       shown = subst (λ r. LooksAt o c.args.pass.now c.queued_at.new.pass c.args.seat (Ok r)) c.in-Some.is c.in_ok-run.ensures.looks;
       taken = subst (λ b. Takes o c.queued_at.new.pass c.take.new.pass run.number (Ok b)) c.if-not-branch.false c.in_ok-take.ensures.takes;
     } in
-    let ran = subst (λ ws. g.S.Spawner.ran c.args.spawner.now (record { number = run.number; words = ws; how = c.run.result }) c.run.new.self) c.as_slice.ensures c.run.ensures.ran in
+    let ran : RanFor g.S.Spawner.ran g.S.Spawner.faults c.args.spawner.now (record { number = run.number; words = run.words; how = c.run.result }) c.run.new.self = record {
+      by = subst (λ ws. g.S.Spawner.ran c.args.spawner.now (record { number = run.number; words = ws; how = c.run.result }) c.run.new.self) c.as_slice.ensures c.run.ensures.ran;
+      cause = c.run.ensures.cause;
+    } in
     unrun _ _ _ _ run c.run.result starts ran (sym c.ending.ensures ∙ c.in_default-ending.is)
 
 pub returns-in_err-tell-clause-turned : goal.returns-in_err-tell-clause-turned
@@ -49,8 +52,11 @@ returns-in_err-tell-clause-turned g c =
       shown = subst (λ r. LooksAt o c.args.pass.now c.queued_at.new.pass c.args.seat (Ok r)) c.in-Some.is c.in_ok-run.ensures.looks;
       taken = subst (λ b. Takes o c.queued_at.new.pass c.take.new.pass run.number (Ok b)) c.if-not-branch.false c.in_ok-take.ensures.takes;
     } in
-    let ran = subst (λ ws. g.S.Spawner.ran c.args.spawner.now (record { number = run.number; words = ws; how = c.run.result }) c.run.new.self) c.as_slice.ensures c.run.ensures.ran in
-    subst (λ r. IsTurned o c.args.seat g.S.Spawner.ran c.args.pass.now c.args.spawner.now c.tell.new.pass c.run.new.self r) (sym e)
+    let ran : RanFor g.S.Spawner.ran g.S.Spawner.faults c.args.spawner.now (record { number = run.number; words = run.words; how = c.run.result }) c.run.new.self = record {
+      by = subst (λ ws. g.S.Spawner.ran c.args.spawner.now (record { number = run.number; words = ws; how = c.run.result }) c.run.new.self) c.as_slice.ensures c.run.ensures.ran;
+      cause = c.run.ensures.cause;
+    } in
+    subst (λ r. IsTurned o c.args.seat (RanFor g.S.Spawner.ran g.S.Spawner.faults) c.args.pass.now c.args.spawner.now c.tell.new.pass c.run.new.self r) (sym e)
     (untold _ _ _ _ _ run c.run.result c.in-Some-ending.ending cut starts ran (sym c.ending.ensures ∙ c.in-Some-ending.is) c.in_err-tell.ensures.tells)
 
 pub returns-clause-turned : goal.returns-clause-turned
@@ -61,5 +67,8 @@ returns-clause-turned g c =
       shown = subst (λ r. LooksAt o c.args.pass.now c.queued_at.new.pass c.args.seat (Ok r)) c.in-Some.is c.in_ok-run.ensures.looks;
       taken = subst (λ b. Takes o c.queued_at.new.pass c.take.new.pass run.number (Ok b)) c.if-not-branch.false c.in_ok-take.ensures.takes;
     } in
-    let ran = subst (λ ws. g.S.Spawner.ran c.args.spawner.now (record { number = run.number; words = ws; how = c.run.result }) c.run.new.self) c.as_slice.ensures c.run.ensures.ran in
+    let ran : RanFor g.S.Spawner.ran g.S.Spawner.faults c.args.spawner.now (record { number = run.number; words = run.words; how = c.run.result }) c.run.new.self = record {
+      by = subst (λ ws. g.S.Spawner.ran c.args.spawner.now (record { number = run.number; words = ws; how = c.run.result }) c.run.new.self) c.as_slice.ensures c.run.ensures.ran;
+      cause = c.run.ensures.cause;
+    } in
     runs _ _ _ _ _ run c.run.result c.in-Some-ending.ending starts ran (sym c.ending.ensures ∙ c.in-Some-ending.is) c.in_ok-tell.ensures.tells
