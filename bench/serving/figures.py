@@ -86,8 +86,8 @@ def children_round(path, plain, folder, number, count):
 
 def told(rates):
     return (f"plain {rates['one']:.0f} a second one at a time, {rates['eight']:.0f} eight at a time, {rates['kept']:.0f} with a pipe and two files each; "
-            f"service {rates['memory']:.0f} in memory ({rates['memory'] / rates['eight']:.2f} of eight at a time), "
-            f"{rates['store']:.0f} with a store ({rates['store'] / rates['eight']:.2f})")
+            f"service {rates['memory']:.0f} in memory ({rates['memory'] / rates['one']:.2f} of one at a time, {rates['memory'] / rates['eight']:.2f} of eight), "
+            f"{rates['store']:.0f} with a store ({rates['store'] / rates['one']:.2f} and {rates['store'] / rates['eight']:.2f})")
 
 
 def children(path, plain, folder, count):

@@ -128,32 +128,19 @@ type HostWorker<R> = Worker<
     WorkerKind<ProgramSpawner<R>, ProgramStopper<R>, TcpListener, SystemClock<R>>,
 >;
 
-/// What the workers of a service share.
+/// What the lanes, the timer and the doors of a service share: the clock and the table of child programs.
 #[derive(Drop)]
 struct Shared<R: Host> {
-    listener: TcpListener,
     clock: SystemClock<R>,
     table: ProgramTable,
 }
 
 impl<R: Host> Shared<R> {
-    /// Listens on the port.
-    fn new(rt: &R, options: ServeOptions) -> Result<Shared<R>, StartFault>
-        ensures { IfOk result (λ shared. shared.listener.is_out ≡ false) }
-    {
-        let ending = Arc::new(rt.alloc(), AtomicBool::new(false)).map_err(AllocError::from)?;
-        let connections = match options.connections {
-            Some(connections) => u64::from(connections),
-            None => u64::MAX,
-        };
-        let listener = TcpListener::bind(rt, rt.alloc(), options.port, connections, &ending)?;
-        let clock = SystemClock::new(rt.alloc(), *rt, PAUSE_MS, &ending)?;
+    /// A clock whose pauses say that the service is to end once `ending` is raised, and an empty table.
+    fn new(rt: &R, ending: &Arc<AtomicBool>) -> Result<Shared<R>, StartFault> {
+        let clock = SystemClock::new(rt.alloc(), *rt, PAUSE_MS, ending)?;
         let table = ProgramTable::new(rt.alloc())?;
-        Ok(Shared {
-            listener,
-            clock,
-            table,
-        })
+        Ok(Shared { clock, table })
     }
 
     fn lane(&self, rt: &R, seat: u8) -> Result<HostWorker<R>, StartFault>
@@ -170,24 +157,27 @@ impl<R: Host> Shared<R> {
         Ok(Worker::timer(stopper, self.clock.another()?))
     }
 
-    fn door(&self) -> Result<HostWorker<R>, StartFault>
+    fn door(&self, listener: TcpListener) -> Result<HostWorker<R>, StartFault>
+        requires none_out { listener.is_out ≡ false }
         ensures { IfOk result (λ worker. IsHostReady worker.kind) }
     {
-        Ok(Worker::door(self.listener.another()?, self.clock.another()?))
+        Ok(Worker::door(listener, self.clock.another()?))
     }
+}
 
-    /// The last door, with the listener and the clock of which all others were made.
-    fn into_door(self) -> HostWorker<R>
-        requires none_out { self.listener.is_out ≡ false }
-        ensures { IsHostReady result.kind }
-    {
-        let Shared {
-            listener,
-            clock,
-            ..
-        } = self;
-        Worker::door(listener, clock)
-    }
+/// Listens on the port. `ending` is raised once the listener, and all that are made of it, have ended.
+fn listen<R: Host>(
+    rt: &R,
+    options: ServeOptions,
+    ending: &Arc<AtomicBool>,
+) -> Result<TcpListener, StartFault>
+    ensures { IfOk result (λ listener. listener.is_out ≡ false) }
+{
+    let connections = match options.connections {
+        Some(connections) => u64::from(connections),
+        None => u64::MAX,
+    };
+    Ok(TcpListener::bind(rt, rt.alloc(), options.port, connections, ending)?)
 }
 
 /// Adds a worker.
@@ -203,39 +193,25 @@ fn push_worker<R: Host>(
     Ok(())
 }
 
-/// Adds the lanes of a seat.
-fn push_lanes<R: Host>(
-    rt: &R,
-    shared: &Shared<R>,
-    seat: u8,
-    workers: &mut Vec<HostWorker<R>>,
-) -> Result<(), StartFault>
-    requires all { All (λ w. IsHostReady w.kind) workers.old.items }
-    ensures { OnOk result (All (λ w. IsHostReady w.kind) workers.new.items) }
-{
-    for _ in 0..LANES_PER_SEAT {
-        push_worker(workers, shared.lane(rt, seat)?)?;
-    }
-    Ok(())
-}
-
-/// Adds all doors but the last.
+/// Adds so many doors, one at least. The last one has the listener of which the others are made.
 fn push_doors<R: Host>(
     shared: &Shared<R>,
+    listener: TcpListener,
     doors: u8,
     workers: &mut Vec<HostWorker<R>>,
 ) -> Result<(), StartFault>
+    requires none_out { listener.is_out ≡ false }
     requires all { All (λ w. IsHostReady w.kind) workers.old.items }
     ensures { OnOk result (All (λ w. IsHostReady w.kind) workers.new.items) }
 {
     for _ in 1..doors {
-        push_worker(workers, shared.door()?)?;
+        push_worker(workers, shared.door(listener.another()?)?)?;
     }
-    Ok(())
+    push_worker(workers, shared.door(listener)?)
 }
 
-/// Adds the lanes of all seats.
-fn push_seats<R: Host>(
+/// Adds a lane for each seat.
+fn push_lanes<R: Host>(
     rt: &R,
     shared: &Shared<R>,
     seats: u8,
@@ -245,34 +221,59 @@ fn push_seats<R: Host>(
     ensures { OnOk result (All (λ w. IsHostReady w.kind) workers.new.items) }
 {
     for seat in 1..=seats {
-        push_lanes(rt, shared, seat, workers)?;
+        push_worker(workers, shared.lane(rt, seat)?)?;
     }
     Ok(())
 }
 
-/// The workers: so many lanes for each seat, the timer, and the doors.
+/// Adds all lanes of all seats: first one for each seat, then another one for each, so that the seats lose about as many if the system
+/// cannot make as many threads.
+fn push_all_lanes<R: Host>(
+    rt: &R,
+    shared: &Shared<R>,
+    seats: u8,
+    workers: &mut Vec<HostWorker<R>>,
+) -> Result<(), StartFault>
+    requires all { All (λ w. IsHostReady w.kind) workers.old.items }
+    ensures { OnOk result (All (λ w. IsHostReady w.kind) workers.new.items) }
+{
+    for _ in 0..LANES_PER_SEAT {
+        push_lanes(rt, shared, seats, workers)?;
+    }
+    Ok(())
+}
+
+/// The workers: the timer, the doors, and so many lanes for each seat.
 fn workers<R: Host>(
     rt: &R,
     options: ServeOptions,
-    shared: Shared<R>,
+    shared: &Shared<R>,
+    listener: TcpListener,
 ) -> Result<Vec<HostWorker<R>>, StartFault>
-    requires none_out { shared.listener.is_out ≡ false }
+    requires none_out { listener.is_out ≡ false }
     ensures { IfOk result (λ workers. All (λ w. IsHostReady w.kind) workers.items) }
 {
     let mut workers = Vec::new(rt.alloc());
-    push_seats(rt, &shared, options.seats, &mut workers)?;
     push_worker(&mut workers, shared.timer(rt)?)?;
-    push_doors(&shared, options.doors, &mut workers)?;
-    push_worker(&mut workers, shared.into_door())?;
+    push_doors(shared, listener, options.doors, &mut workers)?;
+    push_all_lanes(rt, shared, options.seats, &mut workers)?;
     Ok(workers)
 }
 
-/// Makes the folder for what child programs write, if it is not there.
+/// Whether the folder for what child programs write is there.
+fn has_folder<R: Host>(rt: &R) -> bool {
+    match fs::metadata(rt, OUTPUT_FOLDER) {
+        Ok(metadata) => metadata.is_dir(),
+        Err(_) => false,
+    }
+}
+
+/// Makes the folder for what child programs write, if it is not there. Something else of that name is a fault.
 fn make_folder<R: Host>(rt: &R) -> Result<(), StartFault> {
     match fs::create_dir(rt, OUTPUT_FOLDER) {
         Ok(()) => Ok(()),
         Err(error) => match error.kind() {
-            ErrorKind::AlreadyExists => Ok(()),
+            ErrorKind::AlreadyExists if has_folder(rt) => Ok(()),
             ErrorKind::OutOfMemory => Err(StartFault::Memory),
             _ => Err(StartFault::Folder),
         },
@@ -280,8 +281,8 @@ fn make_folder<R: Host>(rt: &R) -> Result<(), StartFault> {
 }
 
 /// Says on standard error where the service listens, and where child programs write. A fault of that stream changes nothing.
-fn say_where<R: Host>(rt: &R, shared: &Shared<R>) {
-    if let Some(port) = shared.listener.port() {
+fn say_where<R: Host>(rt: &R, port: Option<u16>) {
+    if let Some(port) = port {
         let _ = rt.eprintln(format_args!("batch: serves http://127.0.0.1:{port}"));
     }
     let _ = rt.eprintln(format_args!(
@@ -289,21 +290,33 @@ fn say_where<R: Host>(rt: &R, shared: &Shared<R>) {
     ));
 }
 
-/// Serves over this keeper. The error says why the service did not begin.
+/// Listens, makes the folder for what child programs write, and makes the workers. The error says why the service cannot begin.
+fn prepare<R: Host>(rt: &R, options: ServeOptions) -> Result<Vec<HostWorker<R>>, StartFault>
+    ensures { IfOk result (λ workers. All (λ w. IsHostReady w.kind) workers.items) }
+{
+    let ending = Arc::new(rt.alloc(), AtomicBool::new(false)).map_err(AllocError::from)?;
+    let listener = listen(rt, options, &ending)?;
+    let port = listener.port();
+    let shared = Shared::new(rt, &ending)?;
+    make_folder(rt)?;
+    let workers = workers(rt, options, &shared, listener)?;
+    say_where(rt, port);
+    Ok(workers)
+}
+
+/// Serves over this keeper with these workers.
 fn serve_over<R: Host + Send + Sync, K: Keeper + Drop + Send, W: Sink>(
     rt: &R,
     words: &[Word],
-    options: ServeOptions,
     sink: &mut W,
     keeper: K,
-) -> Result<(ServeStatus, K), StartFault>
+    workers: Vec<HostWorker<R>>,
+) -> (ServeStatus, K)
 where
     R::Dir: Send,
+    requires { All (λ w. IsHostReady w.kind) workers.items }
 {
-    let shared = Shared::new(rt, options)?;
-    make_folder(rt)?;
-    say_where(rt, &shared);
-    let mut workers = workers(rt, options, shared)?;
+    let mut workers = workers;
     let Served { status, keeper, .. } = serve_words(
         rt,
         rt.alloc(),
@@ -312,7 +325,7 @@ where
         keeper,
         workers.as_mut_slice(),
     );
-    Ok((status, keeper))
+    (status, keeper)
 }
 
 /// Serves over a keeper of empty tables in memory.
@@ -325,12 +338,14 @@ fn serve_in_memory<R: Host + Send + Sync, W: Sink>(
 where
     R::Dir: Send,
 {
+    let workers = prepare(rt, options)?;
     let keeper = SureKeeper::new(Tables::empty(rt.alloc()));
-    let (status, _keeper) = serve_over(rt, words, options, sink, keeper)?;
+    let (status, _keeper) = serve_over(rt, words, sink, keeper, workers);
     Ok(status)
 }
 
-/// Serves over the tables that the store has. The store is closed after the service, so that its file alone has all that was saved.
+/// Serves over the tables that the store has. The store is closed after the service, so that its file alone has all that was saved; also if
+/// the service cannot begin.
 fn serve_in_store<R: Host + Send + Sync, W: Sink>(
     rt: &R,
     words: &[Word],
@@ -341,7 +356,14 @@ fn serve_in_store<R: Host + Send + Sync, W: Sink>(
 where
     R::Dir: Send,
 {
-    let (status, keeper) = serve_over(rt, words, options, sink, StoreKeeper::new(store))?;
+    let workers = match prepare(rt, options) {
+        Ok(workers) => workers,
+        Err(fault) => {
+            store.close()?;
+            return Err(fault);
+        }
+    };
+    let (status, keeper) = serve_over(rt, words, sink, StoreKeeper::new(store), workers);
     keeper.into_store().close()?;
     Ok(status)
 }

@@ -50,7 +50,7 @@ module _ (o : Opening) where
   due_begins true p q moment last now outcome t = asked_begins o p q moment Tick t.answer t.asked
   due_begins false p q moment last now outcome t = subst (λ z. IsPrefix p.seen z.seen) (sym t.0) (prefix_self p.seen)
 
-  module _ {P C : Type 0} (stopped : P → Stop → P → Type 0) (faults : P → ℕ) (gives : C → ℕ → C → Type 0) where
+  module _ {P C : Type 0} (stopped : P → Stop → P → Type 0) (faults : P → ℕ) (gives : C → ℕ → C → Type 0) (pauses : C → Bool → C → Type 0) where
     turn_begins : (old new : TimerState P C) → IsTimerTurn o stopped faults gives old new → IsPrefix old.pass.seen new.pass.seen
     turn_begins old new turn = prefix_trans old.pass.seen turn.ticked.seen new.pass.seen
         (due_begins (is_tick_due old.last turn.ticks.moment) old.pass turn.ticked turn.ticks.moment old.last new.last (Ok tt) turn.ticks.ticks)
@@ -75,16 +75,16 @@ module _ (o : Opening) where
         })
 
     -- after any number of turns and one more
-    some_turns : (p : Caller) (s : P) (c : C) {old : TimerState P C} (new : TimerState P C) → AreTimerTurns o stopped faults gives (timer_at_start p s c) old
+    some_turns : (p : Caller) (s : P) (c : C) {old : TimerState P C} (new : TimerState P C) → AreTimerTurns o stopped faults gives pauses (timer_at_start p s c) old
         → IsTimerTurn o stopped faults gives old new → TicksFirst gives (calls_of new.pass.seen) c
     some_turns p s c new none turn = first_turn p s c new turn
-    some_turns p s c new (more before turned paused turns last) turn =
+    some_turns p s c new (more before turned paused turns last pause) turn =
         tick_stays gives (calls_of turned.pass.seen) (calls_of new.pass.seen) c (calls_begin turned.pass.seen new.pass.seen (turn_begins _ new turn))
         (some_turns p s c turned turns last)
 
     -- the first tick of a timer that ended because its clock said so stands in a journal that begins with what its pass has seen
     pub timer_ticks : (entries : List Entry) (p : Caller) (s : P) (c : C) (q : Caller) (t : P) (d : C)
-        → RunsTimer o stopped faults gives p s c q t d end.Ended → IsPrefix (calls_of q.seen) entries → TicksFirst gives entries c
+        → RunsTimer o stopped faults gives pauses p s c q t d end.Ended → IsPrefix (calls_of q.seen) entries → TicksFirst gives entries c
     timer_ticks entries p s c q t d timer begins =
         let turned = timer.turns.turned in
         let is : turned.pass ≡ q = sym (ap (λ (z : TimerState P C). z.pass) timer.turns.paused) in

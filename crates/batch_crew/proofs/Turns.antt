@@ -47,7 +47,7 @@ module _ (o : Opening) where
     asked = was.asked;
   }
 
-  module _ {P C : Type 0} (stopped : P → Stop → P → Type 0) (faults : P → ℕ) (gives : C → ℕ → C → Type 0) where
+  module _ {P C : Type 0} (stopped : P → Stop → P → Type 0) (faults : P → ℕ) (gives : C → ℕ → C → Type 0) (pauses : C → Bool → C → Type 0) where
     -- what a timer keeps: no run is stopped twice, and each was asked to stop
     record Keeps (t : TimerState P C) : Type 0 where
       distinct : AreDistinct nat_eq t.stopped
@@ -74,9 +74,9 @@ module _ (o : Opening) where
           asked = subst (λ numbers. is_in numbers number ≡ true) turn.looks.shown b;
         }
 
-    keeps_all : (start : TimerState P C) {now : TimerState P C} → AreTimerTurns o stopped faults gives start now → Keeps start → Keeps now
+    keeps_all : (start : TimerState P C) {now : TimerState P C} → AreTimerTurns o stopped faults gives pauses start now → Keeps start → Keeps now
     keeps_all start none k = k
-    keeps_all start (more before turned paused turns turn) k = let it = keeps_turn before turned turn (keeps_all start turns k) in
+    keeps_all start (more before turned paused turns turn pause) k = let it = keeps_turn before turned turn (keeps_all start turns k) in
         record { distinct = it.distinct; asked = it.asked }
 
     -- a turn that is cut short keeps what the timer keeps
@@ -96,25 +96,25 @@ module _ (o : Opening) where
     keeps_start p s c = record { distinct = tt; asked = λ number h. absurd (cc h) }
 
     -- the count of faults does not fall over turns
-    later_turns : (start : TimerState P C) {now : TimerState P C} → AreTimerTurns o stopped faults gives start now → faults start.stopper ≤ faults now.stopper
+    later_turns : (start : TimerState P C) {now : TimerState P C} → AreTimerTurns o stopped faults gives pauses start now → faults start.stopper ≤ faults now.stopper
     later_turns start none = omega arith
-    later_turns start (more before turned paused turns turn) = let a = later_turns start turns in let b = later_all stopped faults turn.stops in omega arith
+    later_turns start (more before turned paused turns turn pause) = let a = later_turns start turns in let b = later_all stopped faults turn.stops in omega arith
 
     -- a timer that ended after a whole turn
-    ended : (start now : TimerState P C) → EndsAfterTurn o stopped faults gives start now → AreAllStopped o now.pass now.stopped (faults start.stopper) (faults now.stopper)
+    ended : (start now : TimerState P C) → EndsAfterTurn o stopped faults gives pauses start now → AreAllStopped o now.pass now.stopped (faults start.stopper) (faults now.stopper)
     ended start now e = subst (λ z. AreAllStopped o z.pass z.stopped (faults start.stopper) (faults z.stopper)) (sym e.paused) (λ lt.
         let few = few_left stopped faults e.turn.stops lt in
         let le = later_turns start e.turns in
         let same = ap (λ xs. left_out xs e.turned.stopped) e.turn.looks.shown in
         omega arith)
 
-    keeps_end : (why : LaneEnd) (start now : TimerState P C) → IsTimer o stopped faults gives start now why → Keeps start → Keeps now
+    keeps_end : (why : LaneEnd) (start now : TimerState P C) → IsTimer o stopped faults gives pauses start now why → Keeps start → Keeps now
     keeps_end end.Ended start now e k = let it = keeps_turn e.before e.turned e.turn (keeps_all start e.turns k) in
         subst Keeps (sym e.paused) (record { distinct = it.distinct; asked = it.asked })
     keeps_end end.JournalFull start now e k = keeps_cut _ e.before now e.last (keeps_all start e.turns k)
     keeps_end end.Memory start now e k = keeps_cut _ e.before now e.last (keeps_all start e.turns k)
 
-    all_stopped : (why : LaneEnd) (start now : TimerState P C) → IsTimer o stopped faults gives start now why → why ≡ end.Ended
+    all_stopped : (why : LaneEnd) (start now : TimerState P C) → IsTimer o stopped faults gives pauses start now why → why ≡ end.Ended
         → AreAllStopped o now.pass now.stopped (faults start.stopper) (faults now.stopper)
     all_stopped end.Ended start now e is = ended start now e
     all_stopped end.JournalFull start now e is = absurd (cc is)
@@ -122,8 +122,8 @@ module _ (o : Opening) where
 
     -- a timer by all its turns
     pub runs_timer : (p : Caller) (s : P) (c : C) (q : Caller) (t : P) (d : C) (last : Option ℕ) (numbers : List ℕ) (why : LaneEnd)
-        → IsTimer o stopped faults gives (timer_at_start p s c) (record { pass = q; stopper = t; clock = d; last = last; stopped = numbers }) why
-        → RunsTimer o stopped faults gives p s c q t d why
+        → IsTimer o stopped faults gives pauses (timer_at_start p s c) (record { pass = q; stopper = t; clock = d; last = last; stopped = numbers }) why
+        → RunsTimer o stopped faults gives pauses p s c q t d why
     runs_timer p s c q t d last numbers why turns =
         let now : TimerState P C = record { pass = q; stopper = t; clock = d; last = last; stopped = numbers } in
         let kept = keeps_end why (timer_at_start p s c) now turns (keeps_start p s c) in
@@ -137,6 +137,6 @@ module _ (o : Opening) where
         }
 
     -- a timer whose last turn was cut short, by why it ended
-    pub cut_timer : (cut : Cut) (start now : TimerState P C) → EndsInTurn o stopped faults gives cut start now → IsTimer o stopped faults gives start now (end_of cut)
+    pub cut_timer : (cut : Cut) (start now : TimerState P C) → EndsInTurn o stopped faults gives pauses cut start now → IsTimer o stopped faults gives pauses start now (end_of cut)
     cut_timer Full start now e = e
     cut_timer NoMemory start now e = e

@@ -114,35 +114,38 @@ module _ (o : Opening) {P C : Type 0} (stopped : P → Stop → P → Type 0) (f
     pub same_stopper : new.stopper ≡ old.stopper
     pub same_stopped : new.stopped ≡ old.stopped
 
-  -- whole turns, one after the other, each followed by a pause of the clock
-  pub data AreTimerTurns (start : TimerState P C) : TimerState P C → Type 0 where
-    none : AreTimerTurns start start
-    more : (before turned : TimerState P C) (paused : C) → AreTimerTurns start before → IsTimerTurn before turned → AreTimerTurns start (after_pause turned paused)
-
   -- what a turn came to
   abbrev pub IsTimerTurned : TimerState P C → TimerState P C → Result (Unit {0}) Cut → Type 0
   IsTimerTurned old new (Ok u) = IsTimerTurn old new
   IsTimerTurned old new (Err cut) = IsTimerCut cut old new
 
-  -- whole turns, the last of which was followed by the pause that ended the timer
-  pub record EndsAfterTurn (start now : TimerState P C) : Type 0 where
-    pub before : TimerState P C
-    pub turned : TimerState P C
-    pub turns : AreTimerTurns start before
-    pub turn : IsTimerTurn before turned
-    pub paused : now ≡ after_pause turned now.clock
+  module _ (pauses : C → Bool → C → Type 0) where
+    -- whole turns, one after the other, each followed by a pause of the clock, after which the timer goes on
+    pub data AreTimerTurns (start : TimerState P C) : TimerState P C → Type 0 where
+      none : AreTimerTurns start start
+      more : (before turned : TimerState P C) (paused : C) → AreTimerTurns start before → IsTimerTurn before turned → pauses turned.clock true paused
+          → AreTimerTurns start (after_pause turned paused)
 
-  -- whole turns, and then one that is cut short
-  pub record EndsInTurn (cut : Cut) (start now : TimerState P C) : Type 0 where
-    pub before : TimerState P C
-    pub turns : AreTimerTurns start before
-    pub last : IsTimerCut cut before now
+    -- whole turns, the last of which was followed by the pause that said that the service is to end
+    pub record EndsAfterTurn (start now : TimerState P C) : Type 0 where
+      pub before : TimerState P C
+      pub turned : TimerState P C
+      pub turns : AreTimerTurns start before
+      pub turn : IsTimerTurn before turned
+      pub pause : pauses turned.clock false now.clock
+      pub paused : now ≡ after_pause turned now.clock
 
-  -- all turns of a timer, by why it ended
-  abbrev pub IsTimer : TimerState P C → TimerState P C → LaneEnd → Type 0
-  IsTimer start now end.Ended = EndsAfterTurn start now
-  IsTimer start now end.JournalFull = EndsInTurn Full start now
-  IsTimer start now end.Memory = EndsInTurn NoMemory start now
+    -- whole turns, and then one that is cut short
+    pub record EndsInTurn (cut : Cut) (start now : TimerState P C) : Type 0 where
+      pub before : TimerState P C
+      pub turns : AreTimerTurns start before
+      pub last : IsTimerCut cut before now
+
+    -- all turns of a timer, by why it ended
+    abbrev pub IsTimer : TimerState P C → TimerState P C → LaneEnd → Type 0
+    IsTimer start now end.Ended = EndsAfterTurn start now
+    IsTimer start now end.JournalFull = EndsInTurn Full start now
+    IsTimer start now end.Memory = EndsInTurn NoMemory start now
 
 -- the run was asked to stop in the tables after a beginning of what the pass has seen
 pub record WasAsked (o : Opening) (q : Caller) (number : ℕ) : Type 0 where
@@ -155,12 +158,12 @@ pub record WasAsked (o : Opening) (q : Caller) (number : ℕ) : Type 0 where
 abbrev pub AreAllStopped : Opening → Caller → List ℕ → (before now : ℕ) → Type 0
 AreAllStopped o q stopped before now = now < 2 ^ 64 - 1 → left_out (asked_runs (tables_after o q.seen)) stopped + before ≤ now
 
-module _ (o : Opening) {P C : Type 0} (stopped : P → Stop → P → Type 0) (faults : P → ℕ) (gives : C → ℕ → C → Type 0) where
+module _ (o : Opening) {P C : Type 0} (stopped : P → Stop → P → Type 0) (faults : P → ℕ) (gives : C → ℕ → C → Type 0) (pauses : C → Bool → C → Type 0) where
   -- a timer: its turns, and what they make of the runs that are asked to stop
   pub record RunsTimer (p : Caller) (s : P) (c : C) (q : Caller) (t : P) (d : C) (why : LaneEnd) : Type 0 where
     pub last : Option ℕ
     pub numbers : List ℕ
-    pub turns : IsTimer o stopped faults gives (timer_at_start p s c) (record { pass = q; stopper = t; clock = d; last = last; stopped = numbers }) why
+    pub turns : IsTimer o stopped faults gives pauses (timer_at_start p s c) (record { pass = q; stopper = t; clock = d; last = last; stopped = numbers }) why
     pub distinct : AreDistinct nat_eq numbers
     pub asked : (number : ℕ) → is_in numbers number ≡ true → WasAsked o q number
     pub all : why ≡ end.Ended → AreAllStopped o q numbers (faults s) (faults t)

@@ -50,7 +50,8 @@ pub fn take<K: Keeper + Drop, C: Clock, R: Wait>(
     requires pass { IsPassOf desk.now pass.old }
     ensures pass { IsPassOf desk.now pass.new }
     ensures number { pass.new.number ≡ pass.old.number }
-    ensures takes { Takes desk.now.origin pass.old pass.new number result }
+    ensures takes { Takes desk.now.origin C.gives
+        (record { pass = pass.old; clock = clock.old }) (record { pass = pass.new; clock = clock.new }) number result }
 {
     let moment = clock.now();
     let answer = desk.ask(rt, alloc, pass, moment, Event::new(EventKind::Take(number)));
@@ -71,7 +72,8 @@ fn tell_once<K: Keeper + Drop, C: Clock, R: Wait>(
     requires pass { IsPassOf desk.now pass.old }
     ensures pass { IsPassOf desk.now pass.new }
     ensures number { pass.new.number ≡ pass.old.number }
-    ensures tells { TellsOnce desk.now.origin pass.old pass.new run.0 run.1 result }
+    ensures tells { TellsOnce desk.now.origin C.gives
+        (record { pass = pass.old; clock = clock.old }) (record { pass = pass.new; clock = clock.new }) run.0 run.1 result }
 {
     let moment = clock.now();
     let event = Event::new(EventKind::End(run.0, run.1));
@@ -93,7 +95,8 @@ pub fn tell<K: Keeper + Drop, C: Clock, R: Wait>(
     requires pass { IsPassOf desk.now pass.old }
     ensures pass { IsPassOf desk.now pass.new }
     ensures number { pass.new.number ≡ pass.old.number }
-    ensures tells { Tells desk.now.origin pass.old pass.new run.0 run.1 result }
+    ensures tells { Tells desk.now.origin C.gives
+        (record { pass = pass.old; clock = clock.old }) (record { pass = pass.new; clock = clock.new }) run.0 run.1 result }
 {
     for _ in rt.forever() {
         if let Some(told) = tell_once(rt, alloc, desk, pass, clock, run) {

@@ -31,7 +31,8 @@ pub fn run_lane<K: Keeper + Drop, S: Spawner, C: Clock, R: Wait>(
     requires pass { IsPassOf desk.now pass }
     ensures pass { IsPassOf desk.now result.0 }
     ensures number { result.0.number ≡ pass.number }
-    ensures turns { IsLane desk.now.origin seat (RanFor S.ran S.faults) pass spawner.old result.0 spawner.new result.1 }
+    ensures turns { IsLane desk.now.origin seat (RanFor S.ran S.faults) C.gives C.pauses
+        (record { pass = pass; clock = clock.old }) spawner.old (record { pass = result.0; clock = clock.new }) spawner.new result.1 }
     ensures ended { result.1 ≡ Ended → C.has_ended clock.new ≡ true }
     ensures full { result.1 ≡ JournalFull → length result.0.seen ≡ desk.now.origin.limit }
 {

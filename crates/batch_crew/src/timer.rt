@@ -67,7 +67,7 @@ pub fn run_timer<K: Keeper + Drop, P: Stopper, C: Clock, R: Wait>(
     requires pass { IsPassOf desk.now pass }
     ensures pass { IsPassOf desk.now result.0 }
     ensures number { result.0.number ≡ pass.number }
-    ensures runs { RunsTimer desk.now.origin P.stopped P.faults C.gives pass stopper.old clock.old result.0 stopper.new clock.new result.1 }
+    ensures runs { RunsTimer desk.now.origin P.stopped P.faults C.gives C.pauses pass stopper.old clock.old result.0 stopper.new clock.new result.1 }
     ensures ended { result.1 ≡ Ended → C.has_ended clock.new ≡ true }
     ensures full { result.1 ≡ JournalFull → length result.0.seen ≡ desk.now.origin.limit }
 {

@@ -34,7 +34,8 @@ pub fn turn<K: Keeper + Drop, S: Spawner, C: Clock, R: Wait>(
     requires pass { IsPassOf desk.now pass.old }
     ensures pass { IsPassOf desk.now pass.new }
     ensures number { pass.new.number ≡ pass.old.number }
-    ensures turned { IsTurned desk.now.origin seat (RanFor S.ran S.faults) pass.old spawner.old pass.new spawner.new result }
+    ensures turned { IsTurned desk.now.origin seat (RanFor S.ran S.faults) C.gives
+        (record { pass = pass.old; clock = clock.old }) spawner.old (record { pass = pass.new; clock = clock.new }) spawner.new result }
 {
     let Some(run) = desk.queued_at(rt, alloc, pass, seat)? else {
         return Ok(Turned::Rested);

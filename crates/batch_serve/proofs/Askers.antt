@@ -17,6 +17,16 @@ pub desk_stays : (old new : AskerState) (exchanges : List Exchange) → Leads Is
 desk_stays old new [] same = ap (λ a. a.desk) same
 desk_stays old new (x ∷ xs) (middle, first, rest) = desk_stays middle new xs rest ∙ same_desk old middle x first
 
+-- an exchange leaves the pass its number
+same_number : (old new : AskerState) (x : Exchange) → IsSharedExchange old x new → new.pass.number ≡ old.pass.number
+same_number old new (Called moment event answer) e = e.0.number
+same_number old new (Looked read reply) e = e.0.number
+
+-- all exchanges do
+pub number_stays : (old new : AskerState) (exchanges : List Exchange) → Leads IsSharedExchange old exchanges new → new.pass.number ≡ old.pass.number
+number_stays old new [] same = ap (λ a. a.pass.number) same
+number_stays old new (x ∷ xs) (middle, first, rest) = number_stays middle new xs rest ∙ same_number old middle x first
+
 -- a service by what it consists of
 pub service_is : {C : Type 0} (s : HttpService AskerState C) (desk : LockIdentity Opening) (p : Caller) (c : C) → s.asker.desk ≡ desk → s.asker.pass ≡ p → s.clock ≡ c
     → s ≡ record { asker = record { desk = desk; pass = p }; clock = c }

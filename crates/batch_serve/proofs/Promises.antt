@@ -15,6 +15,7 @@ use Rattle.shared_desk.specs.Sharing.{Caller, calls_of}
 use Rattle.batch_crew.specs.declared.cut.LaneEnd.{LaneEnd}
 use Rattle.batch_crew.specs.declared.cut.LaneEnd.TheVariants as end
 use Rattle.batch_crew.specs.Journals.{RunsStand, none}
+use Rattle.batch_crew.specs.Lanes.{RanFor}
 use Rattle.batch_crew.specs.Timers.{RunsTimer}
 use Rattle.batch_crew.proofs.FirstTicks.{timer_ticks}
 use Rattle.batch_crew.proofs.GivenRuns.{lane_stands}
@@ -75,8 +76,9 @@ module _ {S P N L C : Type 0} (t : Parts S P N L C) (entries : List Entry) where
 
   module _ (desk : LockIdentity Opening) (p q : Caller) where
     runs_kept : (old new : WorkerKind S P N C L) → Works desk t p old q new → IsPrefix (calls_of q.seen) entries → KeepsRuns t entries old new
-    runs_kept (kind.Lane old) (kind.Lane new) work stands = subst (λ e. RunsStand t.ran entries old.spawner new.spawner e) (sym work.told)
-        (lane_stands desk.origin old.seat t.ran entries p old.spawner q new.spawner work.why work.turns stands)
+    runs_kept (kind.Lane old) (kind.Lane new) work stands = subst (λ e. RunsStand (RanFor t.spawner.ran t.spawner.faults) entries old.spawner new.spawner e) (sym work.told)
+        (lane_stands desk.origin (RanFor t.spawner.ran t.spawner.faults) t.clock.gives old.seat t.clock.pauses entries (record { pass = p; clock = old.clock })
+        old.spawner (record { pass = q; clock = new.clock }) new.spawner work.why work.turns stands)
     runs_kept (kind.Lane old) (kind.Timer new) work stands = absurd work
     runs_kept (kind.Lane old) (kind.Door new) work stands = absurd work
     runs_kept (kind.Timer old) (kind.Lane new) work stands = absurd work
@@ -113,8 +115,8 @@ module _ {S P N L C : Type 0} (t : Parts S P N L C) (entries : List Entry) where
     time_kept (kind.Timer old) (kind.Door new) work stands memory full = absurd work
     time_kept (kind.Timer old) (kind.Timer new) work stands memory full =
         let is = end_is work.why new.end work.told memory full in
-        timer_ticks desk.origin t.stopped t.stop_faults t.gives entries p old.stopper old.clock q new.stopper new.clock
-        (subst (λ w. RunsTimer desk.origin t.stopped t.stop_faults t.gives p old.stopper old.clock q new.stopper new.clock w) is work.turns) stands
+        timer_ticks desk.origin t.stopper.stopped t.stopper.faults t.clock.gives t.clock.pauses entries p old.stopper old.clock q new.stopper new.clock
+        (subst (λ w. RunsTimer desk.origin t.stopper.stopped t.stopper.faults t.clock.gives t.clock.pauses p old.stopper old.clock q new.stopper new.clock w) is work.turns) stands
 
 module _ {S P N L C : Type 0} (t : Parts S P N L C) (old new : List (Worker (WorkerKind S P N C L))) where
   -- no worker began

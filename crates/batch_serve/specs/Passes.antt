@@ -1,5 +1,6 @@
 -- Workers that are given passes, work with them, and hand them back.
-use Rattle.std.specs.Prelude.{◌≡◌, ◌<◌, ℕ, List, [], length, nat_eq, slice_index_or}
+use Rattle.std.specs.Prelude.{◌≡◌, ◌<◌, ℕ, false, List, [], length, nat_eq, slice_index_or}
+use Rattle.std.specs.List.{list_any}
 use mathlib.Core.List.{IsPrefix}
 use Rattle.bt_rows.specs.Lists.{AreDistinct}
 use Rattle.counted_lock.specs.Passes.{LockIdentity, IsPassOf}
@@ -35,21 +36,25 @@ module _ {W : Type 0} (worked : LockIdentity Opening → Caller → W → Caller
   -- the worker did its work with its pass, which is then as that leaves it
   pub record WorksWithPass (old new : Worker W) : Type 0 where
     pub pass : IsPassOf desk new.pass
+    pub number : new.pass.number ≡ old.pass.number
     pub work : worked desk old.pass old.kind new.pass new.kind
 
   -- The worker did its work with a pass of the desk, under this number, that had made no calls before. What the pass had then seen is the
-  -- beginning of the history.
+  -- beginning of the history, which has no other calls under this number.
   pub record Serves (history : List (Stamped Entry)) (number : ℕ) (old new : Worker W) : Type 0 where
     pub before : Caller
     pub after : Caller
     pub given : IsPassOf desk before
     pub numbered : before.number ≡ number
+    pub same : after.number ≡ number
     pub fresh : places_of before.number before.seen ≡ []
     pub work : worked desk before old.kind after new.kind
     pub stands : IsPrefix after.seen history
+    pub placed : places_of number history ≡ places_of number after.seen
 
   -- Each worker did its work with a pass under a number of its own: the k-th worker under the k-th of these numbers, of which there are as many
-  -- as workers, and no two are the same. The entries are the calls of one history, of which each pass has seen the beginning.
+  -- as workers, and no two are the same. The entries are the calls of one history, of which each pass has seen the beginning. The history has no
+  -- calls under another number.
   pub record AllServe (entries : List Entry) (old new : List (Worker W)) : Type 0 where
     pub history : List (Stamped Entry)
     pub journal : entries ≡ calls_of history
@@ -58,3 +63,4 @@ module _ {W : Type 0} (worked : LockIdentity Opening → Caller → W → Caller
     pub numbered : length numbers ≡ length old
     pub count : length new ≡ length old
     pub each : (k : ℕ) (d : Worker W) → k < length old → Serves history (slice_index_or numbers k 0) (slice_index_or old k d) (slice_index_or new k d)
+    pub others : (n : ℕ) → list_any (nat_eq n) numbers ≡ false → places_of n history ≡ []

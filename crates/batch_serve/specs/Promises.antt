@@ -6,6 +6,7 @@ use Rattle.http_doors.specs.declared.door.DoorEnd.{DoorEnd}
 use Rattle.batch_crew.specs.declared.cut.LaneEnd.{LaneEnd}
 use Rattle.batch_crew.specs.declared.cut.LaneEnd.TheVariants.{Ended}
 use Rattle.batch_crew.specs.Journals.{RunsStand, TicksFirst}
+use Rattle.batch_crew.specs.Lanes.{RanFor}
 use Rattle.batch_serve.specs.declared.status.ServeStatus.{ServeStatus}
 use Rattle.batch_serve.specs.declared.status.ServeStatus.TheVariants.{Done}
 use Rattle.batch_serve.specs.declared.worker.Door.{Door}
@@ -30,21 +31,21 @@ pub record EndedByListener {N C L : Type 0} (has_ended : N → Bool) (door : Doo
 module _ {S P N L C : Type 0} (t : Parts S P N L C) where
   -- a lane: each run that its spawner was given stands in the journal
   abbrev pub KeepsRuns : List Entry → WorkerKind S P N C L → WorkerKind S P N C L → Type 0
-  KeepsRuns entries (kind.Lane old) (kind.Lane new) = RunsStand t.ran entries old.spawner new.spawner new.end
+  KeepsRuns entries (kind.Lane old) (kind.Lane new) = RunsStand (RanFor t.spawner.ran t.spawner.faults) entries old.spawner new.spawner new.end
   KeepsRuns entries (kind.Timer old) (kind.Timer new) = Unit {0}
   KeepsRuns entries (kind.Door old) (kind.Door new) = Unit {0}
   KeepsRuns entries old new = ⊥
 
   -- the worker ended because it was to end
   abbrev pub HasEnded : WorkerKind S P N C L → Type 0
-  HasEnded (kind.Lane lane) = EndedByClock t.clock_ended lane.end lane.clock
-  HasEnded (kind.Timer timer) = EndedByClock t.clock_ended timer.end timer.clock
+  HasEnded (kind.Lane lane) = EndedByClock t.clock.has_ended lane.end lane.clock
+  HasEnded (kind.Timer timer) = EndedByClock t.clock.has_ended timer.end timer.clock
   HasEnded (kind.Door door) = EndedByListener t.listener.has_ended door
 
   -- a timer, as it was before its work: it ticked at the first moment that its clock gave
   abbrev pub HasTicked : List Entry → WorkerKind S P N C L → Type 0
   HasTicked entries (kind.Lane lane) = Unit {0}
-  HasTicked entries (kind.Timer timer) = TicksFirst t.gives entries timer.clock
+  HasTicked entries (kind.Timer timer) = TicksFirst t.clock.gives entries timer.clock
   HasTicked entries (kind.Door door) = Unit {0}
 
   -- What the workers did, by the journal: each run that a lane's spawner was given was taken, and its ending was told after that, as

@@ -1,10 +1,12 @@
 -- What the workers of a crew do, each with its pass.
-use Rattle.std.specs.Prelude.{◌≡◌, ◌≤◌, ℕ, Bool, true, false, List, length, Option, Some, IsSome}
+use Rattle.std.specs.Prelude.{◌≡◌, ◌≤◌, Bool, true, false, length, Some, IsSome}
 use Rattle.bt_base.specs.Causes.{Rose}
-use Rattle.child_runs.specs.declared.ran.ChildRun.{ChildRun}
-use Rattle.child_runs.specs.Stops.{Stop}
+use Rattle.bt_clock.specs.declared.clock.Clock.{Ghosts as ClockMembers}
+use Rattle.child_runs.specs.declared.spawner.Spawner.{Ghosts as SpawnerMembers}
+use Rattle.child_runs.specs.declared.stopper.Stopper.{Ghosts as StopperMembers}
 use Rattle.counted_lock.specs.Passes.{LockIdentity}
-use Rattle.link_doors.specs.declared.accepted.Accepted.{Accepted}
+use Rattle.http_link.specs.declared.link.Link.{Ghosts as LinkMembers}
+use Rattle.link_doors.specs.declared.listener.Listener.{Ghosts as ListenerMembers}
 use Rattle.http_doors.specs.declared.door.DoorEnd.{DoorEnd}
 use Rattle.http_doors.specs.Doors.{DoorState, ServesAll}
 use Rattle.shared_desk.specs.Openings.{Opening}
@@ -12,7 +14,7 @@ use Rattle.shared_desk.specs.Sharing.{Caller}
 use Rattle.shared_desk.specs.Askers.{AskerState, IsSharedExchange}
 use Rattle.batch_crew.specs.declared.cut.LaneEnd.{LaneEnd}
 use Rattle.batch_crew.specs.declared.cut.LaneEnd.TheVariants.{Ended, JournalFull}
-use Rattle.batch_crew.specs.Lanes.{IsLane}
+use Rattle.batch_crew.specs.Lanes.{RanFor, IsLane}
 use Rattle.batch_crew.specs.Timers.{RunsTimer}
 use Rattle.batch_serve.specs.declared.worker.Lane.{Lane}
 use Rattle.batch_serve.specs.declared.worker.Timer.{Timer}
@@ -20,25 +22,13 @@ use Rattle.batch_serve.specs.declared.worker.Door.{Door}
 use Rattle.batch_serve.specs.declared.worker.WorkerKind.{WorkerKind}
 use Rattle.batch_serve.specs.declared.worker.WorkerKind.TheVariants as kind
 
--- what contracts see of a listener and of its links
-pub record ListenerParts (N L : Type 0) : Type 1 where
-  pub is_out : N → Bool
-  pub has_ended : N → Bool
-  pub faults : N → ℕ
-  pub accepted : N → Accepted L → N → Type 0
-  pub taken_back : N → L → N → Type 0
-  pub left : L → Option (List ℕ)
-  pub taken : L → Option (List ℕ)
-  pub link_faults : L → ℕ
-
--- what contracts see of what workers have: spawners, stoppers, listeners and clocks
+-- what contracts see of what workers have: the ghost members of its traits
 pub record Parts (S P N L C : Type 0) : Type 1 where
-  pub ran : S → ChildRun → S → Type 0
-  pub stopped : P → Stop → P → Type 0
-  pub stop_faults : P → ℕ
-  pub listener : ListenerParts N L
-  pub gives : C → ℕ → C → Type 0
-  pub clock_ended : C → Bool
+  pub spawner : SpawnerMembers S
+  pub stopper : StopperMembers P
+  pub listener : ListenerMembers N L
+  pub link : LinkMembers L
+  pub clock : ClockMembers C
 
 module _ (desk : LockIdentity Opening) where
   -- a lane or a timer ended with the pass `q`, only for its cause: after a pause said so, or with a full journal
@@ -47,20 +37,22 @@ module _ (desk : LockIdentity Opening) where
     pub full : why ≡ JournalFull → length q.seen ≡ desk.origin.limit
 
   -- a lane took turns with the pass `p`, which is then `q`
-  pub record LaneWorks {S C : Type 0} (ran : S → ChildRun → S → Type 0) (clock_ended : C → Bool) (p : Caller) (old : Lane S C) (q : Caller) (new : Lane S C) : Type 0 where
+  pub record LaneWorks {S C : Type 0} (spawner : SpawnerMembers S) (clock : ClockMembers C)
+      (p : Caller) (old : Lane S C) (q : Caller) (new : Lane S C) : Type 0 where
     pub why : LaneEnd
     pub told : new.end ≡ Some why
-    pub cause : EndsFor clock_ended why q new.clock
+    pub cause : EndsFor clock.has_ended why q new.clock
     pub seat : new.seat ≡ old.seat
-    pub turns : IsLane desk.origin old.seat ran p old.spawner q new.spawner why
+    pub turns : IsLane desk.origin old.seat (RanFor spawner.ran spawner.faults) clock.gives clock.pauses
+        (record { pass = p; clock = old.clock }) old.spawner (record { pass = q; clock = new.clock }) new.spawner why
 
   -- a timer took turns with the pass `p`, which is then `q`
-  pub record TimerWorks {P C : Type 0} (stopped : P → Stop → P → Type 0) (stop_faults : P → ℕ) (gives : C → ℕ → C → Type 0) (clock_ended : C → Bool)
+  pub record TimerWorks {P C : Type 0} (stopper : StopperMembers P) (clock : ClockMembers C)
       (p : Caller) (old : Timer P C) (q : Caller) (new : Timer P C) : Type 0 where
     pub why : LaneEnd
     pub told : new.end ≡ Some why
-    pub cause : EndsFor clock_ended why q new.clock
-    pub turns : RunsTimer desk.origin stopped stop_faults gives p old.stopper old.clock q new.stopper new.clock why
+    pub cause : EndsFor clock.has_ended why q new.clock
+    pub turns : RunsTimer desk.origin stopper.stopped stopper.faults clock.gives clock.pauses p old.stopper old.clock q new.stopper new.clock why
 
   -- the asker of a door with this pass
   abbrev pub asker_with : Caller → AskerState
@@ -71,25 +63,26 @@ module _ (desk : LockIdentity Opening) where
   door_with p clock listener = record { service = record { asker = asker_with p; clock = clock }; listener = listener }
 
   -- a door served the links of its listener with the pass `p`, which is then `q`, until the listener ended or failed
-  pub record DoorWorks {N L C : Type 0} (t : ListenerParts N L) (gives : C → ℕ → C → Type 0) (p : Caller) (old : Door N C L) (q : Caller) (new : Door N C L) : Type 0 where
+  pub record DoorWorks {N L C : Type 0} (listener : ListenerMembers N L) (link : LinkMembers L) (clock : ClockMembers C)
+      (p : Caller) (old : Door N C L) (q : Caller) (new : Door N C L) : Type 0 where
     pub end : DoorEnd
     pub told : new.end ≡ Some end
     pub before : C
     pub after : C
     pub old_clock : old.clock ≡ Some before
     pub new_clock : new.clock ≡ Some after
-    pub none_out : t.is_out new.listener ≡ false
-    pub later : t.faults old.listener ≤ t.faults new.listener
-    pub ended : end.failed ≡ false → t.has_ended new.listener ≡ true
-    pub failed : end.failed ≡ true → Rose (t.faults old.listener) (t.faults new.listener)
-    pub serves : ServesAll IsSharedExchange gives t.accepted t.taken_back t.left t.taken t.link_faults
+    pub none_out : listener.is_out new.listener ≡ false
+    pub later : listener.faults old.listener ≤ listener.faults new.listener
+    pub ended : end.failed ≡ false → listener.has_ended new.listener ≡ true
+    pub failed : end.failed ≡ true → Rose (listener.faults old.listener) (listener.faults new.listener)
+    pub serves : ServesAll IsSharedExchange clock.gives listener.accepted listener.taken_back link.left link.taken link.faults
         (door_with p before old.listener) (door_with q after new.listener) end.met_memory
 
   -- a worker did its work with the pass `p`, which is then `q`
   abbrev pub Works : {S P N L C : Type 0} → Parts S P N L C → Caller → WorkerKind S P N C L → Caller → WorkerKind S P N C L → Type 0
-  Works t p (kind.Lane old) q (kind.Lane new) = LaneWorks t.ran t.clock_ended p old q new
-  Works t p (kind.Timer old) q (kind.Timer new) = TimerWorks t.stopped t.stop_faults t.gives t.clock_ended p old q new
-  Works t p (kind.Door old) q (kind.Door new) = DoorWorks t.listener t.gives p old q new
+  Works t p (kind.Lane old) q (kind.Lane new) = LaneWorks t.spawner t.clock p old q new
+  Works t p (kind.Timer old) q (kind.Timer new) = TimerWorks t.stopper t.clock p old q new
+  Works t p (kind.Door old) q (kind.Door new) = DoorWorks t.listener t.link t.clock p old q new
   Works t p old q new = ⊥
 
 -- what a worker needs before it works: a door its clock, and a listener of which no link is out

@@ -1,7 +1,6 @@
 //! What lanes, timers and doors do.
 ghost use Rattle.std.specs.Prelude.{◌≡◌, IsSome, false};
 ghost use Rattle.counted_lock.specs.Passes.{IsPassOf};
-ghost use Rattle.batch_crew.specs.Lanes.{RanFor};
 ghost use Rattle.batch_serve.specs.Works.{LaneWorks, TimerWorks, DoorWorks, Works, IsReady};
 
 use crate::work::Work;
@@ -28,7 +27,8 @@ fn work_lane<K: Keeper + Drop, S: Spawner, C: Clock, R: Wait>(
 ) -> Pass
     requires pass { IsPassOf desk.now pass }
     ensures pass { IsPassOf desk.now result }
-    ensures works { LaneWorks desk.now (RanFor S.ran S.faults) C.has_ended pass lane.old result lane.new }
+    ensures number { result.number ≡ pass.number }
+    ensures works { LaneWorks desk.now S.Spawner C.Clock pass lane.old result lane.new }
 {
     let (pass, end) = run_lane(
         rt,
@@ -53,7 +53,8 @@ fn work_timer<K: Keeper + Drop, P: Stopper, C: Clock, R: Wait>(
 ) -> Pass
     requires pass { IsPassOf desk.now pass }
     ensures pass { IsPassOf desk.now result }
-    ensures works { TimerWorks desk.now P.stopped P.faults C.gives C.has_ended pass timer.old result timer.new }
+    ensures number { result.number ≡ pass.number }
+    ensures works { TimerWorks desk.now P.Stopper C.Clock pass timer.old result timer.new }
 {
     let (pass, end) = run_timer(rt, alloc, desk, pass, &mut timer.stopper, &mut timer.clock);
     timer.end = Some(end);
@@ -92,16 +93,8 @@ fn work_door<K: Keeper + Drop, N: Listener, C: Clock + Drop, R: Wait>(
     requires clock { IsSome door.old.clock }
     requires none_out { N.is_out door.old.listener ≡ false }
     ensures pass { IsPassOf desk.now result }
-    ensures works { DoorWorks desk.now (record {
-      is_out = N.is_out;
-      has_ended = N.has_ended;
-      faults = N.faults;
-      accepted = N.accepted;
-      taken_back = N.taken_back;
-      left = N.Link.left;
-      taken = N.Link.taken;
-      link_faults = N.Link.faults;
-    }) C.gives pass door.old result door.new }
+    ensures number { result.number ≡ pass.number }
+    ensures works { DoorWorks desk.now N.Listener N.Link.Link C.Clock pass door.old result door.new }
 {
     let Some(clock) = door.clock.take() else {
         unreachable!()
@@ -117,23 +110,8 @@ fn work_door<K: Keeper + Drop, N: Listener, C: Clock + Drop, R: Wait>(
 impl<S: Spawner, P: Stopper, N: Listener, C: Clock + Drop> Work for WorkerKind<S, P, N, C> {
     ghost can_work = { IsReady N.is_out };
 
-    ghost worked = { λ desk p old q new. Works desk (record {
-      ran = RanFor S.ran S.faults;
-      stopped = P.stopped;
-      stop_faults = P.faults;
-      listener = record {
-        is_out = N.is_out;
-        has_ended = N.has_ended;
-        faults = N.faults;
-        accepted = N.accepted;
-        taken_back = N.taken_back;
-        left = N.Link.left;
-        taken = N.Link.taken;
-        link_faults = N.Link.faults;
-      };
-      gives = C.gives;
-      clock_ended = C.has_ended;
-    }) p old q new };
+    ghost worked = { λ desk p old q new. Works desk
+        (record { spawner = S.Spawner; stopper = P.Stopper; listener = N.Listener; link = N.Link.Link; clock = C.Clock }) p old q new };
 
     fn work<K: Keeper + Drop, R: Wait>(
         &mut self,

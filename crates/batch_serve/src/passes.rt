@@ -51,7 +51,8 @@ fn give_pass<K: Keeper + Drop, W, R: Wait>(
     worker.pass = mem::replace(next, new);
 }
 
-/// Gives each worker a pass, the first one the next pass. No two of them have the same number. The next pass is then another one.
+/// Gives each worker a pass, the first one the next pass. No two of them have the same number. The next pass is then another one, which has
+/// made no calls.
 pub(crate) fn give_passes<K: Keeper + Drop, W, R: Wait>(
     rt: &R,
     desk: &SharedDesk<K>,
@@ -61,6 +62,7 @@ pub(crate) fn give_passes<K: Keeper + Drop, W, R: Wait>(
     requires next { IsPassOf desk.now next.old }
     requires fresh { places_of next.old.number next.old.seen ≡ [] }
     ensures next { IsPassOf desk.now next.new }
+    ensures fresh { places_of next.new.number next.new.seen ≡ [] }
     ensures given { AtEach (IsGiven desk.now) workers.old workers.new }
     ensures distinct { AreDistinct nat_eq (map (λ w. w.pass.number) workers.new) }
 {

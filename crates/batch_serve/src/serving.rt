@@ -5,7 +5,6 @@ ghost use Rattle.batch_desk.specs.Answers.{IsInOrder};
 ghost use Rattle.cli_words.specs.Commands.{command_of};
 ghost use Rattle.cli_words.specs.Ranges.{IsInRange};
 ghost use Rattle.counted_lock.specs.Passes.{IsPassOf};
-ghost use Rattle.batch_crew.specs.Lanes.{RanFor};
 ghost use Rattle.counted_lock.specs.Views.{places_of};
 ghost use Rattle.batch_serve.specs.Ends.{status_of};
 ghost use Rattle.batch_serve.specs.Works.{IsReady};
@@ -130,23 +129,8 @@ where
     requires empty { desk.entries ≡ [] }
     requires in_order { IsInOrder K.told K.faults desk }
     requires ready { All (λ w. IsReady N.is_out w.kind) workers.old }
-    ensures served { IsServed (record {
-      ran = RanFor S.ran S.faults;
-      stopped = P.stopped;
-      stop_faults = P.faults;
-      listener = record {
-        is_out = N.is_out;
-        has_ended = N.has_ended;
-        faults = N.faults;
-        accepted = N.accepted;
-        taken_back = N.taken_back;
-        left = N.Link.left;
-        taken = N.Link.taken;
-        link_faults = N.Link.faults;
-      };
-      gives = C.gives;
-      clock_ended = C.has_ended;
-    }) workers.old workers.new (W.taken sink.old) (W.taken sink.new) result.status result.journal }
+    ensures served { IsServed (record { spawner = S.Spawner; stopper = P.Stopper; listener = N.Listener; link = N.Link.Link; clock = C.Clock })
+        workers.old workers.new (W.taken sink.old) (W.taken sink.new) result.status result.journal }
     ensures journal { IsSome result.journal }
     ensures opened { IfSome result.journal (λ j. (j.seats ≡ desk.seats) × (j.limit ≡ desk.limit) × (j.opened.state ≡ desk.opened)) }
     ensures kept { IfSome result.journal (λ j. KeepsHistory K.told K.faults result.keeper j) }
@@ -201,23 +185,8 @@ where
     requires some { 1 ≤ options.seats }
     requires few { options.seats ≤ 32 }
     requires ready { All (λ w. IsReady N.is_out w.kind) workers.old }
-    ensures served { IsServed (record {
-      ran = RanFor S.ran S.faults;
-      stopped = P.stopped;
-      stop_faults = P.faults;
-      listener = record {
-        is_out = N.is_out;
-        has_ended = N.has_ended;
-        faults = N.faults;
-        accepted = N.accepted;
-        taken_back = N.taken_back;
-        left = N.Link.left;
-        taken = N.Link.taken;
-        link_faults = N.Link.faults;
-      };
-      gives = C.gives;
-      clock_ended = C.has_ended;
-    }) workers.old workers.new (W.taken sink.old) (W.taken sink.new) result.status result.journal }
+    ensures served { IsServed (record { spawner = S.Spawner; stopper = P.Stopper; listener = N.Listener; link = N.Link.Link; clock = C.Clock })
+        workers.old workers.new (W.taken sink.old) (W.taken sink.new) result.status result.journal }
     ensures opened { IfSome result.journal (λ j. IsOpenedFor options (K.told keeper) j) }
     ensures kept { IfSome result.journal (λ j. KeepsHistory K.told K.faults result.keeper j) }
     ensures untouched { result.journal ≡ None → K.told result.keeper ≡ K.told keeper }
@@ -273,40 +242,10 @@ pub fn serve_words<
 where
     N::Link: Send,
     requires ready { All (λ w. IsReady N.is_out w.kind) workers.old }
-    ensures served { IsServed (record {
-      ran = RanFor S.ran S.faults;
-      stopped = P.stopped;
-      stop_faults = P.faults;
-      listener = record {
-        is_out = N.is_out;
-        has_ended = N.has_ended;
-        faults = N.faults;
-        accepted = N.accepted;
-        taken_back = N.taken_back;
-        left = N.Link.left;
-        taken = N.Link.taken;
-        link_faults = N.Link.faults;
-      };
-      gives = C.gives;
-      clock_ended = C.has_ended;
-    }) workers.old workers.new (W.taken sink.old) (W.taken sink.new) result.status result.journal }
-    ensures promises { IfSome result.journal (λ j. KeepsPromises (record {
-      ran = RanFor S.ran S.faults;
-      stopped = P.stopped;
-      stop_faults = P.faults;
-      listener = record {
-        is_out = N.is_out;
-        has_ended = N.has_ended;
-        faults = N.faults;
-        accepted = N.accepted;
-        taken_back = N.taken_back;
-        left = N.Link.left;
-        taken = N.Link.taken;
-        link_faults = N.Link.faults;
-      };
-      gives = C.gives;
-      clock_ended = C.has_ended;
-    }) workers.old workers.new result.status j) }
+    ensures served { IsServed (record { spawner = S.Spawner; stopper = P.Stopper; listener = N.Listener; link = N.Link.Link; clock = C.Clock })
+        workers.old workers.new (W.taken sink.old) (W.taken sink.new) result.status result.journal }
+    ensures promises { IfSome result.journal (λ j. KeepsPromises (record { spawner = S.Spawner; stopper = P.Stopper; listener = N.Listener; link = N.Link.Link; clock = C.Clock })
+        workers.old workers.new result.status j) }
     ensures opened { IfSome result.journal (λ j. IfSome (serve_options (command_of words.now)) (λ options. IsOpenedFor options (K.told keeper) j)) }
     ensures kept { IfSome result.journal (λ j. KeepsHistory K.told K.faults result.keeper j) }
     ensures untouched { result.journal ≡ None → K.told result.keeper ≡ K.told keeper }

@@ -128,6 +128,8 @@ fn zero_moment() -> Moment {
 impl<'a, R: Time + Drop> Clock for CountClock<'a, R> {
     ghost gives = { λ _ _ _. ⊤ };
 
+    ghost pauses = { λ _ _ _. ⊤ };
+
     ghost has_ended = { λ c. c.has_ended };
 
     fn now(&mut self) -> Moment {

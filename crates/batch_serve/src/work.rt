@@ -1,4 +1,5 @@
 //! What workers do.
+ghost use Rattle.std.specs.Prelude.{◌≡◌};
 ghost use Rattle.counted_lock.specs.Passes.{IsPassOf, LockIdentity};
 ghost use Rattle.shared_desk.specs.Openings.{Opening};
 ghost use Rattle.shared_desk.specs.Sharing.{Caller};
@@ -27,5 +28,6 @@ pub trait Work {
         requires pass { IsPassOf desk.now pass }
         requires ready { can_work self.old }
         ensures pass { IsPassOf desk.now result }
+        ensures number { result.number ≡ pass.number }
         ensures works { worked desk.now pass self.old result self.new };
 }

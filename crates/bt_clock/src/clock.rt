@@ -8,6 +8,9 @@ pub trait Clock {
     /// A relation between the clock, a moment that it gives, and the clock after that.
     ghost gives: { Self → ℕ → Self → Type 0 };
 
+    /// A relation between the clock, what a pause returned, and the clock after it.
+    ghost pauses: { Self → Bool → Self → Type 0 };
+
     /// Whether a pause said that the service is to end.
     ghost has_ended: { Self → Bool };
 
@@ -18,5 +21,6 @@ pub trait Clock {
 
     /// Waits a little. Returns false once the service is to end.
     fn pause(&mut self) -> bool
+        ensures told { pauses self.old result self.new }
         ensures ended { has_ended self.new ≡ (has_ended self.old || not result) };
 }

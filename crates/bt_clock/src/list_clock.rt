@@ -1,6 +1,6 @@
 //! A clock in memory.
 ghost use Rattle.std.specs.Prelude.{◌≡◌, false};
-ghost use Rattle.bt_clock.specs.Lists.{GivesNext};
+ghost use Rattle.bt_clock.specs.Lists.{GivesNext, Pauses};
 
 use crate::clock::Clock;
 use bt_base::Moment;
@@ -58,6 +58,8 @@ fn zero_moment() -> Moment
 
 impl Clock for ListClock {
     ghost gives = { GivesNext };
+
+    ghost pauses = { Pauses };
 
     ghost has_ended = { λ clock. clock.ended };
 

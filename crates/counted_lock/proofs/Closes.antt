@@ -1,12 +1,15 @@
 -- What `close` leaves, closed or not.
-use Rattle.std.proofs.Common.{◌≡◌, ℕ, ◌<◌, List, length, get_or, refl, ap, sym, ◌∙◌, subst, arith}
+use Rattle.std.proofs.Common.{◌≡◌, ℕ, suc, ◌<◌, ◌≤◌, List, [], ◌∷◌, length, get_or, refl, ap, sym, ◌∙◌, subst, arith}
 use Rattle.std.specs.Prelude.{All}
 use mathlib.Core.List.{IsPrefix}
+use lib.ListN.{length-map}
+use Rattle.atomic_table.specs.Table.{Me}
 use Rattle.atomic_table.specs.Seated.{TableId}
 use Rattle.counted_lock.specs.declared.views.Stamped.{Stamped}
 use Rattle.counted_lock.specs.declared.views.View.{View}
-use Rattle.counted_lock.specs.Turns.{LeavesObject}
-use Rattle.counted_lock.specs.Passes.{PassState, LockIdentity, IsPassOf, lent}
+use Rattle.counted_lock.specs.Views.{places_of, times_in}
+use Rattle.counted_lock.specs.Turns.{SeesWhole, LeavesObject}
+use Rattle.counted_lock.specs.Passes.{PassState, LockIdentity, IsPassOf, numbers_of, lent}
 use Rattle.counted_lock.specs.Closing.{IsAt, IsLentAt, AreLent, AreBack, IsShared, whole}
 use Rattle.counted_lock.proofs.Prefixes.{prefix_trans}
 use Rattle.counted_lock.proofs.Loops.{same_lists}
@@ -21,21 +24,62 @@ module _ {E O : Type 0} where
       subst (IsLentAt t') (sym (lents.each k d inside)) record { table = p.table ∙ same; real = p.real; part = refl }
 
   -- a pass that lends its part and gets it back is as before
-  once_more : (p : PassState E O) → p.parts ≡ 1 → whole (lent p) ≡ p
-  once_more p e = ap (λ (n : ℕ). record { table = p.table; number = p.number; origin = p.origin; seen = p.seen; parts = n }) (sym e)
+  once_more : (p : PassState E O) → p.parts ≡ p.number ∷ [] → whole (lent p) ≡ p
+  once_more p e = ap (λ (ns : List ℕ). record { table = p.table; number = p.number; origin = p.origin; seen = p.seen; parts = ns }) (sym e)
 
   pub as_before : (l : LockIdentity O) (ps qs rs : List (PassState E O)) → All (IsPassOf l) ps → AreLent ps qs → AreBack qs rs → rs ≡ ps
   as_before l ps qs rs all lents backs = same_lists rs ps (backs.count ∙ lents.count) (λ k d lt.
       let inside : k < length qs = subst (λ (n : ℕ). k < n) (sym lents.count) lt in
       backs.each k d inside ∙ (ap whole (lents.each k d lt) ∙ once_more (get_or ps k d) (all k d lt).2))
 
+  pub numbers_length : (ps : List (PassState E O)) → length (numbers_of ps) ≡ length ps
+  numbers_length ps = length-map ps (λ p. p.number)
+
+  -- passes that are lent have the numbers that they had
+  pub lent_numbers : (ps qs : List (PassState E O)) → AreLent ps qs → numbers_of qs ≡ numbers_of ps
+  lent_numbers [] [] l = refl
+  lent_numbers [] (q ∷ qs) l = let n = l.count in absurd (omega arith)
+  lent_numbers (p ∷ ps) [] l = let n = l.count in absurd (omega arith)
+  lent_numbers (p ∷ ps) (q ∷ qs) l =
+      let head : q ≡ lent p = l.each 0 p (omega arith) in let n = l.count in
+      let tail = lent_numbers ps qs record { count = omega arith; each = λ k d lt. l.each (suc k) d (omega arith) } in
+      cc (ap (λ (z : PassState E O). z.number) head, tail)
+
+  -- what holds of the numbers and the seen histories of passes holds of the same passes while they are lent
+  pub all_lent : (P : PassState E O → Type 0) → ((p : PassState E O) → P p → P (lent p)) → (ps qs : List (PassState E O)) → AreLent ps qs → All P ps → All P qs
+  all_lent P go ps qs l all k d lt =
+      let inside : k < length ps = subst (λ (n : ℕ). k < n) l.count lt in subst P (sym (l.each k d inside)) (go (get_or ps k d) (all k d inside))
+
+  -- and the other way round
+  pub all_before : (P : PassState E O → Type 0) → ((p : PassState E O) → P (lent p) → P p) → (ps qs : List (PassState E O)) → AreLent ps qs → All P qs → All P ps
+  all_before P go ps qs l all k d lt =
+      let inside : k < length qs = subst (λ (n : ℕ). k < n) (sym l.count) lt in go (get_or ps k d) (subst P (l.each k d lt) (all k d inside))
+
+module _ {S E O : Type 0} where
+  -- what the passes have seen begins the whole history, if it begins what the seat had seen before
+  pub all_begin : (ps : List (PassState E O)) (v : View E O) (me after : Me S (View E O)) → me.0.seen ≡ v.seen → SeesWhole me after
+      → All (λ p. IsPrefix p.seen v.seen) ps → All (λ p. IsPrefix p.seen after.0.seen) ps
+  all_begin ps v me after same sees all k d lt =
+      let first = subst (λ (z : List (Stamped E)). IsPrefix (get_or ps k d).seen z) (sym same) (all k d lt) in
+      let whole : sees.history ≡ after.0.seen = ap (λ (w : View E O). w.seen) (sym sees.view) in
+      subst (λ (z : List (Stamped E)). IsPrefix (get_or ps k d).seen z) whole (prefix_trans (get_or ps k d).seen me.0.seen sees.history first sees.begins)
+
 module _ {D E O : Type 0} (entries : D → List E) (origin : D → O) where
-  pub shared : (o : O) (v w : View E O) (object : D) (ps : List (PassState E O)) → w.seen ≡ v.seen → w.parts ≡ length ps
-      → All (λ p. IsPrefix p.seen v.seen) ps → LeavesObject entries origin o w object → IsShared entries object ps
-  shared o v w object ps same parts all l = record {
-    history = l.history;
+  -- the seat stands for the passes, and each of them was told what the seat has seen
+  pub shared : (o : O) (v : View E O) (object : D) (ps : List (PassState E O)) → v.parts ≡ numbers_of ps → All (λ p. IsPrefix p.seen v.seen) ps
+      → All (λ p. places_of p.number v.seen ≡ places_of p.number p.seen) ps → LeavesObject entries origin o v object → IsShared entries object ps
+  shared o v object ps parts seen placed l = record {
+    history = v.seen;
     journal = l.journal;
-    seen = λ k d lt. prefix_trans (get_or ps k d).seen w.seen l.history
-        (subst (λ (z : List (Stamped E)). IsPrefix (get_or ps k d).seen z) (sym same) (all k d lt)) l.begins;
-    others = λ n le. l.unmade n (omega arith);
+    seen = seen;
+    placed = placed;
+    distinct = λ n. subst (λ (ns : List ℕ). times_in n ns ≤ 1) parts (l.distinct n);
+    others = λ n none. l.others n (ap (times_in n) parts ∙ none);
   }
+
+  -- the same of the view that the seat had before it told the passes, which is the same view
+  pub shared_with : (o : O) (v w : View E O) (object : D) (ps : List (PassState E O)) → v ≡ w → w.parts ≡ numbers_of ps
+      → All (λ p. IsPrefix p.seen w.seen) ps → All (λ p. places_of p.number w.seen ≡ places_of p.number p.seen) ps
+      → LeavesObject entries origin o v object → IsShared entries object ps
+  shared_with o v w object ps same parts seen placed l =
+      shared o w object ps parts seen placed (subst (λ (z : View E O). LeavesObject entries origin o z object) same l)

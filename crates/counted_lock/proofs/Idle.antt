@@ -1,5 +1,5 @@
 -- Passes that stay idle.
-use Rattle.std.proofs.Common.{◌≡◌, ℕ, ◌<◌, List, [], ◌∷◌, refl, ap, sym, subst, arith}
+use Rattle.std.proofs.Common.{◌≡◌, ℕ, List, [], ◌∷◌, refl, ap, sym, subst}
 use Rattle.std.specs.Prelude.{Option, Some}
 use Rattle.atomic_table.specs.Table.{Me, Splits}
 use Rattle.counted_lock.specs.declared.views.Stamped.{Stamped}
@@ -21,11 +21,11 @@ module _ {S E O : Type 0} where
   idle_same me after e idle = subst (λ (m : Me S (View E O)). IsIdleView m.0) (sym e) idle
 
 module _ {D E O : Type 0} (entries : D → List E) (origin : D → O) (about : D) where
-  pub gives_taken : (id n : ℕ) (me after : Me (Option D) (View E O)) → TakesNumber me after (Some n) → IsIdleView me.0 → 0 < me.0.parts
+  pub gives_taken : (id n : ℕ) (me after : Me (Option D) (View E O)) → TakesNumber me after (Some n) → IsIdleView me.0
       → Splits (IsKept entries origin about) id after.0 (without_spare after.0) (new_pass after.0)
-  gives_taken id n me after t idle part = let p = idle.plain in
+  gives_taken id n me after t idle = let p = idle.plain in
       subst (λ (m : Me (Option D) (View E O)). Splits (IsKept entries origin about) id m.0 (without_spare m.0) (new_pass m.0)) (sym t.0)
-      (gives_number entries origin about id (with_spare n me.0) idle.free p.not_sole (omega arith))
+      (gives_number entries origin about id (with_spare n me.0) idle.free p.not_sole)
 
 pub number_is : {E O : Type 0} (t : TableId) (n : ℕ) (vs : List (View E O)) → IsIdle n vs → n ≡ (pass_of t vs).number
 number_is t n [] e = e

@@ -1,5 +1,5 @@
--- Steps of kinds 7 to 9, which take numbers for new passes and tell what was seen, keep the rule, and tell what their types say.
-use Rattle.std.proofs.Common.{◌≡◌, ◌≢◌, ℕ, ◌+◌, ◌-◌, ◌<◌, ◌≤◌, ◌==◌, ⊎_elim, eq-eqb, ne_eqb, Bool, true, false, List, [], ◌∷◌, ◌++◌, length, set}
+-- The steps that take numbers for new passes and that tell what was seen keep the rule, and tell what their types say.
+use Rattle.std.proofs.Common.{◌≡◌, ◌≢◌, ℕ, ◌+◌, ◌<◌, ◌≤◌, ◌==◌, ⊎_elim, eq-eqb, ne_eqb, Bool, true, false, List, [], ◌∷◌, ◌++◌, length, set, length-append}
 use Rattle.std.proofs.Common.{refl, ap, sym, ◌∙◌, subst, arith}
 use Rattle.std.specs.Prelude.{Option, Some, None, nat_le}
 use mathlib.Core.Option.{some, none}
@@ -15,13 +15,14 @@ use Rattle.atomic_table.proofs.Lists.{at_set, at_snoc, set_else, exchanged}
 use Rattle.counted_lock.specs.declared.views.Stage.TheVariants.{Free}
 use Rattle.counted_lock.specs.declared.views.Stamped.{Stamped}
 use Rattle.counted_lock.specs.declared.views.View.{View}
-use Rattle.counted_lock.specs.Views.{turn_of, hold_of, is_fresh, total, is_number, one_if, places_of, turn_in, hold_in, parts_in, owned_in}
-use Rattle.counted_lock.specs.Views.{with_spare, without_spare, new_pass, with_parts, note, spent, as_sole, longer_if, longer, joined, caught_up}
+use Rattle.counted_lock.specs.Views.{turn_of, hold_of, is_fresh, total, is_number, one_if, places_of, turn_in, hold_in, parts_in, listed_in, owned_in, times_in}
+use Rattle.counted_lock.specs.Views.{first_of, rest_of, with_spare, without_spare, new_pass, with_parts, note, spent, as_sole, longer_if, longer, joined, caught_up}
 use Rattle.counted_lock.specs.Rule.{Sees, Fits, Kept, IsKept}
 use Rattle.counted_lock.specs.Plays.{Numbered, Counted, CaughtUp}
 use Rattle.counted_lock.proofs.Prefixes.{prefix_self, prefix_shorter}
 use Rattle.counted_lock.proofs.Places.{places_between, places_none}
 use Rattle.counted_lock.proofs.Totals.{total_set, total_snoc, total_at, total_two}
+use Rattle.counted_lock.proofs.Numbers.{first_rest_length, first_rest_times, times_append}
 use Rattle.counted_lock.proofs.Kept.{changed, quiet, allowed}
 
 -- the longer of two prefixes of a list is a prefix of it, and has both as prefixes
@@ -56,15 +57,18 @@ module _ {D E O : Type 0} (entries : D → List E) (origin : D → O) (about : D
   own_once true m n e = omega arith
   own_once false m n e = omega arith
 
-  -- kind 7, if it went through
+  -- a compare-exchange on the passes made, if it went through
   numbered : (h : List (Stamped E)) (gate made : ℕ) (home : maybe.Option (Option D)) (views : List V) (id : ℕ) (v : V) → K h gate made home views
-      → get_elem? views id ≡ some v → v.spare ≡ None → v.sole ≡ false → 0 < v.parts
+      → get_elem? views id ≡ some v → v.spare ≡ None → v.sole ≡ false → 0 < length v.parts
       → K h gate (made + 1) home (set views id (with_spare made v))
   numbered h gate made home views id v k at no_spare not_sole part =
       let w : V = with_spare made v in let sees = k.each id v at in
       let owned : (n : ℕ) → total (owned_in n) (set views id w) ≡ total (owned_in n) views + one_if (made == n) =
       λ n. (let a = total_set (owned_in n) views id v w at in let b : one_if (is_number v.spare n) ≡ 0 =
       ap (λ (z : Option ℕ). one_if (is_number z n)) no_spare in omega arith) in
+      let listed : (n : ℕ) → total (listed_in n) (set views id w) ≡ total (listed_in n) views + one_if (made == n) =
+      λ n. (let a = total_set (listed_in n) views id v w at in omega arith) in
+      let new_one : (n : ℕ) → made + 1 ≤ n → one_if (made == n) ≡ 0 = λ n le. ap one_if (ne_eqb made n (λ (e : made ≡ n). omega arith)) in
       changed entries origin about h gate made home views id v w gate (made + 1) home k at
       record {
         alike = sees.alike;
@@ -89,6 +93,11 @@ module _ {D E O : Type 0} (entries : D → List E) (origin : D → O) (about : D
       }))
       (omega arith) k.gate_small (omega arith) (omega arith)
       (λ n. dite (ℕ_discrete made n)
+      (λ (same : made ≡ n). (let a = listed n in let b : one_if (made == n) ≡ 1 = ap one_if (eq-eqb made n same) in let c = k.listed_made n (omega arith) in
+      omega arith))
+      (λ (ne : made ≢ n). (let a = listed n in let b : one_if (made == n) ≡ 0 = ap one_if (ne_eqb made n ne) in let c = k.listed_once n in omega arith)))
+      (λ n le. (let a = listed n in let b = new_one n le in let c = k.listed_made n (omega arith) in omega arith))
+      (λ n. dite (ℕ_discrete made n)
       (λ (same : made ≡ n). (let a = owned n in let b : one_if (made == n) ≡ 1 = ap one_if (eq-eqb made n same) in let c = (k.unmade n (omega arith)).0 in
       omega arith))
       (λ (ne : made ≢ n). (let a = owned n in let b : one_if (made == n) ≡ 0 = ap one_if (ne_eqb made n ne) in let c = k.once n in omega arith)))
@@ -103,7 +112,7 @@ module _ {D E O : Type 0} (entries : D → List E) (origin : D → O) (about : D
       (λ not_lt. (let le : made ≤ n = omega arith in let a = (k.unmade n le).0 in let b = total_at (owned_in n) views id v at in
       let c : one_if (is_number v.number n) ≡ 1 = ap one_if (ap (λ (z : Option ℕ). is_number z n) own ∙ eq-eqb n n refl) in absurd (omega arith)))
 
-  pub numbers : (slots id old : ℕ) (me : M) → me.0.spare ≡ None → me.0.sole ≡ false → 0 < me.0.parts
+  pub numbers : (slots id old : ℕ) (me : M) → me.0.spare ≡ None → me.0.sole ≡ false → 0 < length me.0.parts
       → Allows Rule slots id me 2 (λ n. either (n == old) (old + 1) n) (λ n m. Numbered me n m old)
   numbers slots id old me no_spare not_sole part = allowed entries origin about slots id me 2 (λ n. either (n == old) (old + 1) n)
       (λ n m. Numbered me n m old) (λ h gate made home views k at _.
@@ -150,9 +159,9 @@ module _ {D E O : Type 0} (entries : D → List E) (origin : D → O) (about : D
   -- a load of the passes made
   pub counts : (slots id : ℕ) (me : M) → Allows Rule slots id me 2 (λ n. n) (λ n m. Counted me n m)
   counts slots id me = allowed entries origin about slots id me 2 (λ n. n) (λ n m. Counted me n m) (λ h gate made home views k at _.
-      let sees = k.each id me.0 at in let within : me.0.parts ≤ made = (let a = total_at parts_in views id me.0 at in let b = k.parts in omega arith) in
-      dite (ℕ_discrete made me.0.parts)
-      (λ (same : made ≡ me.0.parts). (
+      let sees = k.each id me.0 at in let within : length me.0.parts ≤ made = (let a = total_at parts_in views id me.0 at in let b = k.parts in omega arith) in
+      dite (ℕ_discrete made (length me.0.parts))
+      (λ (same : made ≡ length me.0.parts). (
         as_sole me.0,
         keeps,
         tt,
@@ -179,7 +188,7 @@ module _ {D E O : Type 0} (entries : D → List E) (origin : D → O) (about : D
         },
         record { carried = refl; some = k.some_made; within = within; all = λ _. refl; fewer = λ ne. absurd (ne same) },
       ))
-      (λ (ne : made ≢ me.0.parts). (
+      (λ (ne : made ≢ length me.0.parts). (
         me.0,
         keeps,
         tt,
@@ -202,9 +211,10 @@ module _ {D E O : Type 0} (entries : D → List E) (origin : D → O) (about : D
       → get_elem? views id ≡ some v
       → Sees (origin about) h made left → Sees (origin about) h made right → turn_in left ≡ turn_in v → hold_in left ≡ hold_in v → turn_in right ≡ 0
       → hold_in right ≡ 0
-      → parts_in left + parts_in right ≡ parts_in v → ((n : ℕ) → owned_in n left + owned_in n right ≡ owned_in n v)
+      → parts_in left + parts_in right ≡ parts_in v → ((n : ℕ) → listed_in n left + listed_in n right ≡ listed_in n v)
+      → ((n : ℕ) → owned_in n left + owned_in n right ≡ owned_in n v)
       → K h gate made home (set views id left ++ right ∷ [])
-  forked h gate made home views id v left right k at sees_left sees_right turn hold no_turn no_hold parts owns = let vs : List V = set views id left in
+  forked h gate made home views id v left right k at sees_left sees_right turn hold no_turn no_hold parts lists owns = let vs : List V = set views id left in
       let sum : (f : V → ℕ) → f left + f right ≡ f v → total f (vs ++ right ∷ []) ≡ total f views =
       λ f e. (let a = total_set f views id v left at in let b = total_snoc f vs right in omega arith) in record {
         each = λ j u e. ⊎_elim (λ (old : get_elem? vs j ≡ some u). ⊎_elim (λ (t : (j ≡ id) × (left ≡ u)). subst (Sees (origin about) h made) t.1 sees_left)
@@ -214,6 +224,8 @@ module _ {D E O : Type 0} (entries : D → List E) (origin : D → O) (about : D
         gate_small = k.gate_small;
         parts = let a = sum parts_in parts in let b = k.parts in omega arith;
         some_made = k.some_made;
+        listed_once = λ n. (let a = sum (listed_in n) (lists n) in let b = k.listed_once n in omega arith);
+        listed_made = λ n le. sum (listed_in n) (lists n) ∙ k.listed_made n le;
         once = λ n. (let a = sum (owned_in n) (owns n) in let b = k.once n in omega arith);
         unmade = λ n le. (sum (owned_in n) (owns n) ∙ (k.unmade n le).0, (k.unmade n le).1);
         slot = slot_same h (total hold_in views) (total hold_in (vs ++ right ∷ [])) home (sum hold_in (omega arith)) k.slot;
@@ -233,9 +245,9 @@ module _ {D E O : Type 0} (entries : D → List E) (origin : D → O) (about : D
     kept = go r.history r.gate r.made r.home s.views r.kept at;
   }
 
-  -- kind 8, for a new pass
-  pub gives_number : (id : ℕ) (v : V) → v.stage ≡ Free → v.sole ≡ false → 0 < v.parts → Splits Rule id v (without_spare v) (new_pass v)
-  gives_number id v free not_sole part = splits id v (without_spare v) (new_pass v)
+  -- a view is split for a new pass
+  pub gives_number : (id : ℕ) (v : V) → v.stage ≡ Free → v.sole ≡ false → Splits Rule id v (without_spare v) (new_pass v)
+  gives_number id v free not_sole = splits id v (without_spare v) (new_pass v)
       (λ h gate made home views k at. (let sees = k.each id v at in let t : turn_of v.stage ≡ 0 = ap turn_of free in
       forked h gate made home views id v (without_spare v) (new_pass v) k at
       record {
@@ -259,13 +271,13 @@ module _ {D E O : Type 0} (entries : D → List E) (origin : D → O) (about : D
         seated = omega arith;
         alone = λ e. absurd (cc e);
       }
-      refl refl refl refl (omega arith) (λ n. omega arith)))
+      refl refl refl refl (first_rest_length v.parts) (λ n. first_rest_times n v.parts) (λ n. omega arith)))
 
-  -- kind 8, for a note that stands for k passes
-  pub notes : (id k : ℕ) (v : V) → v.stage ≡ Free → k ≤ v.parts → Splits Rule id v (with_parts (v.parts - k) v) (note k v)
-  notes id n v free few = splits id v (with_parts (v.parts - n) v) (note n v)
+  -- a view is split for a note that stands for the first of its passes
+  pub notes : (id : ℕ) (v : V) → v.stage ≡ Free → Splits Rule id v (with_parts (rest_of v.parts) v) (note (first_of v.parts) v)
+  notes id v free = splits id v (with_parts (rest_of v.parts) v) (note (first_of v.parts) v)
       (λ h gate made home views k at. (let sees = k.each id v at in let t : turn_of v.stage ≡ 0 = ap turn_of free in
-      forked h gate made home views id v (with_parts (v.parts - n) v) (note n v) k at
+      forked h gate made home views id v (with_parts (rest_of v.parts) v) (note (first_of v.parts) v) k at
       record {
         alike = sees.alike;
         begins = sees.begins;
@@ -286,12 +298,12 @@ module _ {D E O : Type 0} (entries : D → List E) (origin : D → O) (about : D
         seated = omega arith;
         alone = λ e. absurd (cc e);
       }
-      refl refl refl refl (omega arith) (λ n. omega arith)))
+      refl refl refl refl (first_rest_length v.parts) (λ n. first_rest_times n v.parts) (λ n. omega arith)))
 
-  -- kind 8, for a note that tells what was seen
-  pub tells : (id : ℕ) (v : V) → Splits Rule id v v (note 0 v)
-  tells id v = splits id v v (note 0 v) (λ h gate made home views k at. (let sees = k.each id v at in
-      forked h gate made home views id v v (note 0 v) k at sees
+  -- a view is split for a note that tells what was seen, and stands for no pass
+  pub tells : (id : ℕ) (v : V) → Splits Rule id v v (note [] v)
+  tells id v = splits id v v (note [] v) (λ h gate made home views k at. (let sees = k.each id v at in
+      forked h gate made home views id v v (note [] v) k at sees
       record {
         alike = sees.alike;
         begins = sees.begins;
@@ -302,7 +314,7 @@ module _ {D E O : Type 0} (entries : D → List E) (origin : D → O) (about : D
         seated = omega arith;
         alone = λ e. absurd (cc e);
       }
-      refl refl refl refl (omega arith) (λ n. omega arith)))
+      refl refl refl refl (omega arith) (λ n. omega arith) (λ n. omega arith)))
 
   sees_spent : (h : List (Stamped E)) (made : ℕ) → Sees {E = E} {O = O} (origin about) h made spent
   sees_spent h made = record {
@@ -317,7 +329,7 @@ module _ {D E O : Type 0} (entries : D → List E) (origin : D → O) (about : D
   }
 
   -- a view takes in another, which is used up
-  merges : (id other : ℕ) (v w both : V) → w.stage ≡ Free → turn_in both ≡ turn_in v → hold_in both ≡ hold_in v → parts_in both ≡ v.parts + w.parts
+  merges : (id other : ℕ) (v w both : V) → w.stage ≡ Free → turn_in both ≡ turn_in v → hold_in both ≡ hold_in v → both.parts ≡ v.parts ++ w.parts
       → ((n : ℕ) → owned_in n both ≡ owned_in n v)
       → ((h : List (Stamped E)) (made : ℕ) → Sees (origin about) h made v → Sees (origin about) h made w → Sees (origin about) h made both)
       → Joins Rule id v other w both spent
@@ -328,6 +340,7 @@ module _ {D E O : Type 0} (entries : D → List E) (origin : D → O) (about : D
       let sees : Sees (origin about) h r.made both = go h r.made (k.each id v at) (k.each other w there) in
       let two : (f : V → ℕ) → total f (set vs other spent) + f v + f w ≡ total f s.views + f both + f spent =
       λ f. (let a = total_set f s.views id v both at in let b = total_set f vs other w spent also in omega arith) in
+      let lists : (n : ℕ) → listed_in n both ≡ listed_in n v + listed_in n w = λ n. ap (times_in n) parts ∙ times_append n v.parts w.parts in
       record {
         history = h;
         gate = r.gate;
@@ -342,15 +355,18 @@ module _ {D E O : Type 0} (entries : D → List E) (origin : D → O) (about : D
               (at_set vs other j spent u e);
           turns = let a = two turn_in in let b = k.turns in omega arith;
           gate_small = k.gate_small;
-          parts = let a = two parts_in in let b = k.parts in omega arith;
+          parts = let a = two parts_in in let b = k.parts in let c : parts_in both ≡ parts_in v + parts_in w = ap length parts
+              ∙ length-append v.parts w.parts in omega arith;
           some_made = k.some_made;
+          listed_once = λ n. (let a = two (listed_in n) in let b = k.listed_once n in let c = lists n in omega arith);
+          listed_made = λ n le. (let a = two (listed_in n) in let b = k.listed_made n le in let c = lists n in omega arith);
           once = λ n. (let a = two (owned_in n) in let b = k.once n in let c = owns n in omega arith);
           unmade = λ n le. (let a = two (owned_in n) in let b = (k.unmade n le).0 in let c = owns n in omega arith, (k.unmade n le).1);
           slot = slot_same h (total hold_in s.views) (total hold_in (set vs other spent)) r.home (let a = two hold_in in omega arith) k.slot;
         };
       }
 
-  -- kind 9, of a note that tells
+  -- a view takes in a note, and is told what that has seen
   pub joins : (id other : ℕ) (v w : V) → v.stage ≡ Free → w.stage ≡ Free → Joins Rule id v other w (joined v w) spent
   joins id other v w v_free w_free = merges id other v w (joined v w) w_free refl refl refl (λ n. refl) (λ h made sv sw.
       let tv : turn_of v.stage ≡ 0 = ap turn_of v_free in let held : is_fresh v.stage ≡ false = ap is_fresh v_free in
@@ -365,9 +381,9 @@ module _ {D E O : Type 0} (entries : D → List E) (origin : D → O) (about : D
         alone = λ e. absurd (cc e);
       })
 
-  -- kind 9, of a note that stands for passes
-  pub gathers : (id other : ℕ) (v w : V) → v.stage ≡ Free → w.stage ≡ Free → Joins Rule id v other w (with_parts (v.parts + w.parts) v) spent
-  gathers id other v w v_free w_free = merges id other v w (with_parts (v.parts + w.parts) v) w_free refl refl refl (λ n. refl) (λ h made sv sw.
+  -- a view takes in a note that stands for passes
+  pub gathers : (id other : ℕ) (v w : V) → v.stage ≡ Free → w.stage ≡ Free → Joins Rule id v other w (with_parts (v.parts ++ w.parts) v) spent
+  gathers id other v w v_free w_free = merges id other v w (with_parts (v.parts ++ w.parts) v) w_free refl refl refl (λ n. refl) (λ h made sv sw.
       let tv : turn_of v.stage ≡ 0 = ap turn_of v_free in let held : is_fresh v.stage ≡ false = ap is_fresh v_free in
       record {
         alike = sv.alike;
@@ -434,6 +450,8 @@ module _ {D E O : Type 0} (entries : D → List E) (origin : D → O) (about : D
             gate_small = k.gate_small;
             parts = sum parts_in refl ∙ k.parts;
             some_made = k.some_made;
+            listed_once = λ n. (let a = sum (listed_in n) refl in let b = k.listed_once n in omega arith);
+            listed_made = λ n le. sum (listed_in n) refl ∙ k.listed_made n le;
             once = λ n. (let a = sum (owned_in n) refl in let b = k.once n in omega arith);
             unmade = λ n le. (sum (owned_in n) refl ∙ (k.unmade n le).0, (k.unmade n le).1);
             slot = slot_same r.history (total hold_in s.views) (total hold_in vs) r.home (sum hold_in refl) k.slot;

@@ -1,4 +1,4 @@
--- Steps of kinds 1 to 6 keep the rule, and tell what their types say.
+-- The steps of a turn keep the rule, and tell what their types say.
 use Rattle.std.proofs.Common.{◌≡◌, ◌≢◌, ℕ, ◌+◌, ◌%◌, ◌^◌, ◌<◌, ◌≤◌, ⊎_elim, eq-eqb, ne_eqb, true, false, List, [], ◌∷◌, ◌++◌, map, length, set, refl}
 use Rattle.std.proofs.Common.{ap, sym, ◌∙◌, subst, arith, length-append}
 use Rattle.std.specs.Prelude.{Option, Some}
@@ -15,12 +15,12 @@ use Rattle.counted_lock.specs.declared.views.Stage.TheVariants.{Free, Turn, Fres
 use Rattle.counted_lock.specs.declared.views.Stamped.{Stamped}
 use Rattle.counted_lock.specs.declared.views.View.{View}
 use Rattle.counted_lock.specs.Views.{turn_of, hold_of, is_fresh, total, is_number, one_if, places_of, entry_of, stamped, turn_in, hold_in, parts_in}
-use Rattle.counted_lock.specs.Views.{owned_in, staged, with_seen}
+use Rattle.counted_lock.specs.Views.{listed_in, owned_in, staged, with_seen}
 use Rattle.counted_lock.specs.Rule.{Sees, Fits, Kept, IsKept}
 use Rattle.counted_lock.specs.Plays.{TurnTaken, Looked, SlotTaken, Released, GivenBack, Entered}
 use Rattle.counted_lock.proofs.Prefixes.{prefix_self, prefix_more, last_same}
-use Rattle.counted_lock.proofs.Places.{places_other}
-use Rattle.counted_lock.proofs.Totals.{total_set, total_at, total_two, total_below}
+use Rattle.counted_lock.proofs.Places.{append_nil, places_other}
+use Rattle.counted_lock.proofs.Totals.{total_set, total_at, total_two, total_below, total_below_in}
 use Rattle.counted_lock.proofs.Kept.{hold_below, fresh_turn, quiet, sees_staged, allowed}
 
 module _ {D E O : Type 0} (entries : D → List E) (origin : D → O) (about : D) where
@@ -43,8 +43,15 @@ module _ {D E O : Type 0} (entries : D → List E) (origin : D → O) (about : D
       let e : total hold_in views ≡ total hold_in (set views id w) = (let a = total_set hold_in views id v w at in omega arith) in
       subst (λ (z : ℕ). Fits entries origin about h z home) e slot
 
-  -- kind 1
-  pub takes_turn : (slots id : ℕ) (me : M) → me.0.stage ≡ Free → 0 < me.0.parts → Allows Rule slots id me 1 (λ _. 1) (λ n m. TurnTaken me n m)
+  -- no other view has the turn if one is known to stand for all passes, and does not have it
+  none_has_turn : (h : List (Stamped E)) (gate made : ℕ) (home : maybe.Option (Option D)) (views : List V) (id : ℕ) (v : V) → K h gate made home views
+      → get_elem? views id ≡ some v → v.stage ≡ Free → v.sole ≡ true → gate ≡ 0
+  none_has_turn h gate made home views id v k at free sole =
+      let a = total_below_in turn_in parts_in views id v (λ j u e. (k.each j u e).seated) at in let all = (k.each id v at).alone sole in
+      let b = k.parts in let c = k.turns in let t : turn_of v.stage ≡ 0 = ap turn_of free in omega arith
+
+  -- a swap of 1 into the gate
+  pub takes_turn : (slots id : ℕ) (me : M) → me.0.stage ≡ Free → 0 < length me.0.parts → Allows Rule slots id me 1 (λ _. 1) (λ n m. TurnTaken me n m)
   takes_turn slots id me free part = allowed entries origin about slots id me 1 (λ _. 1) (λ n m. TurnTaken me n m) (λ h gate made home views k at _.
       let sees = k.each id me.0 at in
       dite (ℕ_discrete gate 0)
@@ -64,7 +71,7 @@ module _ {D E O : Type 0} (entries : D → List E) (origin : D → O) (about : D
               (let a : turn_of me.0.stage ≡ 0 = ap turn_of free in omega arith) (omega arith) refl (λ n. refl)
               (slot_stays h views id me.0 (staged Turn me.0) home at (sym (ap hold_of free)) k.slot);
         },
-        record { carried = refl; taken = λ _. refl; busy = λ ne. absurd (ne zero_gate) },
+        record { carried = refl; taken = λ _. refl; busy = λ ne. absurd (ne zero_gate); alone = λ _. zero_gate },
       ))
       (λ (busy : gate ≢ 0). (
         me.0,
@@ -81,10 +88,15 @@ module _ {D E O : Type 0} (entries : D → List E) (origin : D → O) (about : D
               omega arith) (omega arith) refl (λ n. refl)
               (slot_stays h views id me.0 me.0 home at refl k.slot);
         },
-        record { carried = refl; taken = λ e. absurd (busy e); busy = λ _. refl },
+        record {
+          carried = refl;
+          taken = λ e. absurd (busy e);
+          busy = λ _. refl;
+          alone = none_has_turn h gate made home views id me.0 k at free;
+        },
       )))
 
-  -- kind 6, in a turn
+  -- a load of the count in the turn
   pub looks : (slots id : ℕ) (me : M) → me.0.stage ≡ Turn → Allows Rule slots id me 0 (λ n. n) (λ n m. Looked me n m)
   looks slots id me turn = allowed entries origin about slots id me 0 (λ n. n) (λ n m. Looked me n m) (λ h gate made home views k at _.
       let sees = k.each id me.0 at in let w : V = with_seen Fresh h me.0 in let mine : turn_of me.0.stage ≡ 1 = ap turn_of turn in (
@@ -115,7 +127,7 @@ module _ {D E O : Type 0} (entries : D → List E) (origin : D → O) (about : D
         record { history = h; carried = refl; view = refl; begins = sees.begins; placed = sees.placed; counted = refl },
       ))
 
-  -- kind 2
+  -- a load by which the slot is taken
   taken : (id : ℕ) (me : M) → me.0.stage ≡ Fresh → me.1 ≡ [] → (h : List (Stamped E)) (gate made : ℕ) (home : maybe.Option (Option D)) (views : List V)
       → K h gate made home views → get_elem? views id ≡ some me.0
       → (w : V) × (a : Act (Option D)) × Valid (home ∷ []) [] a
@@ -159,7 +171,7 @@ module _ {D E O : Type 0} (entries : D → List E) (origin : D → O) (about : D
       × Rule record { words = length h ∷ gate ∷ made ∷ []; homes = homes_after (home ∷ []) cs a; views = set views id w }
       × SlotTaken entries origin me (length h) (w, carried_after cs a)) (sym free) (taken id me fresh free h gate made home views k at))
 
-  -- kind 3
+  -- a load by which the slot is returned
   pub gives_back : (slots id : ℕ) (me : M) (v : V) (d : D) → me ≡ (v, (0, Some d) ∷ []) → v.stage ≡ Holding → entries d ≡ map entry_of v.seen
       → ((x : O) → v.origin ≡ Some x → origin d ≡ x) → ((o : O) × (v.origin ≡ Some o))
       → Allows Rule slots id me 0 (λ n. n) (λ n m. GivenBack me n m)
@@ -189,7 +201,7 @@ module _ {D E O : Type 0} (entries : D → List E) (origin : D → O) (about : D
         record { carried = refl; view = refl },
       )))
 
-  -- kind 4
+  -- a store of 0 into the gate
   pub releases : (slots id : ℕ) (me : M) → me.0.stage ≡ Fresh → me.1 ≡ [] → Allows Rule slots id me 1 (λ _. 0) (λ _ m. Released me 0 m)
   releases slots id me fresh free = allowed entries origin about slots id me 1 (λ _. 0) (λ _ m. Released me 0 m) (λ h gate made home views k at _.
       let sees = k.each id me.0 at in let w : V = staged Free me.0 in
@@ -219,12 +231,8 @@ module _ {D E O : Type 0} (entries : D → List E) (origin : D → O) (about : D
   other_number : (o : Option ℕ) (m n : ℕ) → o ≡ Some m → m ≢ n → is_number o n ≡ false
   other_number o m n e ne = ap (λ (z : Option ℕ). is_number z n) e ∙ ne_eqb m n ne
 
-  appended : (ws : List ℕ) → ws ++ [] ≡ ws
-  appended [] = refl
-  appended (w ∷ ws) = ap (λ z. w ∷ z) (appended ws)
-
   unmoved : (n : ℕ) (h : List (Stamped E)) (x : Stamped E) (m : ℕ) → x.maker ≡ Some m → m ≢ n → places_of n (h ++ x ∷ []) ≡ places_of n h
-  unmoved n h x m e ne = places_other n h x (other_number x.maker m n e ne) ∙ appended (places_of n h)
+  unmoved n h x m e ne = places_other n h x (other_number x.maker m n e ne) ∙ append_nil (places_of n h)
 
   -- two views do not have one number
   apart : (views : List V) (i j : ℕ) (v u : V) (m n : ℕ) → ((n : ℕ) → total (owned_in n) views ≤ 1) → get_elem? views i ≡ some v
@@ -254,6 +262,8 @@ module _ {D E O : Type 0} (entries : D → List E) (origin : D → O) (about : D
     gate_small = k.gate_small;
     parts = let a = total_set parts_in views id v w at in let b = k.parts in omega arith;
     some_made = k.some_made;
+    listed_once = λ n. (let a = total_set (listed_in n) views id v w at in let b = k.listed_once n in omega arith);
+    listed_made = λ n le. (let a = total_set (listed_in n) views id v w at in let b = k.listed_made n le in omega arith);
     once = λ n. (let a = total_set (owned_in n) views id v w at in let b = k.once n in omega arith);
     unmade = λ n le. (let a = total_set (owned_in n) views id v w at in let b = (k.unmade n le).0 in omega arith, blank n le ∙ (k.unmade n le).1);
     slot = held_slot home h (h ++ x ∷ []) (total hold_in views) (total hold_in (set views id w)) k.slot (let a = total_at hold_in views id v at in
@@ -264,7 +274,7 @@ module _ {D E O : Type 0} (entries : D → List E) (origin : D → O) (about : D
   carried_same : (d d₂ : D) → ◌≡◌ {A = List (ℕ × Option D)} ((0, Some d) ∷ []) ((0, Some d₂) ∷ []) → d ≡ d₂
   carried_same d d₂ e = let p : ◌≡◌ {A = ℕ × Option D} (0, Some d) (0, Some d₂) = cc e in let q : Some d ≡ Some d₂ = ap (λ (y : ℕ × Option D). y.1) p in cc q
 
-  -- kind 5
+  -- an add to the count
   pub enters : (slots id : ℕ) (me : M) (v : V) (d : D) (e : E) → me ≡ (v, (0, Some d) ∷ []) → v.stage ≡ Holding → ((n : ℕ) × (v.number ≡ Some n))
       → entries d ≡ map entry_of v.seen ++ e ∷ [] → length (entries d) < 2 ^ 64
       → Allows Rule slots id me 0 (λ n. (n + 1) % 2 ^ 64) (λ n m. Entered entries origin me n m)

@@ -1,6 +1,6 @@
 -- What each kind of step tells the seat that makes it. `me` is its view before the step and the slots that it carries, `after` the
 -- same after the step, and `found` the word that the step found.
-use Rattle.std.specs.Prelude.{◌≡◌, ◌≢◌, ℕ, ◌≤◌, ◌<◌, List, [], ◌∷◌, ◌++◌, map, length, Option, Some}
+use Rattle.std.specs.Prelude.{◌≡◌, ◌≢◌, ℕ, ◌≤◌, ◌<◌, true, List, [], ◌∷◌, ◌++◌, map, length, Option, Some}
 use mathlib.Core.List.{IsPrefix}
 use Rattle.atomic_table.specs.Table.{Me}
 use Rattle.counted_lock.specs.declared.views.Stage.TheVariants.{Free, Turn, Fresh, Holding}
@@ -9,13 +9,14 @@ use Rattle.counted_lock.specs.declared.views.View.{View}
 use Rattle.counted_lock.specs.Views.{places_of, entry_of, stamped, staged, with_seen, with_spare, as_sole, longer, caught_up}
 
 module _ {S E O : Type 0} (me : Me S (View E O)) (found : ℕ) (after : Me S (View E O)) where
-  -- kind 1, a swap of 1 into the gate: if the word was 0, the seat has the turn
+  -- a swap of 1 into the gate: if the word was 0, the seat has the turn. It was 0 if the seat is known to stand for all passes
   pub record TurnTaken : Type 0 where
     pub carried : after.1 ≡ me.1
     pub taken : found ≡ 0 → after.0 ≡ staged Turn me.0
     pub busy : found ≢ 0 → after.0 ≡ me.0
+    pub alone : me.0.sole ≡ true → found ≡ 0
 
-  -- kind 6, a load of the count in the turn: the seat has then seen the whole history, in which it has no entries that it had not seen
+  -- a load of the count in the turn: the seat has then seen the whole history, in which it has no entries that it had not seen
   pub record Looked : Type 0 where
     pub history : List (Stamped E)
     pub carried : after.1 ≡ me.1
@@ -24,18 +25,18 @@ module _ {S E O : Type 0} (me : Me S (View E O)) (found : ℕ) (after : Me S (Vi
     pub placed : (n : ℕ) → me.0.number ≡ Some n → places_of n history ≡ places_of n me.0.seen
     pub counted : found ≡ length history
 
-  -- kind 4, a store of 0 into the gate: the seat does not have the turn any more
+  -- a store of 0 into the gate: the seat does not have the turn any more
   pub record Released : Type 0 where
     pub carried : after.1 ≡ []
     pub view : after.0 ≡ staged Free me.0
 
-  -- kind 3, a load after the object was exchanged back: the seat does not hold the slot any more
+  -- a load after the object was exchanged back: the seat does not hold the slot any more
   pub record GivenBack : Type 0 where
     pub carried : after.1 ≡ []
     pub view : after.0 ≡ staged Fresh me.0
 
-  -- kind 7, a compare-exchange on the passes made, from a number to the next: if it went through, that number is for a new pass. It is
-  -- above the seat's own, and what the seat has seen has no entries under it
+  -- a compare-exchange on the passes made, from a number to the next: if it went through, that number is for a new pass. It is above the
+  -- seat's own, and what the seat has seen has no entries under it
   pub record Numbered (old : ℕ) : Type 0 where
     pub carried : after.1 ≡ me.1
     pub made : found ≡ old → after.0 ≡ with_spare old me.0
@@ -43,8 +44,8 @@ module _ {S E O : Type 0} (me : Me S (View E O)) (found : ℕ) (after : Me S (Vi
     pub above : found ≡ old → (n : ℕ) → me.0.number ≡ Some n → n < old
     pub unused : found ≡ old → places_of old me.0.seen ≡ []
 
-  -- kind 6 outside of a turn, a load of the count: what a note has brought is seen. Of what was seen and what was brought, one is a
-  -- prefix of the other, and the longer one stays
+  -- a load of the count outside of a turn: what a note has brought is seen. Of what was seen and what was brought, one is a prefix of
+  -- the other, and the longer one stays
   pub record CaughtUp : Type 0 where
     pub carried : after.1 ≡ me.1
     pub view : after.0 ≡ caught_up me.0
@@ -56,12 +57,12 @@ module _ {S E O : Type 0} (me : Me S (View E O)) (found : ℕ) (after : Me S (Vi
   pub record Counted : Type 0 where
     pub carried : after.1 ≡ me.1
     pub some : 0 < found
-    pub within : me.0.parts ≤ found
-    pub all : found ≡ me.0.parts → after.0 ≡ as_sole me.0
-    pub fewer : found ≢ me.0.parts → after.0 ≡ me.0
+    pub within : length me.0.parts ≤ found
+    pub all : found ≡ length me.0.parts → after.0 ≡ as_sole me.0
+    pub fewer : found ≢ length me.0.parts → after.0 ≡ me.0
 
 module _ {D E O : Type 0} (entries : D → List E) (origin : D → O) (me : Me (Option D) (View E O)) (found : ℕ) (after : Me (Option D) (View E O)) where
-  -- kind 2, a load before the object is exchanged for nothing: the seat holds the slot. The journal of the object is the history
+  -- a load before the object is exchanged for nothing: the seat holds the slot. The journal of the object is the history
   pub record SlotTaken : Type 0 where
     pub object : D
     pub carried : after.1 ≡ (0, Some object) ∷ []
@@ -69,8 +70,8 @@ module _ {D E O : Type 0} (entries : D → List E) (origin : D → O) (me : Me (
     pub journal : entries object ≡ map entry_of me.0.seen
     pub same_origin : (x : O) → me.0.origin ≡ Some x → origin object ≡ x
 
-  -- kind 5, an add to the count: the entry that the object's journal has more than the history is added to the history, under the
-  -- number of the pass. The object is the one in the slot that the seat carries
+  -- an add to the count: the entry that the object's journal has more than the history is added to the history, under the number of the
+  -- pass. The object is the one in the slot that the seat carries
   pub record Entered : Type 0 where
     pub carried : after.1 ≡ me.1
     pub view : (d : D) (e : E) → me.1 ≡ (0, Some d) ∷ [] → entries d ≡ map entry_of me.0.seen ++ e ∷ []

@@ -10,11 +10,11 @@ use Rattle.atomic_table.specs.Table.{State}
 use Rattle.counted_lock.specs.declared.views.Stage.TheVariants.{Free}
 use Rattle.counted_lock.specs.declared.views.Stamped.{Stamped}
 use Rattle.counted_lock.specs.declared.views.View.{View}
-use Rattle.counted_lock.specs.Views.{turn_of, is_fresh, total, places_of, entry_of, stamped, turn_in, hold_in, parts_in, owned_in}
+use Rattle.counted_lock.specs.Views.{turn_of, is_fresh, total, places_of, entry_of, stamped, turn_in, hold_in, parts_in, listed_in, owned_in}
 
 -- the view of the first pass, which has seen the object's journal
 abbrev pub first_view : {E O : Type 0} → O → List E → View E O
-first_view o es = record { number = Some 0; spare = None; parts = 1; sole = false; origin = Some o; seen = map (stamped None) es; told = []; stage = Free }
+first_view o es = record { number = Some 0; spare = None; parts = 0 ∷ []; sole = false; origin = Some o; seen = map (stamped None) es; told = []; stage = Free }
 
 -- What a view knows is so: `o` is the origin of the object, `h` the history, and `made` the number of passes made.
 pub record Sees {E O : Type 0} (o : O) (h : List (Stamped E)) (made : ℕ) (v : View E O) : Type 0 where
@@ -30,9 +30,9 @@ pub record Sees {E O : Type 0} (o : O) (h : List (Stamped E)) (made : ℕ) (v : 
   -- no entry has the number that it has for a new pass
   pub unused : (n : ℕ) → v.spare ≡ Some n → places_of n h ≡ []
   -- it has the turn only if it stands for a pass
-  pub seated : turn_of v.stage ≤ v.parts
+  pub seated : turn_of v.stage ≤ length v.parts
   -- if it is known to stand for all passes, it does
-  pub alone : v.sole ≡ true → v.parts ≡ made
+  pub alone : v.sole ≡ true → length v.parts ≡ made
 
 module _ {D E O : Type 0} (entries : D → List E) (origin : D → O) (about : D) where
   -- The slot is empty exactly if a view holds it, and then one view does. Otherwise it has the object, whose journal is the history without
@@ -47,9 +47,12 @@ module _ {D E O : Type 0} (entries : D → List E) (origin : D → O) (about : D
     -- the gate is 0 or 1. It is 1 exactly if a view has the turn, and no two views have it
     pub turns : total turn_in views ≡ gate
     pub gate_small : gate ≤ 1
-    -- each pass made is a part of exactly one view
+    -- The views stand for as many passes as were made. No number is in the parts of two views, or twice in the parts of one, and no number
+    -- from `made` on is in any. So each number below `made` is in the parts of exactly one view.
     pub parts : total parts_in views ≡ made
     pub some_made : 0 < made
+    pub listed_once : (n : ℕ) → total (listed_in n) views ≤ 1
+    pub listed_made : (n : ℕ) → made ≤ n → total (listed_in n) views ≡ 0
     -- no number is that of two views, or that of a view and for a new pass, or for two new passes
     pub once : (n : ℕ) → total (owned_in n) views ≤ 1
     -- a number that is not below the passes made is that of no view, is for no new pass, and has no entries

@@ -9,7 +9,7 @@ use Rattle.atomic_table.specs.declared.shared.Shared.{Shared}
 use Rattle.counted_lock.specs.declared.views.Stage.TheVariants.{Fresh, Holding}
 use Rattle.counted_lock.specs.declared.views.Stamped.{Stamped}
 use Rattle.counted_lock.specs.declared.views.View.{View}
-use Rattle.counted_lock.specs.Views.{places_of, entry_of, stamped, staged, with_seen, with_spare, longer}
+use Rattle.counted_lock.specs.Views.{places_of, entry_of, stamped, staged, with_seen, with_spare, times_in, longer}
 
 -- the table `t` has three words and one slot, and `z` is the same table
 abbrev pub IsTable : TableId → TableId → Type 0
@@ -65,16 +65,15 @@ module _ {D E O : Type 0} (entries : D → List E) where
     pub journal : entries object ≡ map entry_of v.seen ++ entry ∷ []
     pub view : after ≡ (with_seen Holding (v.seen ++ stamped v.number entry ∷ []) v, (0, Some object) ∷ [])
 
-  -- the object is in the slot. Its journal is a history that begins with what the view has seen, without entries under a number from
-  -- the parts of the view on
+  -- The object is in the slot. Its journal is what the view has seen, which has entries under the numbers in the parts of the view alone.
+  -- No two of these are the same
   pub record Leaves (origin : D → O) (o : O) (v : View E O) (slots : List (Option D)) : Type 0 where
     pub object : D
-    pub history : List (Stamped E)
     pub there : get_elem? slots 0 ≡ some (Some object)
-    pub journal : entries object ≡ map entry_of history
+    pub journal : entries object ≡ map entry_of v.seen
     pub same_origin : origin object ≡ o
-    pub begins : IsPrefix v.seen history
-    pub unmade : (n : ℕ) → v.parts ≤ n → places_of n history ≡ []
+    pub distinct : (n : ℕ) → times_in n v.parts ≤ 1
+    pub others : (n : ℕ) → times_in n v.parts ≡ 0 → places_of n v.seen ≡ []
 
 module _ {S E O : Type 0} where
   -- a number for a new pass was taken, which is above the seat's own and has no entries in what it has seen; or nothing was done
@@ -104,8 +103,7 @@ module _ {S E O : Type 0} where
 module _ {D E O : Type 0} (entries : D → List E) (origin : D → O) where
   -- the same of the object that was taken out of the slot
   pub record LeavesObject (o : O) (v : View E O) (object : D) : Type 0 where
-    pub history : List (Stamped E)
-    pub journal : entries object ≡ map entry_of history
+    pub journal : entries object ≡ map entry_of v.seen
     pub same_origin : origin object ≡ o
-    pub begins : IsPrefix v.seen history
-    pub unmade : (n : ℕ) → v.parts ≤ n → places_of n history ≡ []
+    pub distinct : (n : ℕ) → times_in n v.parts ≤ 1
+    pub others : (n : ℕ) → times_in n v.parts ≡ 0 → places_of n v.seen ≡ []

@@ -1,5 +1,5 @@
 -- The parts of views, the places of entries, and what steps make of views.
-use Rattle.std.specs.Prelude.{ℕ, ◌+◌, ◌-◌, ◌==◌, Bool, true, false, List, [], ◌∷◌, length, nat_le, Option, Some, None}
+use Rattle.std.specs.Prelude.{ℕ, ◌+◌, ◌==◌, Bool, true, false, List, [], ◌∷◌, ◌++◌, length, nat_le, Option, Some, None}
 use Rattle.counted_lock.specs.declared.views.Stage.{Stage}
 use Rattle.counted_lock.specs.declared.views.Stage.TheVariants.{Free, Turn, Fresh, Holding}
 use Rattle.counted_lock.specs.declared.views.Stamped.{Stamped}
@@ -40,6 +40,21 @@ is_number (Some m) n = m == n
 abbrev pub placed_if : Bool → ℕ → List ℕ → List ℕ
 placed_if true k rest = k ∷ rest
 placed_if false k rest = rest
+
+-- how often the number n is in the list
+abbrev pub times_in : ℕ → List ℕ → ℕ
+times_in n [] = 0
+times_in n (m ∷ ns) = one_if (m == n) + times_in n ns
+
+-- the first number of the list alone, if it has one
+abbrev pub first_of : List ℕ → List ℕ
+first_of [] = []
+first_of (n ∷ ns) = n ∷ []
+
+-- the list without its first number
+abbrev pub rest_of : List ℕ → List ℕ
+rest_of [] = []
+rest_of (n ∷ ns) = ns
 
 -- the sum of f over the list
 abbrev pub total : {A : Type 0} → (A → ℕ) → List A → ℕ
@@ -85,7 +100,11 @@ module _ {E O : Type 0} where
 
   -- the number of passes that the view stands for
   abbrev pub parts_in : View E O → ℕ
-  parts_in v = v.parts
+  parts_in v = length v.parts
+
+  -- how often the number n is one of the passes that the view stands for
+  abbrev pub listed_in : ℕ → View E O → ℕ
+  listed_in n v = times_in n v.parts
 
   -- how often the number n is the view's own or for a new pass
   abbrev pub owned_in : ℕ → View E O → ℕ
@@ -104,7 +123,7 @@ module _ {E O : Type 0} where
   with_spare n v = record {
     number = v.number;
     spare = Some n;
-    parts = v.parts + 1;
+    parts = n ∷ v.parts;
     sole = v.sole;
     origin = v.origin;
     seen = v.seen;
@@ -112,12 +131,12 @@ module _ {E O : Type 0} where
     stage = v.stage;
   }
 
-  -- the view without that number and its part
+  -- the view without that number, which is the first of its parts
   abbrev pub without_spare : View E O → View E O
   without_spare v = record {
     number = v.number;
     spare = None;
-    parts = v.parts - 1;
+    parts = rest_of v.parts;
     sole = v.sole;
     origin = v.origin;
     seen = v.seen;
@@ -127,30 +146,31 @@ module _ {E O : Type 0} where
 
   -- the view of the new pass with that number
   abbrev pub new_pass : View E O → View E O
-  new_pass v = record { number = v.spare; spare = None; parts = 1; sole = false; origin = v.origin; seen = v.seen; told = []; stage = Free }
+  new_pass v = record { number = v.spare; spare = None; parts = first_of v.parts; sole = false; origin = v.origin; seen = v.seen; told = []; stage = Free }
 
-  -- the view, standing for k passes
-  abbrev pub with_parts : ℕ → View E O → View E O
-  with_parts k v = record { number = v.number; spare = v.spare; parts = k; sole = false; origin = v.origin; seen = v.seen; told = v.told; stage = v.stage }
+  -- the view, standing for the passes with the numbers ns
+  abbrev pub with_parts : List ℕ → View E O → View E O
+  with_parts ns v = record { number = v.number; spare = v.spare; parts = ns; sole = false; origin = v.origin; seen = v.seen; told = v.told; stage = v.stage }
 
-  -- a note of what the view has seen, which stands for k passes
-  abbrev pub note : ℕ → View E O → View E O
-  note k v = record { number = None; spare = None; parts = k; sole = false; origin = v.origin; seen = v.seen; told = []; stage = Free }
+  -- a note of what the view has seen, which stands for the passes with the numbers ns
+  abbrev pub note : List ℕ → View E O → View E O
+  note ns v = record { number = None; spare = None; parts = ns; sole = false; origin = v.origin; seen = v.seen; told = []; stage = Free }
 
   -- a view that is used up, or new: it knows nothing
   abbrev pub spent : View E O
-  spent = record { number = None; spare = None; parts = 0; sole = false; origin = None; seen = []; told = []; stage = Free }
+  spent = record { number = None; spare = None; parts = []; sole = false; origin = None; seen = []; told = []; stage = Free }
 
   -- the view, known to stand for all passes
   abbrev pub as_sole : View E O → View E O
   as_sole v = record { number = v.number; spare = v.spare; parts = v.parts; sole = true; origin = v.origin; seen = v.seen; told = v.told; stage = v.stage }
 
-  -- the view after it has taken in another: it stands for the passes of both, and is told what that one has seen
+  -- the view after it has taken in another: it stands for its own passes and then for those of the other, and is told what that one
+  -- has seen
   abbrev pub joined : View E O → View E O → View E O
   joined v w = record {
     number = v.number;
     spare = v.spare;
-    parts = v.parts + w.parts;
+    parts = v.parts ++ w.parts;
     sole = false;
     origin = v.origin;
     seen = v.seen;

@@ -1,19 +1,21 @@
 //! Closing a lock.
 //!
-//! A new seat gathers the parts of the passes that are handed in. If these are all parts, no other view has the turn, so the object is
-//! in the slot. Otherwise the parts are returned.
-ghost use Rattle.std.specs.Prelude.{◌≡◌, true, ◌<◌, ◌≤◌, ◌+◌, ℕ, [], map, length, All, Some, None, IfOk, IfErr};
+//! A new seat gathers the parts of the passes that are handed in, which are their numbers. If these are the parts of all passes, no
+//! other view has the turn: the seat takes it, has then seen the whole history, and tells each pass what it has seen. The object is in
+//! the slot. Otherwise the parts are returned, to each pass its own.
+ghost use Rattle.std.specs.Prelude.{◌≡◌, true, ◌<◌, ◌≤◌, ℕ, List, [], ◌∷◌, ◌++◌, map, length, All, Some, None, IfOk, IfErr};
 ghost use mathlib.Core.List.{IsPrefix};
-ghost use Rattle.counted_lock.specs.declared.views.Stage.TheVariants.{Free};
-ghost use Rattle.counted_lock.specs.Views.{entry_of};
-ghost use Rattle.counted_lock.specs.Turns.{IsBoard, LeavesObject};
-ghost use Rattle.counted_lock.specs.Passes.{IsPassOf, lent};
+ghost use Rattle.counted_lock.specs.declared.views.Stage.TheVariants.{Free, Fresh};
+ghost use Rattle.counted_lock.specs.Views.{places_of, entry_of};
+ghost use Rattle.counted_lock.specs.Turns.{IsBoard, SeesWhole, LeavesObject};
+ghost use Rattle.counted_lock.specs.Passes.{IsPassOf, numbers_of, lent};
 ghost use Rattle.counted_lock.specs.Closing.{IsGatherer, Lends, TakesPart, IsAt, IsLentAt, AreLent, AreBack, IsShared};
 
 use crate::lock::CountedLock;
+use crate::notes::tell;
 use crate::pass::Pass;
 use crate::plays::{CatchUp, Count, JoinNote, LendPart, NewSeat, TakePart};
-use crate::steps::{Board, COUNT, MADE, Place};
+use crate::steps::{self, Board, COUNT, MADE, Place};
 use crate::views::Journaled;
 use std::mem;
 
@@ -50,7 +52,7 @@ fn lend<E, O, D: Journaled<E, O>>(
     Pass::of(number, seat)
 }
 
-/// Returns its part to a pass.
+/// Returns its part to a pass, which is the first that the seat has.
 fn give_back<E, O, D: Journaled<E, O>>(
     board: &Board<D, E, O>,
     all: &mut Place<D, E, O>,
@@ -58,10 +60,10 @@ fn give_back<E, O, D: Journaled<E, O>>(
 ) -> Pass<E, O>
     requires board { IsBoard board.now all.old.table_id }
     requires gatherer { IsGatherer all.old.me }
-    requires some { 0 < all.old.me.0.parts }
+    requires first { (ns : List ℕ) × (all.old.me.0.parts ≡ pass.number ∷ ns) }
     requires pass { IsLentAt all.old.table_id pass }
     ensures same { all.new.table_id ≡ all.old.table_id }
-    ensures gathered { IsGatherer all.new.me × (all.new.me.0.parts + 1 ≡ all.old.me.0.parts) }
+    ensures gathered { IsGatherer all.new.me × (all.old.me.0.parts ≡ pass.number ∷ all.new.me.0.parts) }
     ensures back { TakesPart pass result }
 {
     let (number, mut seat) = pass.into_seat();
@@ -81,7 +83,7 @@ fn lend_all<E, O, D: Journaled<E, O>>(
     requires passes { All (IsAt all.old.table_id) passes.old.items }
     ensures same { all.new.table_id ≡ all.old.table_id }
     ensures gatherer { IsGatherer all.new.me }
-    ensures parts { all.new.me.0.parts ≡ all.old.me.0.parts + length passes.old.items }
+    ensures parts { all.new.me.0.parts ≡ all.old.me.0.parts ++ numbers_of passes.old.items }
     ensures heard { All (λ p. IsPrefix p.seen all.new.me.0.seen) passes.old.items }
     ensures lent { AreLent passes.old.items passes.new.items }
 {
@@ -91,7 +93,7 @@ fn lend_all<E, O, D: Journaled<E, O>>(
     }
 }
 
-/// Returns their parts to all passes.
+/// Returns their parts to all passes, in order.
 fn give_back_all<E, O, D: Journaled<E, O>>(
     board: &Board<D, E, O>,
     all: &mut Place<D, E, O>,
@@ -99,7 +101,7 @@ fn give_back_all<E, O, D: Journaled<E, O>>(
 )
     requires board { IsBoard board.now all.old.table_id }
     requires gatherer { IsGatherer all.old.me }
-    requires parts { length passes.old.items ≤ all.old.me.0.parts }
+    requires parts { all.old.me.0.parts ≡ numbers_of passes.old.items }
     requires passes { All (IsLentAt all.old.table_id) passes.old.items }
     ensures back { AreBack passes.old.items passes.new.items }
 {
@@ -109,11 +111,59 @@ fn give_back_all<E, O, D: Journaled<E, O>>(
     }
 }
 
-/// Takes the object out of a lock, by a seat that stands for all passes.
+/// The seat that stands for all passes takes the turn, and has then seen the whole history.
+fn see_whole<E, O, D: Journaled<E, O>>(board: &Board<D, E, O>, all: &mut Place<D, E, O>)
+    requires board { IsBoard board.now all.old.table_id }
+    requires sole { all.old.me.0.sole ≡ true }
+    requires free { all.old.me.0.stage ≡ Free }
+    requires part { 0 < length all.old.me.0.parts }
+    ensures same { all.new.table_id ≡ all.old.table_id }
+    ensures seen { SeesWhole all.old.me all.new.me }
+{
+    steps::take_turn_alone(board, all);
+    steps::look(board, all);
+}
+
+/// Tells a pass what the seat has seen, which begins with what the pass has seen: the pass has no entries in it that it had not seen.
+fn tell_pass<E, O, D: Journaled<E, O>>(
+    board: &Board<D, E, O>,
+    all: &mut Place<D, E, O>,
+    pass: Pass<E, O>,
+) -> Pass<E, O>
+    requires board { IsBoard board.now all.old.table_id }
+    requires pass { IsLentAt all.old.table_id pass }
+    requires begins { IsPrefix pass.seen all.old.me.0.seen }
+    ensures same { (all.new.table_id ≡ all.old.table_id) × (all.new.me ≡ all.old.me) }
+    ensures placed { places_of pass.number all.old.me.0.seen ≡ places_of pass.number pass.seen }
+{
+    let (number, mut seat) = pass.into_seat();
+    tell(board, all, &mut seat);
+    Pass::of(number, seat)
+}
+
+/// Tells all passes what the seat has seen.
+fn tell_all<E, O, D: Journaled<E, O>>(
+    board: &Board<D, E, O>,
+    all: &mut Place<D, E, O>,
+    passes: &mut Vec<Pass<E, O>>,
+)
+    requires board { IsBoard board.now all.old.table_id }
+    requires passes { All (IsLentAt all.old.table_id) passes.old.items }
+    requires begins { All (λ p. IsPrefix p.seen all.old.me.0.seen) passes.old.items }
+    ensures same { (all.new.table_id ≡ all.old.table_id) × (all.new.me ≡ all.old.me) }
+    ensures placed { All (λ p. places_of p.number all.old.me.0.seen ≡ places_of p.number p.seen) passes.old.items }
+{
+    for pass in passes.iter_mut() {
+        let mine = mem::replace(pass, Pass::blank());
+        *pass = tell_pass(board, all, mine);
+    }
+}
+
+/// Takes the object out of a lock, by a seat that stands for all passes and has seen the whole history.
 fn take_out<D: Journaled<E, O>, E, O>(lock: CountedLock<D, E, O>, all: Place<D, E, O>) -> D
     requires table { all.table_id ≡ lock.table }
     requires sole { all.me.0.sole ≡ true }
-    requires free { all.me.0.stage ≡ Free }
+    requires fresh { all.me.0.stage ≡ Fresh }
     ensures { LeavesObject D.entries D.origin lock.origin all.me.0 result }
 {
     let CountedLock { table } = lock;
@@ -124,9 +174,11 @@ fn take_out<D: Journaled<E, O>, E, O>(lock: CountedLock<D, E, O>, all: Place<D, 
 }
 
 impl<D: Journaled<E, O>, E, O> CountedLock<D, E, O> {
-    /// Closes the lock if all passes that were made are handed in, and returns the object. Its journal without numbers is the
-    /// history, which begins with what each pass had seen, and has no entries of other passes. Otherwise the error returns lock and
-    /// passes as they were, and says how many passes were handed in and how many were made. It does not allocate.
+    /// Closes the lock if all passes that were made are handed in, and returns the object. Its journal is the history without
+    /// numbers. The history begins with what each pass has seen, and has no entry under the number of a pass that this pass has not
+    /// seen. No two of the passes have the same number, and there are no entries under any other number. Otherwise the error returns
+    /// lock and passes as they were, and says how many passes were handed in and how many were made. It does not allocate, and does
+    /// not wait.
     pub fn close(self, mut passes: Vec<Pass<E, O>>) -> Result<D, PassesOut<D, E, O>>
         requires passes { All (IsPassOf self) passes.items }
         ensures shared { IfOk result (λ d. IsShared D.entries d passes.items) }
@@ -148,6 +200,8 @@ impl<D: Journaled<E, O>, E, O> CountedLock<D, E, O> {
                 made,
             });
         }
+        see_whole(board, &mut all);
+        tell_all(board, &mut all, &mut passes);
         Ok(take_out(self, all))
     }
 }

@@ -1,5 +1,5 @@
 //! New passes, and passes that tell each other what they have seen.
-ghost use Rattle.std.specs.Prelude.{◌≡◌, ◌<◌, ℕ, true, false, [], Some, None, IfSome};
+ghost use Rattle.std.specs.Prelude.{◌≡◌, ◌<◌, ℕ, true, false, [], length, Some, None, IfSome};
 ghost use mathlib.Core.List.{IsPrefix};
 ghost use Rattle.counted_lock.specs.declared.views.Stage.TheVariants.{Free};
 ghost use Rattle.counted_lock.specs.Views.{places_of, with_spare, joined, caught_up};
@@ -22,7 +22,7 @@ fn take_number<E, O, D: Journaled<E, O>, R: Wait>(
 ) -> Option<u64>
     requires board { IsBoard board.now seat.old.table_id }
     requires idle { IsIdleView seat.old.me.0 }
-    requires part { 0 < seat.old.me.0.parts }
+    requires part { 0 < length seat.old.me.0.parts }
     ensures same { (seat.new.table_id ≡ seat.old.table_id) × (seat.new.id ≡ seat.old.id) }
     ensures taken { TakesNumber seat.old.me seat.new.me result }
 {
@@ -40,7 +40,7 @@ fn take_number<E, O, D: Journaled<E, O>, R: Wait>(
 }
 
 /// Tells `hearer` what `teller` has seen: by a note, and a load of the count, which ties both to one history.
-fn tell<E, O, D: Journaled<E, O>>(
+pub(crate) fn tell<E, O, D: Journaled<E, O>>(
     board: &Board<D, E, O>,
     teller: &mut Place<D, E, O>,
     hearer: &mut Place<D, E, O>,
@@ -58,8 +58,7 @@ fn tell<E, O, D: Journaled<E, O>>(
 
 impl<D: Journaled<E, O>, E, O> CountedLock<D, E, O> {
     /// Makes a new pass, with a number of its own and no entries, which has seen what the given one has seen. None if 2^64 - 1 passes
-    /// were made. It tries
-    /// again if another pass is split at the same moment, and does not allocate.
+    /// were made. It tries again if another pass is split at the same moment, and does not allocate.
     pub fn split<R: Wait>(&self, rt: &R, pass: Pass<E, O>) -> (Pass<E, O>, Option<Pass<E, O>>)
         requires pass { IsPassOf self.now pass }
         ensures same { result.0 ≡ pass }

@@ -1,54 +1,54 @@
 //! What each kind of step on the table tells the seat that makes it. No value of these types is made.
-ghost use Rattle.std.specs.Prelude.{◌≡◌, ◌+◌, ◌-◌};
-ghost use Rattle.counted_lock.specs.Views.{without_spare, new_pass, with_parts, note, joined, spent};
+ghost use Rattle.std.specs.Prelude.{◌≡◌, [], ◌++◌};
+ghost use Rattle.counted_lock.specs.Views.{first_of, rest_of, without_spare, new_pass, with_parts, note, joined, spent};
 ghost use Rattle.counted_lock.specs.Plays.{TurnTaken, Looked, SlotTaken, GivenBack, Released, Entered, Numbered, Counted, CaughtUp};
 
 use crate::views::{Journaled, View};
 use atomic_table::{Join, Play, Split};
 
-/// Kind 1: a swap of 1 into the gate.
+/// A swap of 1 into the gate.
 pub(crate) struct TakeTurn;
 
 impl<S, E, O> Play<S, View<E, O>> for TakeTurn {
     ghost then = { λ _ me found after. TurnTaken me found after };
 }
 
-/// Kind 6: a load of the count by the seat that has the turn.
+/// A load of the count by the seat that has the turn.
 pub(crate) struct Look;
 
 impl<S, E, O> Play<S, View<E, O>> for Look {
     ghost then = { λ _ me found after. Looked me found after };
 }
 
-/// Kind 2: a load by which the seat takes the slot, before the object is exchanged for nothing.
+/// A load by which the seat takes the slot, before the object is exchanged for nothing.
 pub(crate) struct TakeSlot;
 
 impl<E, O, D: Journaled<E, O>> Play<Option<D>, View<E, O>> for TakeSlot {
     ghost then = { λ _ me found after. SlotTaken D.entries D.origin me found after };
 }
 
-/// Kind 3: a load by which the seat returns the slot, after the object was exchanged back.
+/// A load by which the seat returns the slot, after the object was exchanged back.
 pub(crate) struct GiveBack;
 
 impl<S, E, O> Play<S, View<E, O>> for GiveBack {
     ghost then = { λ _ me found after. GivenBack me found after };
 }
 
-/// Kind 4: a store of 0 into the gate.
+/// A store of 0 into the gate.
 pub(crate) struct Release;
 
 impl<S, E, O> Play<S, View<E, O>> for Release {
     ghost then = { λ _ me found after. Released me found after };
 }
 
-/// Kind 5: an add to the count by the seat that holds the slot.
+/// An add to the count by the seat that holds the slot.
 pub(crate) struct Enter;
 
 impl<E, O, D: Journaled<E, O>> Play<Option<D>, View<E, O>> for Enter {
     ghost then = { λ _ me found after. Entered D.entries D.origin me found after };
 }
 
-/// Kind 7: a compare-exchange on the passes made, from a number to the next.
+/// A compare-exchange on the passes made, from a number to the next.
 pub(crate) struct Number;
 
 impl<S, E, O> Play<S, View<E, O>> for Number {
@@ -62,7 +62,7 @@ impl<S, E, O> Play<S, View<E, O>> for Count {
     ghost then = { λ _ me found after. Counted me found after };
 }
 
-/// Kind 6 outside of a turn: a load, at which the seat sees what a note has brought.
+/// A load of the count outside of a turn, at which the seat sees what a note has brought.
 pub(crate) struct CatchUp;
 
 impl<S, E, O> Play<S, View<E, O>> for CatchUp {
@@ -76,7 +76,7 @@ impl<S, E, O> Play<S, View<E, O>> for NewSeat {
     ghost then = { λ _ _ _ after. after.0 ≡ spent };
 }
 
-/// Kind 8: a new pass takes the number that the seat has for it.
+/// A split by which a new pass takes the number that the seat has for it.
 pub(crate) struct GiveNumber;
 
 impl<E, O> Split<View<E, O>> for GiveNumber {
@@ -85,25 +85,25 @@ impl<E, O> Split<View<E, O>> for GiveNumber {
     ghost right = { new_pass };
 }
 
-/// Kind 8: a note has a copy of what the seat has seen, and stands for no pass.
+/// A split for a note, which has a copy of what the seat has seen, and stands for no pass.
 pub(crate) struct CopySeen;
 
 impl<E, O> Split<View<E, O>> for CopySeen {
     ghost left = { λ v. v };
 
-    ghost right = { note 0 };
+    ghost right = { note [] };
 }
 
-/// Kind 8: a note has a copy of what the seat has seen, and one of the passes that the seat stands for.
+/// A split for a note, which has a copy of what the seat has seen, and stands for the first of the seat's passes in its place.
 pub(crate) struct LendPart;
 
 impl<E, O> Split<View<E, O>> for LendPart {
-    ghost left = { λ v. with_parts (v.parts - 1) v };
+    ghost left = { λ v. with_parts (rest_of v.parts) v };
 
-    ghost right = { note 1 };
+    ghost right = { λ v. note (first_of v.parts) v };
 }
 
-/// Kind 9: a seat takes in a note, and is told what that has seen.
+/// A join by which a seat takes in a note: it is told what that has seen, and stands for its own passes and then for those of the note.
 pub(crate) struct JoinNote;
 
 impl<E, O> Join<View<E, O>> for JoinNote {
@@ -112,11 +112,11 @@ impl<E, O> Join<View<E, O>> for JoinNote {
     ghost spent = { spent };
 }
 
-/// Kind 9: a seat takes in a note, and stands for the passes of both.
+/// A join by which a seat takes in a note: it stands for its own passes and then for those of the note.
 pub(crate) struct TakePart;
 
 impl<E, O> Join<View<E, O>> for TakePart {
-    ghost both = { λ v w. with_parts (v.parts + w.parts) v };
+    ghost both = { λ v w. with_parts (v.parts ++ w.parts) v };
 
     ghost spent = { spent };
 }

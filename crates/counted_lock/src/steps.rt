@@ -1,5 +1,5 @@
 //! The steps of one turn on the table of a lock.
-ghost use Rattle.std.specs.Prelude.{◌≡◌, ◌<◌, ◌^◌, [], ◌∷◌, ◌++◌, map, length, Some, None};
+ghost use Rattle.std.specs.Prelude.{◌≡◌, ◌<◌, ◌^◌, true, [], ◌∷◌, ◌++◌, map, length, Some, None};
 ghost use Rattle.counted_lock.specs.declared.views.Stage.TheVariants.{Free, Turn, Fresh, Holding};
 ghost use Rattle.counted_lock.specs.Views.{staged, entry_of};
 ghost use Rattle.counted_lock.specs.Turns.{IsBoard, SeesWhole, OutWith, EntersOne, HasEntered, SeesMore, IsBack, IsNumbered};
@@ -10,7 +10,8 @@ use crate::views::{Journaled, View};
 use atomic_table::{Seat, Shared};
 use std::snapshot::Snapshot;
 use std::sync::Wait;
-use std::thread;
+use std::thread::{self, Parker};
+use std::time::Duration;
 
 /// The table of a lock, as all threads share it.
 pub(crate) type Board<D, E, O> = Shared<Option<D>, View<E, O>, Snapshot<D>, Counting<D, E, O>>;
@@ -27,6 +28,21 @@ pub(crate) const GATE: usize = 1;
 /// The word that counts the passes made, 1 at least.
 pub(crate) const MADE: usize = 2;
 
+/// How many tries a pass makes for the turn, and lets other threads go first after each, before it sleeps between tries.
+const QUICK_TRIES: u32 = 16;
+
+/// How long it then sleeps between two tries, in microseconds.
+const NAP_MICROS: u64 = 50;
+
+/// Lets other threads go first, after so many tries for the turn: for a moment, or once these are many, for `NAP_MICROS`.
+fn let_others_go<R: Wait>(rt: &R, parker: &Parker, tries: u32) {
+    if tries < QUICK_TRIES {
+        thread::yield_now();
+    } else {
+        parker.park_timeout(rt, Duration::from_micros(NAP_MICROS));
+    }
+}
+
 /// Waits for the turn: swaps 1 into the gate until it was 0.
 pub(crate) fn take_turn<E, O, D: Journaled<E, O>, R: Wait>(
     rt: &R,
@@ -35,17 +51,35 @@ pub(crate) fn take_turn<E, O, D: Journaled<E, O>, R: Wait>(
 )
     requires board { IsBoard board.now seat.old.table_id }
     requires free { seat.old.me.0.stage ≡ Free }
-    requires part { 0 < seat.old.me.0.parts }
+    requires part { 0 < length seat.old.me.0.parts }
     ensures same { (seat.new.table_id ≡ seat.old.table_id) × (seat.new.id ≡ seat.old.id) }
     ensures turn { seat.new.me ≡ (staged Turn seat.old.me.0, seat.old.me.1) }
 {
+    let parker = Parker::new();
+    let mut tries = 0u32;
     for _ in rt.forever() {
         if board.swap::<TakeTurn>(seat, GATE, 1) == 0 {
             return;
         }
-        thread::yield_now();
+        let_others_go(rt, &parker, tries);
+        tries = tries.saturating_add(1);
     }
     unreachable!()
+}
+
+/// Takes the turn by one swap, for a seat that stands for all passes: no other seat has the turn then.
+pub(crate) fn take_turn_alone<E, O, D: Journaled<E, O>>(
+    board: &Board<D, E, O>,
+    seat: &mut Place<D, E, O>,
+)
+    requires board { IsBoard board.now seat.old.table_id }
+    requires sole { seat.old.me.0.sole ≡ true }
+    requires free { seat.old.me.0.stage ≡ Free }
+    requires part { 0 < length seat.old.me.0.parts }
+    ensures same { (seat.new.table_id ≡ seat.old.table_id) × (seat.new.id ≡ seat.old.id) }
+    ensures turn { seat.new.me ≡ (staged Turn seat.old.me.0, seat.old.me.1) }
+{
+    board.swap::<TakeTurn>(seat, GATE, 1);
 }
 
 /// Loads the count in the turn: the seat has then seen the whole history.

@@ -64,25 +64,32 @@ fn passes_take_turns_and_close(rt: HostRuntime) -> Result<(), Fail> {
     let (first, Some(second)) = lock.split(&rt, first) else {
         panic!(rt; "no second pass")
     };
+    let (second, Some(third)) = lock.split(&rt, second) else {
+        panic!(rt; "no third pass")
+    };
     let first = add(&rt, &lock, first, 7);
     let (second, seen) = last(&rt, &lock, second);
     assert_eq!(rt; seen, Some(7));
+    let second = add(&rt, &lock, second, 8);
     let (first, second) = lock.meet(first, second);
     let mut passes = Vec::new(rt.alloc());
     passes.push(first)?;
+    passes.push(second)?;
     let Err(out) = lock.close(passes) else {
-        panic!(rt; "closed with one of two passes")
+        panic!(rt; "closed with two of three passes")
     };
-    assert!(rt; out.given == 1 && out.made == 2);
+    assert!(rt; out.given == 2 && out.made == 3);
     let PassesOut {
         lock,
         mut passes,
         ..
     } = out;
-    passes.push(second)?;
+    assert!(rt; passes[0].number() == 0 && passes[1].number() == 1);
+    let third = add(&rt, &lock, third, 9);
+    passes.push(third)?;
     let Ok(numbers) = lock.close(passes) else {
-        panic!(rt; "not closed with both passes")
+        panic!(rt; "not closed with all passes")
     };
-    assert_eq!(rt; numbers.added.len(), 1);
+    assert!(rt; numbers.added.as_slice() == [7, 8, 9].as_slice());
     Ok(())
 }

@@ -39,10 +39,10 @@ pub struct Stamped<E> {
 pub struct View<E, O> {
     /// The number of the pass; None for a note.
     pub number: Option<u64>,
-    /// A number that no pass has yet, for the pass that is split from this one.
+    /// A number that no pass has yet, for the pass that is split from this one. It is then the first of the parts.
     pub spare: Option<u64>,
-    /// The number of passes that it stands for. The parts of all views together are the passes made.
-    pub parts: u64,
+    /// The numbers of the passes that it stands for. Each number given to a pass is in the parts of exactly one view, once.
+    pub parts: LinkedList<u64>,
     /// Whether it is known to stand for all passes made.
     pub sole: bool,
     /// The origin of the object; None for a view that is used up.

@@ -12,5 +12,7 @@ shared_journal d journal passes shared same = record {
   history = shared.history;
   journal = same ∙ shared.journal;
   seen = shared.seen;
+  placed = shared.placed;
+  distinct = shared.distinct;
   others = shared.others;
 }

@@ -26,9 +26,10 @@ pub struct NotClosed<K: Keeper + Drop> {
 
 impl<K: Keeper + Drop> SharedDesk<K> {
     /// Closes the desk if all passes that were made are handed in, and returns its keeper and its journal. The journal is the
-    /// shared history without numbers: it begins with what each pass had seen, and has no calls of other passes. It is legal and
-    /// keeps the laws that stand at `Desk::call`, the keeper tells the tables after it, and counted each keeper fault in it.
-    /// Otherwise the error returns desk and passes as they were. It does not allocate, and does not wait.
+    /// shared history without numbers. That history begins with what each pass has seen, and has no call under the number of a pass
+    /// that this pass has not seen; no two of the passes have the same number, and there are no calls under any other number. It is
+    /// legal and keeps the laws that stand at `Desk::call`, the keeper tells the tables after it, and counted each keeper fault in
+    /// it. Otherwise the error returns desk and passes as they were. It does not allocate, and does not wait.
     pub fn close(self, passes: Vec<Pass>) -> Result<(K, Journal), NotClosed<K>>
         requires passes { All (IsPassOf self) passes.items }
         ensures shared { IfOk result (λ r. IsSharedJournal r.1 passes.items) }

@@ -94,6 +94,8 @@ fn moment_at(ms: u64) -> Moment {
 impl<R: Time + Drop> Clock for SystemClock<R> {
     ghost gives = { λ _ _ _. ⊤ };
 
+    ghost pauses = { λ _ _ _. ⊤ };
+
     ghost has_ended = { λ c. c };
 
     fn now(&mut self) -> Moment {

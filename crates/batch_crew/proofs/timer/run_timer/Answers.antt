@@ -11,7 +11,7 @@ loop-init g c =
     record {
       pass = c.requires.pass;
       number = refl;
-      turns = subst (λ (xs : List ℕ). AreTimerTurns c.args.desk.now.origin g.P.Stopper.stopped g.P.Stopper.faults g.C.Clock.gives start
+      turns = subst (λ (xs : List ℕ). AreTimerTurns c.args.desk.now.origin g.P.Stopper.stopped g.P.Stopper.faults g.C.Clock.gives g.C.Clock.pauses start
           (record { pass = c.args.pass; stopper = c.args.stopper.now; clock = c.args.clock.now; last = None; stopped = xs })) (sym c.new.ensures.items) none;
     }
 
@@ -21,12 +21,12 @@ returns-in-Err-clause-runs g c =
     let start = timer_at_start c.args.pass c.args.stopper.now c.args.clock.now in
     let before : TimerState _ _ = record { pass = c.loop.pass; stopper = c.loop.stopper; clock = c.loop.clock; last = c.loop.progress.last; stopped = c.loop.progress.stopped.items } in
     let now : TimerState _ _ = record { pass = t.pass; stopper = t.stopper; clock = t.clock; last = t.progress.last; stopped = t.progress.stopped.items } in
-    let ends : EndsInTurn o g.P.Stopper.stopped g.P.Stopper.faults g.C.Clock.gives c.in-Err.cut start now =
+    let ends : EndsInTurn o g.P.Stopper.stopped g.P.Stopper.faults g.C.Clock.gives g.C.Clock.pauses c.in-Err.cut start now =
     record { before = before; turns = c.loop.invariant.turns; last = c.in-Err.ensures.turned } in
-    subst (λ why. RunsTimer o g.P.Stopper.stopped g.P.Stopper.faults g.C.Clock.gives c.args.pass c.args.stopper.now c.args.clock.now t.pass t.stopper t.clock why)
+    subst (λ why. RunsTimer o g.P.Stopper.stopped g.P.Stopper.faults g.C.Clock.gives g.C.Clock.pauses c.args.pass c.args.stopper.now c.args.clock.now t.pass t.stopper t.clock why)
     (sym c.into.ensures)
-    (runs_timer o g.P.Stopper.stopped g.P.Stopper.faults g.C.Clock.gives c.args.pass c.args.stopper.now c.args.clock.now t.pass t.stopper t.clock
-    t.progress.last t.progress.stopped.items (end_of c.in-Err.cut) (cut_timer o g.P.Stopper.stopped g.P.Stopper.faults g.C.Clock.gives c.in-Err.cut start now ends))
+    (runs_timer o g.P.Stopper.stopped g.P.Stopper.faults g.C.Clock.gives g.C.Clock.pauses c.args.pass c.args.stopper.now c.args.clock.now t.pass t.stopper t.clock
+    t.progress.last t.progress.stopped.items (end_of c.in-Err.cut) (cut_timer o g.P.Stopper.stopped g.P.Stopper.faults g.C.Clock.gives g.C.Clock.pauses c.in-Err.cut start now ends))
 
 pub returns-then-not-pause-clause-runs : goal.returns-then-not-pause-clause-runs
 returns-then-not-pause-clause-runs g c =
@@ -35,9 +35,16 @@ returns-then-not-pause-clause-runs g c =
     let before : TimerState _ _ = record { pass = c.loop.pass; stopper = c.loop.stopper; clock = c.loop.clock; last = c.loop.progress.last; stopped = c.loop.progress.stopped.items } in
     let turned : TimerState _ _ = record { pass = t.pass; stopper = t.stopper; clock = t.clock; last = t.progress.last; stopped = t.progress.stopped.items } in
     let now : TimerState _ _ = record { pass = t.pass; stopper = t.stopper; clock = c.pause.new.self; last = t.progress.last; stopped = t.progress.stopped.items } in
-    let ends : EndsAfterTurn o g.P.Stopper.stopped g.P.Stopper.faults g.C.Clock.gives start now =
-    record { before = before; turned = turned; turns = c.loop.invariant.turns; turn = c.in_default.ensures.turned; paused = refl } in
-    runs_timer o g.P.Stopper.stopped g.P.Stopper.faults g.C.Clock.gives c.args.pass c.args.stopper.now c.args.clock.now t.pass t.stopper c.pause.new.self
+    let ends : EndsAfterTurn o g.P.Stopper.stopped g.P.Stopper.faults g.C.Clock.gives g.C.Clock.pauses start now =
+    record {
+      before = before;
+      turned = turned;
+      turns = c.loop.invariant.turns;
+      turn = c.in_default.ensures.turned;
+      pause = subst (λ b. g.C.Clock.pauses t.clock b c.pause.new.self) c.if-not-pause.true c.pause.ensures.told;
+      paused = refl;
+    } in
+    runs_timer o g.P.Stopper.stopped g.P.Stopper.faults g.C.Clock.gives g.C.Clock.pauses c.args.pass c.args.stopper.now c.args.clock.now t.pass t.stopper c.pause.new.self
     t.progress.last t.progress.stopped.items Ended ends
 
 pub loop-preserved : goal.loop-preserved
@@ -48,5 +55,6 @@ loop-preserved g c =
     record {
       pass = c.timer_turn-turned.ensures.pass;
       number = c.timer_turn-turned.ensures.number ∙ c.loop.invariant.number;
-      turns = more before turned c.pause.new.self c.loop.invariant.turns c.in_default.ensures.turned;
+      turns = more before turned c.pause.new.self c.loop.invariant.turns c.in_default.ensures.turned
+          (subst (λ b. g.C.Clock.pauses t.clock b c.pause.new.self) c.if-not-pause.false c.pause.ensures.told);
     }

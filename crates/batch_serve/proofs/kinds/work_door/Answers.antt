@@ -2,7 +2,7 @@ use Rattle.std.proofs.Common.{rules, ◌≡◌, Some, ap, refl, subst, sym, ◌�
 use Rattle.counted_lock.specs.Passes.{IsPassOf}
 use Rattle.http_doors.specs.Doors.{ServesAll}
 use Rattle.shared_desk.specs.Askers.{IsSharedExchange}
-use Rattle.batch_serve.proofs.Askers.{desk_stays, service_is}
+use Rattle.batch_serve.proofs.Askers.{desk_stays, number_stays, service_is}
 use Rattle.batch_serve.proofs.kinds.work_door.Goals as goal
 
 pub returns-clause-pass : goal.returns-clause-pass
@@ -11,6 +11,13 @@ returns-clause-pass g c =
     let after = ap (λ t. t.0.desk) c.into_parts-asker.ensures in
     let before = ap (λ s. s.asker.desk) c.make_service-service.ensures in
     subst (λ l. IsPassOf l c.into_pass.result) (after ∙ (leads ∙ (before ∙ c.asker.ensures.desk))) c.into_pass.ensures.made
+
+pub returns-clause-number : goal.returns-clause-number
+returns-clause-number g c =
+    let stays = number_stays _ _ _ c.serve_links-end.ensures.served.leads in
+    let after = c.into_pass.ensures.pass ∙ ap (λ t. t.0.pass) c.into_parts-asker.ensures in
+    let before = ap (λ s. s.asker.pass) c.make_service-service.ensures ∙ c.asker.ensures.pass in
+    ap (λ p. p.number) after ∙ (stays ∙ ap (λ p. p.number) before)
 
 pub returns-clause-works : goal.returns-clause-works
 returns-clause-works g c =

@@ -1,5 +1,5 @@
-use Rattle.std.proofs.Common.{◌≡◌, ◌+◌, ◌<◌, ◌≤◌, ℕ, get_or}
-use Rattle.counted_lock.specs.Passes.{PassState}
+use Rattle.std.proofs.Common.{◌≡◌, ◌<◌, ◌≤◌, ℕ, get_or, drop}
+use Rattle.counted_lock.specs.Passes.{PassState, numbers_of}
 use Rattle.counted_lock.specs.Closing.{IsGatherer, whole}
 use Rattle.counted_lock.proofs.closing.give_back_all.Given as goal
 
@@ -7,7 +7,7 @@ abbrev pub invariant-loop-pass : goal.invariant-loop-pass
 invariant-loop-pass g l = record {
   same : l.all.table_id ≡ l.initial.all.table_id;
   gatherer : IsGatherer l.all.me;
-  parts : l.all.me.0.parts + l.pass-index ≡ l.initial.all.me.0.parts;
+  parts : l.all.me.0.parts ≡ numbers_of (drop l.pass-index l.initial.pass-items);
   back_so_far : (k : ℕ) (d : PassState g.row.E.Denot g.row.O.Denot) → k < l.pass-index → get_or l.pass-items k d ≡ whole (get_or l.initial.pass-items k d);
   rest : (k : ℕ) (d : PassState g.row.E.Denot g.row.O.Denot) → l.pass-index ≤ k → get_or l.pass-items k d ≡ get_or l.initial.pass-items k d;
 }

@@ -1,5 +1,0 @@
-use Rattle.batch.specs.Ready.{AreReady}
-use Rattle.batch.proofs.service.push_seats.Given as goal
-
-abbrev pub invariant-loop-seat : goal.invariant-loop-seat
-invariant-loop-seat g l = AreReady l.workers.items
