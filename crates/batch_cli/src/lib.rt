@@ -7,23 +7,13 @@ mod call;
 mod drill;
 mod export;
 mod formula;
-#[cfg(test)]
-mod formula_tests;
-#[cfg(test)]
-mod keeper_tests;
 mod line;
 mod message;
 mod replay;
 mod run;
-#[cfg(test)]
-mod script_tests;
 mod status;
 mod stopped;
-#[cfg(test)]
-mod store_tests;
 mod tally;
-#[cfg(test)]
-mod tests;
 
 pub use run::run_words;
 pub use status::Status;

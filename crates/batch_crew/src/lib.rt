@@ -16,6 +16,3 @@ pub use cut::LaneEnd;
 pub use lane::run_lane;
 pub use ticking::TICK_GAP_MS;
 pub use timer::run_timer;
-
-#[cfg(test)]
-mod tests;

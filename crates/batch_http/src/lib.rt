@@ -10,6 +10,3 @@ mod service;
 
 pub use connection::serve;
 pub use service::HttpService;
-
-#[cfg(test)]
-mod tests;

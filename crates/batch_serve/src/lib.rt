@@ -16,6 +16,3 @@ pub use serving::{Served, serve_words};
 pub use status::ServeStatus;
 pub use work::Work;
 pub use worker::{Door, Lane, Timer, Worker, WorkerKind};
-
-#[cfg(test)]
-mod tests;

@@ -12,6 +12,3 @@ pub use durations::{MAX_DURATION_MS, duration_ms};
 pub use fault::TimeFault;
 pub use instants::{LAST_INSTANT_NS, instant};
 pub use parts::Civil;
-
-#[cfg(test)]
-mod tests;

@@ -13,6 +13,3 @@ mod table;
 pub use spawner::ProgramSpawner;
 pub use stopper::ProgramStopper;
 pub use table::ProgramTable;
-
-#[cfg(test)]
-mod tests;

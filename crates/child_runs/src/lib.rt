@@ -18,6 +18,3 @@ pub use spawner::Spawner;
 pub use stopper::Stopper;
 pub use stops::{MemoryStopper, SureStopper};
 pub use sure_spawner::SureSpawner;
-
-#[cfg(test)]
-mod tests;

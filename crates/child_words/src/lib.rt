@@ -11,6 +11,3 @@ mod run_names;
 pub use filling::fill;
 pub use names::Names;
 pub use queued::with_words;
-
-#[cfg(test)]
-mod tests;

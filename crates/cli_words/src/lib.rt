@@ -6,8 +6,6 @@
 mod command;
 mod command_name;
 mod number;
-#[cfg(test)]
-mod tests;
 mod values;
 mod words;
 

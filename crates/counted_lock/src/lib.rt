@@ -17,6 +17,3 @@ pub use closing::PassesOut;
 pub use lock::CountedLock;
 pub use pass::{Held, Pass};
 pub use views::{Journaled, Stage, Stamped, View};
-
-#[cfg(test)]
-mod tests;

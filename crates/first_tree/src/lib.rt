@@ -7,6 +7,3 @@ mod nodes;
 mod tree;
 
 pub use tree::{FirstTree, NO_RANK};
-
-#[cfg(test)]
-mod tests;

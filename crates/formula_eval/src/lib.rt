@@ -18,6 +18,3 @@ pub use fault::EvalFault;
 pub use formula::evaluate;
 pub use outcome::{Outcome, Targets, Variable, Variables};
 pub use results::results_text;
-
-#[cfg(test)]
-mod tests;

@@ -8,6 +8,3 @@
 mod door;
 
 pub use door::{DoorEnd, serve_links};
-
-#[cfg(test)]
-mod tests;

@@ -13,6 +13,3 @@ mod names;
 
 pub use framing::{BODY_LIMIT, Framing};
 pub use heads::{FIELD_LIMIT, HEAD_LIMIT, Head, HeadRead, read_head};
-
-#[cfg(test)]
-mod tests;

@@ -7,6 +7,3 @@
 mod laws;
 
 pub use laws::{ends_agree, every_message_is_answered, one_message, only_faults_before_a_message};
-
-#[cfg(test)]
-mod tests;

@@ -14,6 +14,3 @@ pub use link::{Link, write_all};
 pub use memory::{MemoryLink, SureLink};
 pub use pieces::Pieces;
 pub use room::{FILL_BYTES, FillFault, fill};
-
-#[cfg(test)]
-mod tests;

@@ -13,6 +13,3 @@ mod response;
 
 pub use request::{Wanted, read_request};
 pub use response::{error_response, reply_response};
-
-#[cfg(test)]
-mod tests;

@@ -14,6 +14,3 @@ pub use method::{AllowedMethods, Method, Routing, allow, is_head, route_request}
 pub use route::Route;
 pub use table::{find_route, make_router};
 pub use target::{path_segment, query_value, split_target};
-
-#[cfg(test)]
-mod tests;

@@ -15,6 +15,3 @@ pub use entries::{Entries, Entry};
 pub use memory::MemoryStore;
 pub use store::Store;
 pub use sure::SureStore;
-
-#[cfg(test)]
-mod tests;

@@ -13,6 +13,3 @@ pub use key_text::KeyText;
 pub use keyed::Keyed;
 pub use rows::Rows;
 pub use table::{Table, places_are_lists};
-
-#[cfg(test)]
-mod tests;

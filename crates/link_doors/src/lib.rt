@@ -13,6 +13,3 @@ pub use accepted::Accepted;
 pub use listener::Listener;
 pub use memory::MemoryListener;
 pub use sure::SureListener;
-
-#[cfg(test)]
-mod tests;

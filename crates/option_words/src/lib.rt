@@ -5,6 +5,3 @@
 mod options;
 
 pub use options::{read_options, value_of};
-
-#[cfg(test)]
-mod tests;

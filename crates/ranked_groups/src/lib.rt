@@ -9,6 +9,3 @@ mod names;
 mod ranked_groups;
 
 pub use ranked_groups::RankedGroups;
-
-#[cfg(test)]
-mod tests;

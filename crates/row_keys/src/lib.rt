@@ -9,6 +9,3 @@ mod row_key;
 pub use key_numbers::KeyNumbers;
 pub use passes::{are_distinct, are_own_keys_distinct, count_keys};
 pub use row_key::{OwnKey, RowKey, key_of_text};
-
-#[cfg(test)]
-mod tests;

@@ -19,6 +19,3 @@ pub use row::{Row, RowKind, row_of, row_text};
 pub use row_fields::RowFault;
 pub use table_row::TableRow;
 pub use text::{read_row, write_row};
-
-#[cfg(test)]
-mod tests;

@@ -15,6 +15,3 @@ pub use asker::{Asker, exchanges_stand_in_the_history};
 pub use closing::NotClosed;
 pub use ordered::Origin;
 pub use shared::{Pass, SharedDesk};
-
-#[cfg(test)]
-mod tests;

@@ -5,6 +5,3 @@
 mod ledger;
 
 pub use ledger::{Entry, Ledger, held_is_sum};
-
-#[cfg(test)]
-mod tests;

@@ -11,6 +11,3 @@ mod stored_row;
 mod tables;
 
 pub use keeper::StoreKeeper;
-
-#[cfg(test)]
-mod tests;

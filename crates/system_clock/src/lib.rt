@@ -5,6 +5,3 @@
 mod clock;
 
 pub use clock::SystemClock;
-
-#[cfg(test)]
-mod tests;

@@ -10,6 +10,3 @@ mod turns;
 
 pub use link::{MAX_WAIT_SECONDS, TcpLink};
 pub use listener::{BindFault, TcpListener};
-
-#[cfg(test)]
-mod tests;

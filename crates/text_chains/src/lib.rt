@@ -12,6 +12,3 @@ pub use chains::TextChains;
 pub use heads::MOST_BYTES;
 pub use laws::places_cover_rows;
 pub use places::Places;
-
-#[cfg(test)]
-mod tests;

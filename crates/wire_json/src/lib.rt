@@ -8,6 +8,3 @@ mod parts;
 mod reply;
 
 pub use reply::reply_json;
-
-#[cfg(test)]
-mod tests;

@@ -14,6 +14,3 @@ pub use words::{
     prep_state_word, push_exit, push_how, push_run_ending, release_state_word, result_word,
     run_kind_word, run_state_word, success_word, task_state_word, text_or_dash,
 };
-
-#[cfg(test)]
-mod tests;

@@ -1,0 +1,220 @@
+//! Scripts over a store of which each call fails in turn: the status, what is shown, and the tables that the store then contains.
+//! Expected texts are written by hand.
+use crate::run_tests::{ENDED, TAKEN};
+use batch_cli::{Status, run_words};
+use batch_keeper::Keeper;
+use batch_wire::write_tables;
+use bt_base::{MemorySink, MemorySource, Text, Word};
+use keeper_store::{MemoryStore, Store, Stored};
+use std::alloc::{AllocError, Global};
+use std::test::Fail;
+use store_keeper::StoreKeeper;
+
+/// What a script shows and leaves: its first lines, the others, and the tables.
+type Shown = (&'static str, &'static str, &'static str);
+
+const POOL_LINES: &str = "1 201\n1 U15 p 1 1\n1 U11 p steady\n";
+
+const JOB_LINES: &str = "1 201\n1 U15 p 1 1\n1 U11 p steady\n2 201\n";
+
+const TASK_LINES: &str = "1 201\n1 U15 p 1 1\n1 U11 p steady\n2 201\n3 201\n3 U16 j t 1 1\n";
+
+const QUEUED_TABLES: &str = "tables 9\npool p active steady 1 0 1 spread\nnode 1 p 1 running\n\
+    job j p active 0 -\ntask j t running - - 0\nrun 1 task 1 j t queued -\n";
+
+const TAKEN_TABLES: &str = "tables 5\npool p active steady 1 0 1 spread\nnode 1 p 1 running\n\
+    job j p active 0 -\ntask j t running - - 0\nrun 1 task 1 j t taken -\n";
+
+const ENDED_TABLES: &str = "tables 9\npool p active steady 1 0 1 spread\nnode 1 p 1 idle\n\
+    job j p active 0 -\ntask j t completed success 0 0\nrun 1 task 1 j t ended 0\n";
+
+/// An ended task, if the first call fails, the second, and so on up to the tenth, and if none fails.
+const ENDED_SHOWN: [Shown; 11] = [
+    ("", "", "tables 0\n"),
+    (
+        "1 fault\n2 404 PoolNotFound\n3 404 JobNotFound\n",
+        "4 404 RunNotFound\n5 404 RunNotFound\n",
+        "tables 9\n",
+    ),
+    (
+        "1 201\n1 stop fault\n2 201\n2 U15 p 1 1\n2 U11 p steady\n",
+        "3 201\n3 U16 j t 1 1\n4 200\n5 200\n5 U5 j t success\n",
+        ENDED_TABLES,
+    ),
+    (
+        "1 201\n1 U15 p 1 1\n1 stop fault\n2 201\n2 U11 p steady\n",
+        "3 201\n3 U16 j t 1 1\n4 200\n5 200\n5 U5 j t success\n",
+        ENDED_TABLES,
+    ),
+    (
+        POOL_LINES,
+        "2 fault\n3 404 JobNotFound\n4 404 RunNotFound\n5 404 RunNotFound\n",
+        "tables 9\npool p active steady 1 0 1 spread\nnode 1 p 1 idle\n",
+    ),
+    (
+        JOB_LINES,
+        "3 fault\n4 404 RunNotFound\n5 404 RunNotFound\n",
+        "tables 9\npool p active steady 1 0 1 spread\nnode 1 p 1 idle\njob j p active 0 -\n",
+    ),
+    (
+        JOB_LINES,
+        "3 201\n3 stop fault\n4 404 RunNotFound\n4 U16 j t 1 1\n5 409 RunNotTaken\n",
+        QUEUED_TABLES,
+    ),
+    (TASK_LINES, "4 fault\n5 409 RunNotTaken\n", QUEUED_TABLES),
+    (TASK_LINES, "4 200\n5 fault\n", TAKEN_TABLES),
+    (
+        TASK_LINES,
+        "4 200\n5 200\n5 stop fault\n",
+        "tables 9\npool p active steady 1 0 1 spread\nnode 1 p 1 running\n\
+            job j p active 0 -\ntask j t running - - 0\nrun 1 task 1 j t ended 0\n",
+    ),
+    (TASK_LINES, "4 200\n5 200\n5 U5 j t success\n", ENDED_TABLES),
+];
+
+/// A later run, whose opening withdraws the run.
+const LATER: &str = "20 tick\n21 end 1 0\n";
+
+const PLACED_LINES: &str = "1 200\n1 U5 j t active 0\n1 U15 p 2 1\n1 U11 p steady\n1 U16 j t 2 2\n";
+
+const LATER_TABLES: &str = "tables 21\npool p active steady 1 0 1 spread\nnode 2 p 1 running\n\
+    job j p active 0 -\ntask j t running - - 0\nrun 1 task 1 j t withdrawn -\n\
+    run 2 task 2 j t queued -\n";
+
+/// The later run, if the first call fails, the second, and so on up to the eighth, and if none fails.
+const LATER_SHOWN: [Shown; 9] = [
+    ("", "", TAKEN_TABLES),
+    ("", "", TAKEN_TABLES),
+    (
+        "1 fault\n",
+        "2 409 RunWithdrawn\n2 U5 j t active 0\n2 U15 p 2 1\n2 U11 p steady\n2 U16 j t 2 2\n",
+        LATER_TABLES,
+    ),
+    (
+        "1 200\n1 stop fault\n",
+        "2 409 RunWithdrawn\n2 U5 j t active 0\n2 U15 p 2 1\n2 U11 p steady\n2 U16 j t 2 2\n",
+        LATER_TABLES,
+    ),
+    (
+        "1 200\n1 U5 j t active 0\n1 stop fault\n",
+        "2 409 RunWithdrawn\n2 U15 p 2 1\n2 U11 p steady\n2 U16 j t 2 2\n",
+        LATER_TABLES,
+    ),
+    (
+        "1 200\n1 U5 j t active 0\n1 U15 p 2 1\n1 stop fault\n",
+        "2 409 RunWithdrawn\n2 U11 p steady\n2 U16 j t 2 2\n",
+        LATER_TABLES,
+    ),
+    (
+        "1 200\n1 U5 j t active 0\n1 U15 p 2 1\n1 U11 p steady\n1 stop fault\n",
+        "2 409 RunWithdrawn\n2 U16 j t 2 2\n",
+        LATER_TABLES,
+    ),
+    (
+        PLACED_LINES,
+        "2 fault\n",
+        "tables 20\npool p active steady 1 0 1 spread\nnode 2 p 1 running\n\
+            job j p active 0 -\ntask j t running - - 0\nrun 1 task 1 j t withdrawn -\n\
+            run 2 task 2 j t queued -\n",
+    ),
+    (PLACED_LINES, "2 409 RunWithdrawn\n", LATER_TABLES),
+];
+
+/// The status and output of a script over a store of this content, of which this call fails, and the store that comes back.
+fn run_over(
+    alloc: Global,
+    script: &str,
+    stored: Stored,
+    call: u64,
+) -> Result<(Status, Vec<u8>, MemoryStore), AllocError> {
+    let words = vec![in alloc; Word::new(Vec::from_slice(alloc, b"replay")?)]?;
+    let bytes = Vec::from_slice(alloc, script.as_bytes())?;
+    let mut source = MemorySource::new(bytes, Vec::new(alloc));
+    let mut sink = MemorySink::new(alloc, Vec::new(alloc));
+    let keeper = StoreKeeper::new(MemoryStore::new(stored, vec![in alloc; call]?));
+    let (status, keeper) = run_words(alloc, words.as_slice(), &mut source, &mut sink, keeper);
+    Ok((
+        status,
+        sink.into_bytes().ok_or(AllocError)?,
+        keeper.into_store(),
+    ))
+}
+
+/// What a store contains after this script, of which no call fails.
+fn content_after(alloc: Global, script: &str) -> Result<Stored, AllocError> {
+    let (_status, _output, mut store) = run_over(alloc, script, Stored::empty(alloc), 0)?;
+    store.read(alloc).map_err(|_| AllocError)
+}
+
+/// The text of the tables that the store contains. A load that is to fail is made once more.
+fn tables_in(alloc: Global, store: MemoryStore) -> Option<Text> {
+    let mut keeper = StoreKeeper::new(store);
+    let tables = match keeper.load(alloc) {
+        Ok(tables) => tables,
+        Err(_) => keeper.load(alloc).ok()?,
+    };
+    write_tables(alloc, &tables).ok()
+}
+
+/// Whether the store contains the tables of this text.
+fn has_tables(alloc: Global, store: MemoryStore, text: &str) -> bool {
+    match tables_in(alloc, store) {
+        Some(found) => found.as_str() == text,
+        None => false,
+    }
+}
+
+/// All that the script writes: its lines and the tables, or nothing if there are no lines.
+fn output_of(alloc: Global, (first, rest, tables): Shown) -> Result<String, AllocError> {
+    if first.is_empty() {
+        Ok(String::new(alloc))
+    } else {
+        format!(in alloc; "{first}{rest}{tables}")
+    }
+}
+
+/// Whether the script has this status and output over a store of which this call fails, and leaves it these tables.
+fn gives(
+    alloc: Global,
+    script: &str,
+    stored: Stored,
+    call: u64,
+    status: Status,
+    shown: Shown,
+) -> Result<bool, AllocError> {
+    let wanted = output_of(alloc, shown)?;
+    let (ended, output, store) = run_over(alloc, script, stored, call)?;
+    let is_shown = output.as_slice() == wanted.as_bytes();
+    let has_tables = has_tables(alloc, store, shown.2);
+    Ok((ended == status) & is_shown & has_tables)
+}
+
+/// The first call whose fault gives something else, of a script after an earlier one. No call fails after the last.
+fn first_other(
+    alloc: Global,
+    earlier: &str,
+    script: &str,
+    shown: &[Shown],
+) -> Result<Option<usize>, AllocError> {
+    for (at, each) in shown.iter().enumerate() {
+        let call = at.saturating_add(1);
+        let status = if call == shown.len() {
+            Status::Done
+        } else {
+            Status::KeeperFault
+        };
+        let stored = content_after(alloc, earlier)?;
+        if !gives(alloc, script, stored, call as u64, status, *each)? {
+            return Ok(Some(call));
+        }
+    }
+    Ok(None)
+}
+
+#[test]
+fn each_call_of_a_store_fails_in_turn(rt: HostRuntime) -> Result<(), Fail> {
+    let alloc = rt.alloc();
+    assert_eq!(rt; first_other(alloc, "", ENDED, &ENDED_SHOWN)?, None);
+    assert_eq!(rt; first_other(alloc, TAKEN, LATER, &LATER_SHOWN)?, None);
+    Ok(())
+}
