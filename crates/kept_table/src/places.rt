@@ -23,7 +23,7 @@ pub fn add_spares(alloc: Global, spares: &mut Vec<Vec<u8>>, wanted: usize) -> Re
     Ok(())
 }
 
-/// One of the buffers, with these bytes. It does not allocate.
+/// One of the buffers, with these bytes, moved to a block of their length if there is memory for one. It does not fail.
 pub fn spare_text(spares: &mut Vec<Vec<u8>>, bytes: &[u8]) -> Vec<u8>
     requires some { 0 < vec_len spares.old }
     requires wide { All IsSpare spares.old.items }
@@ -39,6 +39,7 @@ pub fn spare_text(spares: &mut Vec<Vec<u8>>, bytes: &[u8]) -> Vec<u8>
         Ok(()) => {}
         Err(_) => unreachable!(),
     }
+    text.shrink_to_fit();
     text
 }
 

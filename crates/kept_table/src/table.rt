@@ -141,7 +141,7 @@ impl<R: Keyed> Table<R> {
         }
     }
 
-    /// Adds a row with a new key at the end. It does not allocate.
+    /// Adds a row with a new key at the end. It cannot run out of memory.
     pub fn push(&mut self, row: R)
         requires room { 0 < self.old.room }
         requires new { place_of (λ old. R.same_key old row) self.old.slots ≡ None }
@@ -175,7 +175,7 @@ impl<R: Keyed> Table<R> {
         self.row_count -= 1;
     }
 
-    /// Puts the row at the place of the one with the same key, or else at the end. It does not allocate.
+    /// Puts the row at the place of the one with the same key, or else at the end. It cannot run out of memory.
     pub fn put(&mut self, row: R)
         requires { 0 < self.old.room }
         ensures rows { rows self.new.slots ≡ put_row (λ old. R.same_key old row) row (rows self.old.slots) }

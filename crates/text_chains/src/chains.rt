@@ -60,7 +60,7 @@ impl TextChains {
         self.places(text).any(|other| other == place)
     }
 
-    /// Adds a place to those of a text, before them. It does not allocate.
+    /// Adds a place to those of a text, before them. It cannot run out of memory.
     pub fn add(&mut self, text: &[u8], place: usize)
         requires room { 0 < self.old.room }
         requires short { length text.now ≤ MOST_BYTES }

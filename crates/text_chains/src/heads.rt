@@ -27,7 +27,7 @@ pub fn add_spares(alloc: Global, spares: &mut Vec<Vec<u8>>, wanted: usize) -> Re
     Ok(())
 }
 
-/// One of the buffers, with this text. It does not allocate.
+/// One of the buffers, with this text, moved to a block of its length if there is memory for one. It does not fail.
 pub fn spare_text(spares: &mut Vec<Vec<u8>>, text: &[u8]) -> Vec<u8>
     requires some { 0 < vec_len spares.old }
     requires wide { All IsSpare spares.old.items }
@@ -43,6 +43,7 @@ pub fn spare_text(spares: &mut Vec<Vec<u8>>, text: &[u8]) -> Vec<u8>
         Ok(()) => {}
         Err(_) => unreachable!(),
     }
+    spare.shrink_to_fit();
     spare
 }
 
@@ -90,7 +91,7 @@ pub fn insert_head(heads: &mut HashMap<Vec<u8>, usize>, text: Vec<u8>, number: u
     }
 }
 
-/// Puts the newest link of a text. If it is the text's first, one of the buffers takes the text. It does not allocate.
+/// Puts the newest link of a text. If it is the text's first, one of the buffers takes the text. It cannot run out of memory.
 pub fn put_head(
     heads: &mut HashMap<Vec<u8>, usize>,
     spares: &mut Vec<Vec<u8>>,

@@ -1,6 +1,6 @@
 //! Maps from texts to short lists of places in a table, such as the places of the rows with one part of a key. Places are added and
 //! never removed: who reads a list looks each place up in the table and ignores the rows that are not meant. Only `reserve`
-//! allocates.
+//! can run out of memory.
 #![tactic(auto)]
 
 mod chains;
