@@ -2,7 +2,7 @@ use Rattle.std.proofs.Common.{nat_lt, slice_index, rules}
 use Rattle.std.proofs.lemmas.Iterator.Consumers.{YieldsList-from_first}
 use Rattle.std.proofs.lemmas.Iterator.Search.{any_from_yields_List}
 use Rattle.text_chains.specs.Chains.{places_of}
-use Rattle.text_chains.proofs.tests.has_above.Goals as goal
+use Rattle.base_tests.proofs.text_chains_tests.has_above.Goals as goal
 
 pub returns : goal.returns
 returns c =

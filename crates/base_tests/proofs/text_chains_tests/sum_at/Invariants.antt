@@ -1,6 +1,6 @@
 use Rattle.std.proofs.Common.{◌≡◌, ◌+◌, slice_index, sum_by}
 use Rattle.text_chains.specs.Chains.{places_of}
-use Rattle.text_chains.proofs.tests.sum_at.Given as goal
+use Rattle.base_tests.proofs.text_chains_tests.sum_at.Given as goal
 
 abbrev pub invariant-loop-place : goal.invariant-loop-place
 invariant-loop-place l = record {

@@ -1,5 +1,5 @@
 use Rattle.std.proofs.Common.{Ok, Err, Result, OnErr, refl, inl}
-use Rattle.http_laws.proofs.tests.PoolsService.answer.Goals as goal
+use Rattle.wire_tests.proofs.http_laws_tests.PoolsService.answer.Goals as goal
 
 at_err_anyway : {T E P : Type 0} (r : Result T E) → P → OnErr r P
 at_err_anyway (Ok _) p = tt
