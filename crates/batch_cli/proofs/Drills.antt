@@ -19,7 +19,7 @@ use Rattle.batch_desk.specs.Answers.{AnswersCall, Enters, HasSameOpening, Begins
 use Rattle.batch_cli.specs.Shown.{memory_stops, ran_out}
 use Rattle.batch_cli.specs.Advance.{RoseBy}
 use Rattle.batch_cli.specs.declared.drill.limits.TheConstants.{DRILL_MOMENT_MS}
-use Rattle.machine_index.specs.Queued.{lowest_queued}
+use Rattle.run_index.specs.Queued.{lowest_queued}
 use Rattle.batch_cli.specs.Drill.{Asked, asks, Drills, next_state}
 use Rattle.batch_cli.specs.Drilling.{calls_left, turn_calls, MadeCall, SettledCall, StopsAt, Steps, StopsStep, before_call, in_call}
 use Rattle.batch_cli.specs.Drilling.{DrillGoing, DrillWhole, DrillPart}

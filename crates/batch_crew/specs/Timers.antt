@@ -9,7 +9,7 @@ use Rattle.batch_desk.specs.declared.answer.Answer.{Answer}
 use Rattle.batch_desk.specs.declared.answer.Answer.TheVariants.{Done, KeeperFault, JournalFull, Memory}
 use Rattle.batch_desk.specs.declared.entry.Entry.{Entry}
 use Rattle.child_runs.specs.Stops.{Stop}
-use Rattle.machine_index.specs.Seats.{asked_runs}
+use Rattle.run_index.specs.Seats.{asked_runs}
 use Rattle.counted_lock.specs.declared.views.Stamped.{Stamped}
 use Rattle.shared_desk.specs.Openings.{Opening}
 use Rattle.shared_desk.specs.Sharing.{Caller, Asked, SeesLegal, LooksAsked, tables_after}

@@ -5,7 +5,7 @@ use Rattle.std.specs.Result.{result_unwrap_or}
 use Rattle.bt_base.specs.CommandLines.{read_words}
 use Rattle.bt_rows.specs.declared.reply.QueuedRun.{QueuedRun}
 use Rattle.batch_model.specs.Variants.{State, RunRow}
-use Rattle.machine_index.specs.Seats.{lowest_at}
+use Rattle.run_index.specs.Seats.{lowest_at}
 use Rattle.child_words.specs.Filling.{fill_word}
 use Rattle.child_words.specs.RunNames.{names_of}
 

@@ -1,7 +1,4 @@
 pub mod FoundJobs
-pub mod AnsweredTasks
-pub mod DroppedTasks
-pub mod FoundTasks
 pub mod FoundPreps
 pub mod EndingPuts
 pub mod EndedPreparations

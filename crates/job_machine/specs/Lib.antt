@@ -1,5 +1,3 @@
-pub mod Collections
 pub mod Endings
 pub mod Owners
 pub mod Settled
-pub mod Stated

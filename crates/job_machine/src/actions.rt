@@ -11,13 +11,13 @@ ghost use Rattle.batch_model.specs.WellFormed.{KeysAreDistinct};
 ghost use Rattle.job_machine.specs.Settled.{IsFirstOver};
 
 use crate::change::can_disable;
-use crate::task_rows::completed;
 use bt_base::{NoMemory, Text};
 use bt_rows::job::JobRow;
 use bt_rows::tables::{Change, Tables};
 use bt_rows::task::{Closed, JobAction, TaskRow};
 use job_rules::is_past;
 use std::alloc::Global;
+use task_requests::completed;
 use task_stops::{disable_after_put, terminate_after_put};
 
 /// The reason of a job that a failed task terminated.

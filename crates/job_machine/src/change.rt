@@ -1,7 +1,6 @@
 //! Events that change a job, and its placed tasks with it: `patch-job`, `disable-job`, `enable-job`, `terminate-job` and `delete-job`.
 ghost use Rattle.std.specs.Prelude.{◌≡◌, Some, IfOk, unwrap_or};
 ghost use Rattle.std.specs.Option.{option_copied};
-ghost use Rattle.bt_rows.specs.Changes.{apply_changes};
 ghost use Rattle.bt_rows.specs.declared.refusal.Refusal.TheVariants.{JobNotFound};
 ghost use Rattle.batch_model.specs.Events.{accept, delete_job, disable_job, enable_job, for_row, patch_job, patched, takes_end_back, terminate_job, user_terminate};
 ghost use Rattle.batch_model.specs.Finding.{Each};
@@ -16,10 +15,9 @@ use bt_rows::event::{DisableTasks, JobPatch};
 use bt_rows::job::{JobRow, JobState};
 use bt_rows::plan::Plan;
 use bt_rows::refusal::Refusal;
-use bt_rows::reply::Reply;
 use bt_rows::tables::{Change, Tables};
 use job_rules::is_past;
-use machine_plans::{accept_one, reply_listed};
+use machine_plans::{accept_listed, accept_one};
 use std::alloc::Global;
 use task_stops::{close, disable, job_in};
 
@@ -128,19 +126,6 @@ pub fn enable_job(alloc: Global, tables: &Tables, now: u64, id: &Id) -> Result<P
         Some(job) => enable_found(alloc, tables, now, job),
         None => Err(Fail::Why(Refusal::JobNotFound)),
     }
-}
-
-/// The plan of a status and of these changes after that of the last moment.
-pub fn accept_listed(
-    alloc: Global,
-    tables: &Tables,
-    now: u64,
-    status: u16,
-    changes: Vec<Change>,
-) -> Result<Plan, NoMemory>
-    ensures { IfOk result (IsPlanOf (accept status (apply_changes changes.items (with_moment now tables.now.state))) tables.now.state) }
-{
-    reply_listed(alloc, tables, now, Reply::Status(status), changes)
 }
 
 /// Whether the job is active, disabling or disabled.

@@ -5,16 +5,11 @@
 
 mod actions;
 mod change;
-mod collection;
 mod ending;
 mod job;
 mod machine;
 mod preparing;
 mod preps;
-mod removal;
 mod settle;
-mod task;
-mod task_events;
-mod task_rows;
 
 pub use machine::{next_due, plan_event};

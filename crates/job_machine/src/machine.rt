@@ -9,12 +9,9 @@ ghost use Rattle.machine_plans.specs.Plans.{IsAnswer, IsRule, with_moment};
 ghost use Rattle.job_machine.specs.Owners.{is_of_jobs};
 
 use crate::change::{delete_job, disable_job, enable_job, patch_job, terminate_job};
-use crate::collection::add_tasks;
 use crate::ending::end_run;
 use crate::job::add_job;
 use crate::settle::settle_first;
-use crate::task::add_task;
-use crate::task_events::{delete_task, reactivate_task, terminate_task};
 use bt_base::{Fail, NoMemory};
 use bt_rows::event::{Event, EventKind};
 use bt_rows::plan::{Plan, View};
@@ -25,6 +22,7 @@ use job_rules::{
 };
 use machine_index::IndexedTables;
 use std::alloc::Global;
+use task_requests::{add_task, add_tasks, delete_task, reactivate_task, terminate_task};
 
 /// The answer to an event of jobs and tasks, or to the ending of a run that is not a start run, at the view's moment. Refusals
 /// come in the order in which they are listed here:

@@ -16,8 +16,6 @@ ghost use Rattle.machine_plans.specs.Plans.{IsPlanOf, IsRule, answer_of_step};
 ghost use Rattle.job_machine.specs.Settled.{IsFirstOver};
 
 use crate::actions::complete;
-use crate::removal::drop_changes;
-use crate::task_rows::{again, terminated};
 use bt_base::{Duplicate, List, NoMemory};
 use bt_rows::due::{Due, Outcome};
 use bt_rows::job::JobRow;
@@ -31,6 +29,7 @@ use machine_index::IndexedTables;
 use machine_plans::step_one;
 use std::alloc::Global;
 use table_scans::{ending_of, is_success};
+use task_requests::{again, drop_changes, terminated};
 
 /// How the main run of the task's present attempt ended, if it did.
 fn main_ending(indexed: &IndexedTables, task: &TaskRow) -> Option<Ending>

@@ -4,7 +4,7 @@ use Rattle.std.specs.List.{find}
 use Rattle.batch_model.specs.Tasks.{is_placed, is_undisturbed, is_busy}
 use Rattle.batch_model.specs.WallTimes.{is_out_of_time, is_task_timed_out}
 use Rattle.batch_model.specs.Variants.{State, TaskRow}
-use Rattle.machine_index.specs.Timed.{is_overdue}
+use Rattle.task_index.specs.Timed.{is_overdue}
 use Rattle.bt_rows.proofs.DistinctRows.{find-passes}
 use Rattle.job_rules.proofs.FirstWeaker.{none_weaker, first_weaker}
 

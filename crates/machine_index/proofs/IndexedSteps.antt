@@ -1,5 +1,5 @@
 -- The parts are those of the tables after a change.
-use Rattle.std.proofs.Common.{◌≡◌, ℕ, zero, suc, ◌<◌, Bool, IfSome, List, [], ◌∷◌, ◌++◌, length, set, Option, Some, None, refl, sym, ap, subst, ◌∙◌, arith}
+use Rattle.std.proofs.Common.{◌≡◌, ℕ, ◌<◌, Bool, IfSome, List, length, set, Option, Some, None, refl, sym, ap, subst, ◌∙◌, arith}
 use Rattle.std.specs.Option.{unwrap_or}
 use Rattle.std.proofs.lemmas.List.{length-set}
 use Rattle.first_tree.specs.Ranks.{Ranks}
@@ -10,22 +10,24 @@ use Rattle.text_chains.specs.Chains.{ChainsView}
 use Rattle.bt_rows.specs.Keys.{task_has_ids}
 use Rattle.bt_rows.specs.Texts.{task_text}
 use Rattle.batch_model.specs.Variants.{TaskRow, RunRow}
-use Rattle.machine_index.specs.Attempts.{HasRuns}
-use Rattle.machine_index.specs.Held.{SumsView, HasHeld}
+use Rattle.run_index.specs.Attempts.{HasRuns}
+use Rattle.run_index.specs.Held.{SumsView, HasHeld}
+use Rattle.run_index.specs.Named.{place_named, place_of_run}
 use Rattle.machine_index.specs.Indexed.{IsIndexed}
-use Rattle.machine_index.specs.Over.{AreOver, IsRunStep, over_rank, place_named, place_of_run, with_rank}
-use Rattle.machine_index.specs.Active.{AreItemsOf}
-use Rattle.machine_index.specs.Timed.{AreTimed}
-use Rattle.machine_index.specs.Queued.{AreQueued}
-use Rattle.machine_index.specs.Asked.{AreAsked}
-use Rattle.machine_index.specs.Numbered.{HasNumbered}
-use Rattle.machine_index.proofs.OverRanks.{over_step}
-use Rattle.machine_index.proofs.ActiveItems.{items_length}
-use Rattle.machine_index.proofs.ChangedSlots.{none_there}
+use Rattle.task_index.specs.Over.{AreOver, IsRunStep, over_rank, with_rank}
+use Rattle.task_index.specs.Active.{AreItemsOf}
+use Rattle.task_index.specs.Timed.{AreTimed}
+use Rattle.run_index.specs.Queued.{AreQueued}
+use Rattle.run_index.specs.Asked.{AreAsked}
+use Rattle.task_index.specs.Numbered.{HasNumbered}
+use Rattle.task_index.proofs.OverRanks.{over_step}
+use Rattle.task_index.proofs.ActiveItems.{items_length}
+use Rattle.run_index.proofs.FreePlaces.{free_set, free_past, free_push, free_put, free_clear}
 use Rattle.machine_index.proofs.RunSteps.{found_at, step_put, step_clear}
-use Rattle.machine_index.proofs.AskedRanks.{asked_length}
-use Rattle.machine_index.proofs.QueuedRanks.{queued_length}
-use Rattle.machine_index.proofs.TimedRanks.{timed_length}
+use Rattle.run_index.proofs.AskedRanks.{asked_length}
+use Rattle.run_index.proofs.NextPlaces.{held_none}
+use Rattle.run_index.proofs.QueuedRanks.{queued_length}
+use Rattle.task_index.proofs.TimedRanks.{timed_length}
 
 -- of the tasks and the runs that are these
 pub indexed_at : (tasks others : List (Option TaskRow)) (slots placed : List (Option RunRow)) (view : ChainsView) (groups : GroupsView)
@@ -45,35 +47,6 @@ indexed_at tasks others slots placed view groups ranks sums times numbers stops 
 }
 
 module _ {R : Type 0} where
-  -- a place that changes and is then free
-  free_set : (slots : List (Option R)) (at : ℕ) (slot : Option R) → set (set slots at slot) at None ≡ set slots at None
-  free_set [] at slot = refl
-  free_set (old ∷ slots) zero slot = refl
-  free_set (old ∷ slots) (suc at) slot = ap (λ (rest : List (Option R)). old ∷ rest) (free_set slots at slot)
-
-  free_past : (slots : List (Option R)) → set slots (length slots) None ≡ slots
-  free_past [] = refl
-  free_past (old ∷ slots) = ap (λ (rest : List (Option R)). old ∷ rest) (free_past slots)
-
-  pub free_push : (slots : List (Option R)) (slot : Option R) → set (slots ++ slot ∷ []) (length slots) None ≡ slots ++ None ∷ []
-  free_push [] slot = refl
-  free_push (old ∷ slots) slot = ap (λ (rest : List (Option R)). old ∷ rest) (free_push slots slot)
-
-  rows_none : (slots : List (Option R)) → rows (slots ++ None ∷ []) ≡ rows slots
-  rows_none [] = refl
-  rows_none (None ∷ slots) = rows_none slots
-  rows_none (Some row ∷ slots) = ap (λ (rs : List R). row ∷ rs) (rows_none slots)
-
-  -- the rows beside the one that was put
-  free_put : (before : Option ℕ) (slots : List (Option R)) (row : R)
-      → rows (set (put_at before row slots) (unwrap_or before (length slots)) None) ≡ rows (set slots (unwrap_or before (length slots)) None)
-  free_put None slots row = ap rows (free_push slots (Some row)) ∙ rows_none slots ∙ sym (ap rows (free_past slots))
-  free_put (Some at) slots row = ap rows (free_set slots at (Some row))
-
-  pub free_clear : (before : Option ℕ) (slots : List (Option R)) → set slots (unwrap_or before (length slots)) None ≡ clear_at before slots
-  free_clear None slots = free_past slots
-  free_clear (Some at) slots = refl
-
   pub found_slot : (before : Option ℕ) (slots : List (Option R)) → slot_at slots (unwrap_or before (length slots)) ≡ found_at before slots
   found_slot None slots = slot_at_past slots (length slots) (omega arith)
   found_slot (Some at) slots = refl
@@ -86,13 +59,6 @@ held_beside sums before tasks others slots placed place task e f is held =
     rw (e, f, is)
     (subst (λ (ts : List TaskRow). HasHeld sums ts slots) (sym (free_put before tasks task))
     (subst (λ (k : ℕ). HasHeld sums (rows (set tasks k None)) slots) is held))
-
--- one place more, without a run
-pub held_none : (sums : SumsView) (tasks : List TaskRow) (slots : List (Option RunRow)) → HasHeld sums tasks slots → HasHeld sums tasks (slots ++ None ∷ [])
-held_none sums tasks slots held = record {
-  held = λ node. rw (rows_none slots) (held.held node);
-  counted = λ place run there. held.counted place run (none_there slots place run there);
-}
 
 held_free : (sums : SumsView) (tasks : List TaskRow) (before : Option ℕ) (slots : List (Option RunRow)) (run : RunRow)
     → HasHeld sums tasks (set slots (unwrap_or before (length slots)) None) → HasHeld sums tasks (set (put_at before run slots) (unwrap_or before (length slots)) None)

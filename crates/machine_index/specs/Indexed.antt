@@ -5,14 +5,14 @@ use Rattle.kept_table.specs.Slots.{rows}
 use Rattle.ranked_groups.specs.Items.{GroupsView}
 use Rattle.text_chains.specs.Chains.{ChainsView}
 use Rattle.batch_model.specs.Variants.{State, TaskRow, RunRow}
-use Rattle.machine_index.specs.Attempts.{HasRuns}
-use Rattle.machine_index.specs.Held.{SumsView, HasHeld}
-use Rattle.machine_index.specs.Over.{AreOver}
-use Rattle.machine_index.specs.Active.{AreItemsOf}
-use Rattle.machine_index.specs.Timed.{AreTimed}
-use Rattle.machine_index.specs.Queued.{AreQueued}
-use Rattle.machine_index.specs.Asked.{AreAsked}
-use Rattle.machine_index.specs.Numbered.{HasNumbered}
+use Rattle.run_index.specs.Attempts.{HasRuns}
+use Rattle.run_index.specs.Held.{SumsView, HasHeld}
+use Rattle.task_index.specs.Over.{AreOver}
+use Rattle.task_index.specs.Active.{AreItemsOf}
+use Rattle.task_index.specs.Timed.{AreTimed}
+use Rattle.run_index.specs.Queued.{AreQueued}
+use Rattle.run_index.specs.Asked.{AreAsked}
+use Rattle.task_index.specs.Numbered.{HasNumbered}
 
 -- what contracts see of the tables: the state, and how many changes can be made without allocating
 pub record IndexedView : Type 0 where

@@ -1,25 +1,19 @@
 //! What is kept beside the tables, made from them.
 ghost use Rattle.std.specs.Prelude.{IfOk};
-ghost use Rattle.machine_index.specs.Active.{AreItemsOf};
-ghost use Rattle.machine_index.specs.Asked.{AreAsked};
-ghost use Rattle.machine_index.specs.Attempts.{HasRuns};
-ghost use Rattle.machine_index.specs.Held.{HasHeld};
-ghost use Rattle.machine_index.specs.Numbered.{HasNumbered};
-ghost use Rattle.machine_index.specs.Over.{AreOver};
-ghost use Rattle.machine_index.specs.Queued.{AreQueued};
-ghost use Rattle.machine_index.specs.Timed.{AreTimed};
+ghost use Rattle.task_index.specs.Active.{AreItemsOf};
+ghost use Rattle.run_index.specs.Asked.{AreAsked};
+ghost use Rattle.run_index.specs.Attempts.{HasRuns};
+ghost use Rattle.run_index.specs.Held.{HasHeld};
+ghost use Rattle.task_index.specs.Numbered.{HasNumbered};
+ghost use Rattle.task_index.specs.Over.{AreOver};
+ghost use Rattle.run_index.specs.Queued.{AreQueued};
+ghost use Rattle.task_index.specs.Timed.{AreTimed};
 
-use crate::active_tasks::ActiveTasks;
-use crate::asked_runs::AskedRuns;
-use crate::held_slots::HeldSlots;
-use crate::numbered_tasks::NumberedTasks;
-use crate::placed_tasks::PlacedTasks;
-use crate::queued_runs::QueuedRuns;
-use crate::runs_of_attempts::RunsOfAttempts;
-use crate::timed_tasks::TimedTasks;
 use bt_base::NoMemory;
 use bt_rows::tables::Tables;
+use run_index::{AskedRuns, HeldSlots, QueuedRuns, RunsOfAttempts};
 use std::alloc::Global;
+use task_index::{ActiveTasks, NumberedTasks, PlacedTasks, TimedTasks};
 
 /// What is kept of the runs.
 #[derive(Drop)]

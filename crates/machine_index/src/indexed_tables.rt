@@ -9,28 +9,23 @@ ghost use Rattle.batch_model.specs.Settling.{is_over};
 ghost use Rattle.batch_model.specs.Slots.{held_slots};
 ghost use Rattle.batch_model.specs.Tasks.{is_busy, main_run};
 ghost use Rattle.batch_model.specs.Variants.{TaskRow, RunRow};
-ghost use Rattle.machine_index.specs.Over.{AreOver, place_of_run};
-ghost use Rattle.machine_index.specs.Active.{AreItemsOf, is_active_within};
+ghost use Rattle.run_index.specs.Named.{place_of_run};
+ghost use Rattle.task_index.specs.Over.{AreOver};
+ghost use Rattle.task_index.specs.Active.{AreItemsOf, is_active_within};
 ghost use Rattle.machine_index.specs.Indexed.{IsIndexed};
-ghost use Rattle.machine_index.specs.Timed.{AreTimed, is_overdue};
-ghost use Rattle.machine_index.specs.Queued.{AreNumbered, lowest_queued};
-ghost use Rattle.machine_index.specs.Seats.{lowest_at, asked_runs};
+ghost use Rattle.task_index.specs.Timed.{AreTimed, is_overdue};
+ghost use Rattle.run_index.specs.Queued.{AreNumbered, lowest_queued};
+ghost use Rattle.run_index.specs.Seats.{lowest_at, asked_runs};
 
-use crate::active_tasks::ActiveTasks;
-use crate::asked_runs::AskedRuns;
-use crate::held_slots::HeldSlots;
 use crate::index_parts::{RunParts, TaskParts};
-use crate::numbered_tasks::NumberedTasks;
-use crate::placed_tasks::{PlacedTasks, place_of_run};
-use crate::queued_runs::QueuedRuns;
-use crate::runs_of_attempts::RunsOfAttempts;
-use crate::timed_tasks::TimedTasks;
 use bt_base::{Id, List, Moment, NoMemory};
 use bt_rows::run::RunRow;
 use bt_rows::tables::{Change, Tables};
 use bt_rows::task::{TaskKey, TaskRow};
+use run_index::{AskedRuns, HeldSlots, QueuedRuns, RunsOfAttempts, place_of_run};
 use std::alloc::Global;
 use std::marker::Model;
+use task_index::{ActiveTasks, NumberedTasks, PlacedTasks, TimedTasks};
 
 /// Tables, and beside them what the due rules look for. Each change of the tables is followed.
 ///

@@ -11,5 +11,5 @@ mod plan;
 pub use answer::or_refused;
 pub use ended::ended_run;
 pub use job_runs::job_run;
-pub use listed::reply_listed;
+pub use listed::{accept_listed, reply_listed};
 pub use plan::{accept_none, accept_one, accept_two, refuse, step_one, step_three, step_two};

@@ -1,6 +1,8 @@
 //! Plans of a list of changes.
 ghost use Rattle.std.specs.Prelude.{◌≡◌, ◌++◌, IfOk};
-ghost use Rattle.machine_plans.specs.Plans.{moved_to};
+ghost use Rattle.bt_rows.specs.Changes.{apply_changes};
+ghost use Rattle.batch_model.specs.Events.{accept};
+ghost use Rattle.machine_plans.specs.Plans.{IsPlanOf, moved_to, with_moment};
 
 use crate::plan::moved;
 use bt_base::{List, NoMemory};
@@ -40,4 +42,17 @@ pub fn reply_listed(
         reply,
         changes: List::of_vec(all),
     })
+}
+
+/// The plan of a status and of these changes after that of the last moment.
+pub fn accept_listed(
+    alloc: Global,
+    tables: &Tables,
+    now: u64,
+    status: u16,
+    changes: Vec<Change>,
+) -> Result<Plan, NoMemory>
+    ensures { IfOk result (IsPlanOf (accept status (apply_changes changes.items (with_moment now tables.now.state))) tables.now.state) }
+{
+    reply_listed(alloc, tables, now, Reply::Status(status), changes)
 }

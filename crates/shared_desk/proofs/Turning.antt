@@ -8,7 +8,7 @@ use Rattle.bt_rows.specs.declared.reply.QueuedRun.{QueuedRun}
 use Rattle.batch_model.specs.Variants.{State}
 use Rattle.table_reads.specs.declared.request.Read.{Read}
 use Rattle.table_reads.specs.Reads.{read_reply}
-use Rattle.machine_index.specs.Seats.{asked_runs}
+use Rattle.run_index.specs.Seats.{asked_runs}
 use Rattle.child_words.specs.Queued.{queued_at}
 use Rattle.batch_desk.specs.declared.answer.Answer.{Answer}
 use Rattle.batch_desk.specs.declared.entry.Entry.{Entry}

@@ -1,7 +1,7 @@
 //! The desk in the lock, and what it was opened with.
 ghost use Rattle.std.specs.Prelude.{◌≡◌, IfOk};
 ghost use Rattle.batch_model.specs.Sound.{IsSound};
-ghost use Rattle.machine_index.specs.Seats.{asked_runs};
+ghost use Rattle.run_index.specs.Seats.{asked_runs};
 ghost use Rattle.child_words.specs.Queued.{queued_at};
 ghost use Rattle.batch_desk.specs.Answers.{AnswersCall, HasSameOpening, IsInOrder};
 

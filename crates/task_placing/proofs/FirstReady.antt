@@ -3,7 +3,7 @@ use Rattle.std.proofs.Common.{◌≡◌, ℕ, Bool, true, false, ◌&&◌, List,
 use Rattle.std.specs.List.{find}
 use Rattle.batch_model.specs.Readiness.{is_unblocked}
 use Rattle.batch_model.specs.Variants.{State, TaskRow}
-use Rattle.machine_index.specs.Active.{is_active_within}
+use Rattle.task_index.specs.Active.{is_active_within}
 use Rattle.task_placing.specs.Fitting.{is_ready_within}
 
 module _ {R : Type 0} (p q : R → Bool) where

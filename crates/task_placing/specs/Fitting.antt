@@ -10,7 +10,7 @@ use Rattle.slot_ledger.specs.Ledgers.{chosen}
 use Rattle.batch_model.specs.Placing.{is_placeable, choice}
 use Rattle.batch_model.specs.Readiness.{is_unblocked}
 use Rattle.batch_model.specs.Variants.{State, PoolRow, JobRow, TaskRow}
-use Rattle.machine_index.specs.Active.{is_active_within}
+use Rattle.task_index.specs.Active.{is_active_within}
 
 -- the pool is the row with its id
 abbrev pub IsPoolRow : State → PoolRow → Type 0

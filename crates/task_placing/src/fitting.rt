@@ -4,7 +4,7 @@ ghost use Rattle.std.specs.List.{find, list_any};
 ghost use Rattle.std.specs.Option.{option_copied};
 ghost use Rattle.batch_model.specs.Placing.{choice};
 ghost use Rattle.batch_model.specs.WellFormed.{KeysAreDistinct};
-ghost use Rattle.machine_index.specs.Active.{is_active_within};
+ghost use Rattle.task_index.specs.Active.{is_active_within};
 ghost use Rattle.slot_ledger.specs.Ledgers.{chosen};
 ghost use Rattle.task_placing.specs.Entries.{ledger_for};
 ghost use Rattle.task_placing.specs.Fitting.{IsPoolRow, fits_by, is_ready_within, open_pool};

@@ -7,7 +7,8 @@ ghost use Rattle.batch_model.specs.WellFormed.{KeysAreDistinct};
 use bt_base::Id;
 use bt_rows::tables::Tables;
 use bt_rows::task::TaskRow;
-use machine_index::{IndexedTables, satisfies_others};
+use machine_index::IndexedTables;
+use task_index::satisfies_others;
 
 /// Whether the task of the job with this id satisfies those that name it.
 fn is_id_satisfied(tables: &Tables, job: &Id, id: &Id) -> bool

@@ -1,6 +1,6 @@
 use Rattle.std.proofs.Common.{sym, subst, ◌∙◌, Some, None, ◌≡◌}
 use Rattle.std.specs.List.{find}
-use Rattle.machine_index.specs.Timed.{is_overdue}
+use Rattle.task_index.specs.Timed.{is_overdue}
 use Rattle.job_rules.proofs.FirstTimedOut.{none_timed_out, first_is_timed_out}
 use Rattle.job_rules.proofs.wall.first_timed_out_at.Goals as goal
 

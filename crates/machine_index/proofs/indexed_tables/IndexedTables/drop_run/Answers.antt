@@ -3,14 +3,14 @@ use Rattle.std.specs.Option.{unwrap_or}
 use Rattle.kept_table.specs.Slots.{slot_at, rows, clear_at}
 use Rattle.bt_rows.specs.Keys.{run_has_number}
 use Rattle.batch_model.specs.Variants.{TaskRow, RunRow}
-use Rattle.machine_index.specs.Attempts.{HasRuns, run_attempt_text}
-use Rattle.machine_index.specs.Active.{AreItemsOf}
-use Rattle.machine_index.specs.Timed.{AreTimed}
-use Rattle.machine_index.specs.Queued.{AreQueued}
-use Rattle.machine_index.specs.Asked.{AreAsked}
-use Rattle.machine_index.specs.Numbered.{HasNumbered}
+use Rattle.run_index.specs.Attempts.{HasRuns, run_attempt_text}
+use Rattle.task_index.specs.Active.{AreItemsOf}
+use Rattle.task_index.specs.Timed.{AreTimed}
+use Rattle.run_index.specs.Queued.{AreQueued}
+use Rattle.run_index.specs.Asked.{AreAsked}
+use Rattle.task_index.specs.Numbered.{HasNumbered}
 use Rattle.machine_index.proofs.IndexedSteps.{within_queued, within_asked, within_named, over_after, clear_step, held_cleared}
-use Rattle.machine_index.proofs.TextPlaces.{row_cleared}
+use Rattle.run_index.proofs.TextPlaces.{row_cleared}
 use Rattle.machine_index.proofs.indexed_tables.IndexedTables.drop_run.Goals as goal
 
 pub clear-requires : goal.clear-requires

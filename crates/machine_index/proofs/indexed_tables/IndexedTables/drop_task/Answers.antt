@@ -2,9 +2,9 @@ use Rattle.std.proofs.Common.{◌≡◌, Option, ℕ, length, sym, ap, ◌∙◌
 use Rattle.std.specs.Option.{unwrap_or}
 use Rattle.kept_table.specs.Slots.{rows, clear_at}
 use Rattle.bt_rows.specs.Keys.{task_has_ids}
-use Rattle.machine_index.specs.Numbered.{number_text_of}
+use Rattle.task_index.specs.Numbered.{number_text_of}
 use Rattle.machine_index.proofs.IndexedSteps.{within_active, within_over, within_timed, held_without, indexed_at}
-use Rattle.machine_index.proofs.TextPlaces.{row_cleared}
+use Rattle.run_index.proofs.TextPlaces.{row_cleared}
 use Rattle.machine_index.proofs.indexed_tables.IndexedTables.drop_task.Goals as goal
 
 pub clear_active-requires : goal.clear_active-requires

@@ -1,7 +1,7 @@
 use Rattle.std.proofs.Common.{List, sym, subst}
 use Rattle.batch_model.specs.Variants.{TaskRow, RunRow}
-use Rattle.machine_index.specs.Held.{HasHeld}
-use Rattle.machine_index.specs.Over.{AreOver}
+use Rattle.run_index.specs.Held.{HasHeld}
+use Rattle.task_index.specs.Over.{AreOver}
 use Rattle.machine_index.proofs.indexed_tables.IndexedTables.of_tables.Goals as goal
 
 pub of_parts-requires : goal.of_parts-requires

@@ -3,13 +3,13 @@ use Rattle.std.specs.Option.{unwrap_or}
 use Rattle.kept_table.specs.Slots.{slot_at, rows, put_at}
 use Rattle.bt_rows.specs.Keys.{run_has_number}
 use Rattle.batch_model.specs.Variants.{TaskRow, RunRow}
-use Rattle.machine_index.specs.Attempts.{HasRuns}
-use Rattle.machine_index.specs.Held.{HasHeld}
-use Rattle.machine_index.specs.Active.{AreItemsOf}
-use Rattle.machine_index.specs.Timed.{AreTimed}
-use Rattle.machine_index.specs.Queued.{AreQueued}
-use Rattle.machine_index.specs.Asked.{AreAsked}
-use Rattle.machine_index.specs.Numbered.{HasNumbered}
+use Rattle.run_index.specs.Attempts.{HasRuns}
+use Rattle.run_index.specs.Held.{HasHeld}
+use Rattle.task_index.specs.Active.{AreItemsOf}
+use Rattle.task_index.specs.Timed.{AreTimed}
+use Rattle.run_index.specs.Queued.{AreQueued}
+use Rattle.run_index.specs.Asked.{AreAsked}
+use Rattle.task_index.specs.Numbered.{HasNumbered}
 use Rattle.machine_index.proofs.IndexedSteps.{within_queued, within_asked, within_named, within_again, over_after, put_step, held_beside_run}
 use Rattle.machine_index.proofs.indexed_tables.IndexedTables.put_run.Goals as goal
 

@@ -5,9 +5,9 @@ use Rattle.bt_rows.specs.Keys.{task_has_ids}
 use Rattle.bt_rows.specs.Changes.{apply_change}
 use Rattle.bt_rows.specs.declared.tables.Change.TheVariants.{PutTask}
 use Rattle.batch_model.specs.Variants.{TaskRow, RunRow}
-use Rattle.machine_index.specs.Held.{HasHeld}
+use Rattle.run_index.specs.Held.{HasHeld}
 use Rattle.machine_index.specs.Indexed.{IndexedView}
-use Rattle.machine_index.specs.Over.{AreOver}
+use Rattle.task_index.specs.Over.{AreOver}
 use Rattle.machine_index.proofs.IndexedSteps.{within_active, within_over, within_timed, held_beside, indexed_at}
 use Rattle.machine_index.proofs.indexed_tables.IndexedTables.put_task.Goals as goal
 

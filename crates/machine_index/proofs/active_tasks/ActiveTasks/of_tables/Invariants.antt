@@ -1,6 +1,0 @@
-use Rattle.std.proofs.Common.{take}
-use Rattle.machine_index.specs.Active.{AreItemsOf}
-use Rattle.machine_index.proofs.active_tasks.ActiveTasks.of_tables.Given as goal
-
-abbrev pub invariant-loop-place : goal.invariant-loop-place
-invariant-loop-place l = AreItemsOf (take l.place l.fn.tables.task_slots) l.active.items

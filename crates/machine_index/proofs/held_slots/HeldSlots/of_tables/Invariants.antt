@@ -1,6 +1,0 @@
-use Rattle.std.proofs.Common.{take}
-use Rattle.machine_index.specs.Held.{HasHeld}
-use Rattle.machine_index.proofs.held_slots.HeldSlots.of_tables.Given as goal
-
-abbrev pub invariant-loop-place : goal.invariant-loop-place
-invariant-loop-place l = HasHeld l.held l.fn.tables.state.tasks (take l.place l.fn.tables.run_slots)

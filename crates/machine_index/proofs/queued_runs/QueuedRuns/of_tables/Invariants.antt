@@ -1,6 +1,0 @@
-use Rattle.std.proofs.Common.{take}
-use Rattle.machine_index.specs.Queued.{AreQueued}
-use Rattle.machine_index.proofs.queued_runs.QueuedRuns.of_tables.Given as goal
-
-abbrev pub invariant-loop-place : goal.invariant-loop-place
-invariant-loop-place l = AreQueued (take l.place l.fn.tables.run_slots) l.queued.items

@@ -1,6 +1,0 @@
-use Rattle.machine_index.specs.Attempts.{run_attempt_text}
-use Rattle.machine_index.proofs.TextPlaces.{no_rows}
-use Rattle.machine_index.proofs.runs_of_attempts.RunsOfAttempts.new.Goals as goal
-
-pub returns : goal.returns
-returns c = no_rows run_attempt_text c.new.result c.new.ensures

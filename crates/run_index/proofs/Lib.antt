@@ -1,0 +1,14 @@
+pub mod AttemptTexts
+pub mod ChangedSlots
+pub mod FreePlaces
+pub mod HeldSums
+pub mod HeldTasks
+pub mod LowestPlaces
+pub mod LowestRuns
+pub mod PassedRuns
+pub mod AskedRanks
+pub mod RunPlaces
+pub mod NextPlaces
+pub mod QueuedRanks
+pub mod TextPlaces
+pub mod NamedPlaces

@@ -1,0 +1,4 @@
+pub mod OverRanks
+pub mod ActiveItems
+pub mod NumberPlaces
+pub mod TimedRanks

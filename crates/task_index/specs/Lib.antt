@@ -1,0 +1,4 @@
+pub mod Over
+pub mod Active
+pub mod Timed
+pub mod Numbered

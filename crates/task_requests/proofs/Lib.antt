@@ -1,0 +1,3 @@
+pub mod AnsweredTasks
+pub mod DroppedTasks
+pub mod FoundTasks
