@@ -1,9 +1,7 @@
 //! Tests of what no clause says: that each call which allocates succeeds with ample memory. Each function owns few values,
 //! since each exit by `?` has to let all of them go.
-use bt_base::{
-    CommandLine, Duplicate, Failed, Id, List, MemorySink, MemorySource, Num, ReadFault, SureSink,
-    read_all, words, write_all,
-};
+use bt_base::{CommandLine, Duplicate, Id, List, Num, words};
+use byte_streams::{Failed, MemorySink, MemorySource, ReadFault, SureSink, read_all, write_all};
 use std::test::Fail as TestFail;
 
 #[test]

@@ -24,7 +24,7 @@ fn shown_over(alloc: Global, metrics: &Metrics, ms: u64, text: &str) -> Result<T
         Err(Fail::Why(fault)) => {
             let name = fault.name();
             let place = fault.place();
-            Ok(Text::of_string(format!(in alloc; "error {name} {place}")?))
+            Ok(Text::of_string(format!(in alloc; "error {name} {place}")?)?)
         }
     }
 }
@@ -37,7 +37,7 @@ fn shown(alloc: Global, ms: u64, text: &str) -> Result<Text, TestFail> {
 
 // The settings as they were before, and then these variables.
 fn unchanged(alloc: Global, variables: &str) -> Result<Text, NoMemory> {
-    Ok(Text::of_string(format!(in alloc; "{SETTINGS};{variables}")?))
+    Text::of_string(format!(in alloc; "{SETTINGS};{variables}")?)
 }
 
 #[test]
@@ -164,7 +164,7 @@ fn shown_call(alloc: Global, call: &str) -> Result<Text, TestFail> {
 
 // The settings as they were before, and then this value of `x`.
 fn unchanged_but_x(alloc: Global, value: &str) -> Result<Text, NoMemory> {
-    Ok(Text::of_string(format!(in alloc; "{SETTINGS};$x={value}")?))
+    Text::of_string(format!(in alloc; "{SETTINGS};$x={value}")?)
 }
 
 #[test]

@@ -3,7 +3,7 @@ ghost use Rattle.std.specs.Prelude.{[], ◌∷◌, refl};
 ghost use Rattle.std.specs.Str.{bytes_eq};
 ghost use Rattle.bt_base.specs.Ids.{lowered};
 
-use bt_base::NoMemory;
+use bt_base::{NoMemory, Shared};
 use kept_table::{KeyText, Keyed, Table};
 use std::alloc::Global;
 use std::test::Fail as TestFail;
@@ -39,30 +39,17 @@ impl Keyed for Score {
     }
 }
 
-fn scores(alloc: Global) -> Result<Table<Score>, NoMemory> {
+fn scores(alloc: Global) -> Result<Table<Shared<Score>>, NoMemory> {
     let mut table = Table::new(alloc);
-    table.reserve(4)?;
-    table.put(Score {
-        letter: b'a',
-        points: 1,
-    });
-    table.put(Score {
-        letter: b'b',
-        points: 2,
-    });
-    table.put(Score {
-        letter: b'c',
-        points: 3,
-    });
-    table.put(Score {
-        letter: b'B',
-        points: 20,
-    });
+    for (letter, points) in [(b'a', 1), (b'b', 2), (b'c', 3), (b'B', 20)] {
+        table.reserve(1)?;
+        table.put(Shared::new(alloc, Score { letter, points })?);
+    }
     Ok(table)
 }
 
-fn points_of(table: &Table<Score>, letter: u8) -> Option<u64> {
-    table.find(&letter).map(|score| score.points)
+fn points_of(table: &Table<Shared<Score>>, letter: u8) -> Option<u64> {
+    table.find_shared(&letter).map(|score| score.points)
 }
 
 #[test]
@@ -70,6 +57,8 @@ fn rows_are_found_by_their_keys(rt: HostRuntime) -> Result<(), TestFail> {
     let mut table = scores(rt.alloc())?;
     assert_eq!(rt; points_of(&table, b'b'), Some(20));
     assert_eq!(rt; table.place_of(&b'C'), Some(2));
+    assert!(rt; matches!(table.shared_at(1), Some(score) if score.points == 20));
+    assert!(rt; matches!(table.copy()?.rows().next(), Some(score) if score.letter == b'a'));
     table.drop_by_key(&b'A');
     table.drop_by_key(&b'b');
     assert_eq!(rt; points_of(&table, b'b'), None);

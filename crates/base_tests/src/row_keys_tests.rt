@@ -4,7 +4,7 @@ ghost use Rattle.std.specs.Str.{bytes_eq};
 ghost use Rattle.bt_base.specs.Ids.{lowered};
 ghost use Rattle.kept_table.specs.Keys.{number_text};
 
-use bt_base::{List, NoMemory};
+use bt_base::{List, NoMemory, Shared};
 use kept_table::{KeyText, Keyed, Table};
 use row_keys::{RowKey, are_distinct, are_own_keys_distinct, count_keys, key_of_text};
 use std::alloc::Global;
@@ -58,21 +58,12 @@ impl RowKey for Points {
     }
 }
 
-fn scores(alloc: Global, points: [u64; 3]) -> Result<Table<Score>, NoMemory> {
+fn scores(alloc: Global, points: [u64; 3]) -> Result<Table<Shared<Score>>, NoMemory> {
     let mut table = Table::new(alloc);
-    table.reserve(3)?;
-    table.put(Score {
-        letter: b'a',
-        points: points[0],
-    });
-    table.put(Score {
-        letter: b'b',
-        points: points[1],
-    });
-    table.put(Score {
-        letter: b'c',
-        points: points[2],
-    });
+    for (letter, points) in [(b'a', points[0]), (b'b', points[1]), (b'c', points[2])] {
+        table.reserve(1)?;
+        table.put(Shared::new(alloc, Score { letter, points })?);
+    }
     Ok(table)
 }
 

@@ -4,8 +4,9 @@ ghost use Rattle.batch.specs.Ready.{IsHostReady};
 
 use batch_keeper::{Keeper, SureKeeper};
 use batch_serve::{ServeStatus, Served, Worker, WorkerKind, serve_words};
-use bt_base::{NoMemory, Sink, Word};
+use bt_base::{NoMemory, Word};
 use bt_rows::tables::Tables;
+use byte_streams::Sink;
 use child_programs::{ProgramSpawner, ProgramStopper, ProgramTable};
 use cli_words::ServeOptions;
 use sql_store::{OpenError, SqlStore};

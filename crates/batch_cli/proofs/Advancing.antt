@@ -2,8 +2,8 @@
 use Rattle.std.proofs.Common.{◌≡◌, ◌≤◌, ◌<◌, ℕ, zero, suc, false, List, [], ◌∷◌, ◌++◌, Option, length, refl, ap, ◌∙◌, sym, subst, arith, take, inl, inr, Result}
 use Rattle.std.proofs.Common.{Ok, Err, OnErr}
 use Rattle.std.proofs.lemmas.List.{length_push, append-nil}
-use Rattle.bt_base.specs.Content.{Gains, GainsFront}
-use Rattle.bt_base.proofs.Gaining.{gains_nothing}
+use Rattle.byte_streams.specs.Content.{Gains, GainsFront}
+use Rattle.byte_streams.proofs.Gaining.{gains_nothing}
 use Rattle.bt_rows.specs.declared.event.EventKind.{EventKind}
 use Rattle.bt_rows.specs.declared.refusal.Refusal.{Refusal}
 use Rattle.batch_wire.specs.LineRequest.{LineRequest}

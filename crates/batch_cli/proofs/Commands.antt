@@ -1,6 +1,6 @@
 -- Words that could not be read because memory ran out.
 use Rattle.std.proofs.Common.{ℕ, List, Option, Some, None, refl, arith, inl, inr}
-use Rattle.bt_base.proofs.Gaining.{gains_nothing}
+use Rattle.byte_streams.proofs.Gaining.{gains_nothing}
 use Rattle.batch_model.specs.Variants.{State}
 use Rattle.batch_keeper.specs.declared.error.KeepError.TheVariants.{Memory as NoMemory}
 use Rattle.cli_words.specs.declared.command.Command.{Command}

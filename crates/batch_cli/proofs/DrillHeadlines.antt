@@ -1,6 +1,6 @@
 -- From the drill of an opened desk to the whole run.
 use Rattle.std.proofs.Common.{◌≡◌, ◌≤◌, ℕ, List, Option, IfSome, sym, subst, inl, inr}
-use Rattle.bt_base.specs.Content.{Gains, GainsFront}
+use Rattle.byte_streams.specs.Content.{Gains, GainsFront}
 use Rattle.batch_model.specs.Opening.{opening}
 use Rattle.batch_model.specs.Variants.{State}
 use Rattle.batch_desk.specs.Kept.{Desk}

@@ -2,8 +2,8 @@
 use Rattle.std.proofs.Common.{◌≡◌, ◌≤◌, ◌+◌, ◌-◌, min, ℕ, zero, suc, Bool, true, false, ◌||◌, List, [], ◌∷◌, ◌++◌, Option, Some, None, IfSome, Result, Ok, Err}
 use Rattle.std.proofs.Common.{length, refl, ap, ◌∙◌, sym, subst, arith, map, take, inl, inr, append_assoc}
 use Rattle.std.proofs.lemmas.List.{length_push, append-nil, length-append, length-map, length-take, map-append, take_at, take-take}
-use Rattle.bt_base.specs.Content.{Gains, GainsFront}
-use Rattle.bt_base.proofs.Gaining.{gains_nothing, gains_more}
+use Rattle.byte_streams.specs.Content.{Gains, GainsFront}
+use Rattle.byte_streams.proofs.Gaining.{gains_nothing, gains_more}
 use Rattle.bt_rows.specs.declared.event.EventKind.{EventKind}
 use Rattle.bt_rows.specs.declared.refusal.Refusal.{Refusal}
 use Rattle.batch_wire.specs.LineRequest.{LineRequest}

@@ -1,7 +1,7 @@
 -- From the run of an opened desk to the whole run.
 use Rattle.std.proofs.Common.{◌≡◌, ◌≤◌, ℕ, List, Option, Some, None, IfSome, ap, ◌∙◌, sym, subst, arith, length, inl, inr, map, take}
 use Rattle.std.specs.Str.Lines.{lines}
-use Rattle.bt_base.specs.Content.{Gains}
+use Rattle.byte_streams.specs.Content.{Gains}
 use Rattle.batch_model.specs.Opening.{opening}
 use Rattle.batch_model.specs.Sound.{IsSound}
 use Rattle.batch_model.specs.Variants.{State}

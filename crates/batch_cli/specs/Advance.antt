@@ -1,6 +1,6 @@
 -- How a desk goes on by one line.
 use Rattle.std.specs.Prelude.{◌≡◌, ◌≤◌, ◌^◌, ◌+◌, ◌-◌, min, ◌⊎◌, ℕ, List, [], ◌++◌, length, map, Option, Result, Ok, take}
-use Rattle.bt_base.specs.Content.{Gains, GainsFront}
+use Rattle.byte_streams.specs.Content.{Gains, GainsFront}
 use Rattle.bt_rows.specs.declared.event.EventKind.{EventKind}
 use Rattle.bt_rows.specs.declared.refusal.Refusal.{Refusal}
 use Rattle.batch_model.specs.Variants.{State}

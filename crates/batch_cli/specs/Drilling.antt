@@ -1,6 +1,6 @@
 -- A desk on its way through a drill.
 use Rattle.std.specs.Prelude.{◌≡◌, ◌⊎◌, ℕ, suc, ◌+◌, ◌-◌, ◌*◌, List, [], ◌∷◌, ◌++◌, Option, Some, length}
-use Rattle.bt_base.specs.Content.{Gains, GainsFront}
+use Rattle.byte_streams.specs.Content.{Gains, GainsFront}
 use Rattle.bt_rows.specs.declared.event.EventKind.{EventKind}
 use Rattle.batch_desk.specs.declared.entry.Entry.{Entry}
 use Rattle.batch_desk.specs.Kept.{Desk}

@@ -1,7 +1,7 @@
 -- A desk on its way through a script.
 use Rattle.std.specs.Prelude.{◌≡◌, ◌⊎◌, ◌<◌, ◌≤◌, ℕ, List, [], ◌++◌, map, take, length, Option}
 use Rattle.std.specs.Str.Lines.{lines}
-use Rattle.bt_base.specs.Content.{Gains}
+use Rattle.byte_streams.specs.Content.{Gains}
 use Rattle.batch_desk.specs.declared.entry.Entry.{Entry}
 use Rattle.batch_desk.specs.Kept.{Desk}
 use Rattle.batch_desk.specs.History.{asked_of, fault_count}

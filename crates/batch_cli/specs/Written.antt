@@ -1,6 +1,6 @@
 -- What was written of a run that ended early.
 use Rattle.std.specs.Prelude.{◌≡◌, ℕ, List, ◌++◌, Option}
-use Rattle.bt_base.specs.Content.{Gains}
+use Rattle.byte_streams.specs.Content.{Gains}
 
 -- the bytes begin with this prefix
 pub record BeginsWith (bytes front : List ℕ) : Type 0 where

@@ -20,7 +20,8 @@ use crate::status::Status;
 use crate::stopped::Stopped;
 use batch_desk::Desk;
 use batch_keeper::{KeepError, Keeper};
-use bt_base::{NoMemory, Sink};
+use bt_base::NoMemory;
+use byte_streams::Sink;
 use cli_words::DRILL_LIMIT;
 use std::alloc::Global;
 

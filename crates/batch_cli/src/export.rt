@@ -7,7 +7,7 @@ use crate::replay::finish;
 use crate::status::Status;
 use crate::stopped::Stopped;
 use batch_keeper::{KeepError, Keeper};
-use bt_base::Sink;
+use byte_streams::Sink;
 use std::alloc::Global;
 
 /// Writes the tables text of the tables that the keeper loads, without opening them, and returns the keeper.

@@ -4,7 +4,7 @@ ghost use Rattle.bt_base.specs.Causes.{Rose};
 ghost use Rattle.batch_cli.specs.Headline.{RanFormula, WritesNothing, end_of};
 
 use crate::status::Status;
-use bt_base::{Sink, Source};
+use byte_streams::{Sink, Source};
 use cli_formula::{End, run_formula};
 use cli_words::FormulaOptions;
 use std::alloc::Global;

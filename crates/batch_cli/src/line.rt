@@ -1,7 +1,7 @@
 //! Lines of a script, each done and answered before the next.
 ghost use Rattle.std.specs.Prelude.{◌≡◌, ◌≤◌, Ok, Err, IfOk, OnOk, OnErr, IsErrOf, length};
 ghost use Rattle.bt_base.specs.Causes.{Rose};
-ghost use Rattle.bt_base.specs.Content.{Gains, GainsFront};
+ghost use Rattle.byte_streams.specs.Content.{Gains, GainsFront};
 ghost use Rattle.batch_desk.specs.Answers.{IsInOrder, HasSameOpening};
 ghost use Rattle.batch_wire.specs.LineRequest.TheVariants.{Call};
 ghost use Rattle.batch_wire.specs.Lines.{line_of};
@@ -16,9 +16,10 @@ use crate::tally::Tally;
 use batch_desk::Desk;
 use batch_keeper::Keeper;
 use batch_wire::{LineRequest, Read, read_line};
-use bt_base::{Fail, Moment, Sink, write_all};
+use bt_base::{Fail, Moment};
 use bt_rows::event::Event;
 use bt_rows::refusal::Refusal;
+use byte_streams::{Sink, write_all};
 use std::alloc::Global;
 
 /// Makes a call, and writes what it was answered.

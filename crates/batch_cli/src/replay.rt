@@ -2,7 +2,7 @@
 ghost use Rattle.std.specs.Prelude.{◌≡◌, ◌≤◌, [], IfOk, OnOk, OnErr, IsErrOf, length};
 ghost use Rattle.std.specs.Str.Lines.{lines};
 ghost use Rattle.bt_base.specs.Causes.{Rose};
-ghost use Rattle.bt_base.specs.Content.{Gains, GainsFront};
+ghost use Rattle.byte_streams.specs.Content.{Gains, GainsFront};
 ghost use Rattle.batch_desk.specs.Answers.{IsInOrder, Begins};
 ghost use Rattle.batch_wire.specs.Tables.{tables_text};
 ghost use Rattle.batch_cli.specs.EndStatus.{script_limit};
@@ -15,8 +15,8 @@ use crate::tally::Tally;
 use batch_desk::Desk;
 use batch_keeper::Keeper;
 use batch_wire::{split_line, write_tables};
-use bt_base::{Sink, write_all};
 use bt_rows::tables::Tables;
+use byte_streams::{Sink, write_all};
 use std::alloc::Global;
 
 /// Writes the tables text.

@@ -16,7 +16,8 @@ use crate::stopped::Stopped;
 use crate::tally::Tally;
 use batch_desk::Desk;
 use batch_keeper::{KeepError, Keeper};
-use bt_base::{NoMemory, ReadFault, Sink, Source, Word, read_all};
+use bt_base::{NoMemory, Word};
+use byte_streams::{ReadFault, Sink, Source, read_all};
 use cli_words::{Command, ReplayOptions, read_command};
 use std::alloc::Global;
 

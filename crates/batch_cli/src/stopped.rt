@@ -2,7 +2,8 @@
 ghost use Rattle.std.specs.Prelude.{◌≡◌};
 ghost use Rattle.batch_cli.specs.declared.stopped.Stopped.TheVariants.{Memory as OutOfMemory, SinkFault as Sinking};
 
-use bt_base::{Failed, NoMemory};
+use bt_base::NoMemory;
+use byte_streams::Failed;
 
 /// Why a script was not done to its end.
 #[derive(Clone, Copy, Debug, PartialEq, Eq)]

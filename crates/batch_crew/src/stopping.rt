@@ -2,7 +2,8 @@
 ghost use Rattle.std.specs.Prelude.{◌≡◌, ◌+◌, ◌<◌, ◌≤◌, vec_len, vec_capacity, OnErr, OnOk};
 ghost use Rattle.batch_crew.specs.Timers.{is_in, StopsRun, StopRuns};
 
-use bt_base::{Failed, NoMemory};
+use bt_base::NoMemory;
+use byte_streams::Failed;
 use child_runs::Stopper;
 
 /// Whether the number is one of these.

@@ -1,7 +1,7 @@
 -- What a service leaves, by how it went.
 use Rattle.std.proofs.Common.{◌≡◌, ℕ, List, [], Option, Some, None, ◌⊎◌, inl, inr, append-nil, refl, sym, subst}
 use Rattle.std.specs.Prelude.{IsSome, IfSome}
-use Rattle.bt_base.specs.Content.{Gains, GainsFront}
+use Rattle.byte_streams.specs.Content.{Gains, GainsFront}
 use Rattle.batch_keeper.specs.declared.error.KeepError.{KeepError}
 use Rattle.batch_keeper.specs.declared.error.KeepError.TheVariants.{Failed, Memory as NoMemory}
 use Rattle.batch_desk.specs.declared.journal.Journal.{Journal}

@@ -1,6 +1,6 @@
 -- What the command `serve` leaves.
 use Rattle.std.specs.Prelude.{◌≡◌, ◌≤◌, ◌⊎◌, ℕ, List, [], length, codes, Option, Some, None, IfSome, option_and_then}
-use Rattle.bt_base.specs.Content.{Gains, GainsFront}
+use Rattle.byte_streams.specs.Content.{Gains, GainsFront}
 use Rattle.batch_keeper.specs.declared.error.KeepError.{KeepError}
 use Rattle.batch_keeper.specs.declared.error.KeepError.TheVariants.{Failed, Memory as NoMemory}
 use Rattle.batch_model.specs.Opening.{opening}

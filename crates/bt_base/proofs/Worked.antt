@@ -1,12 +1,12 @@
 -- Texts whose words, ids and numbers were worked out by hand, computed.
-use Rattle.std.proofs.Common.{◌≡◌, ℕ, List, [], ◌∷◌, Option, Some, None, Result, Ok, Err, map, refl}
+use Rattle.std.proofs.Common.{◌≡◌, [], ◌∷◌, Some, None, Ok, Err, map, refl}
 use Rattle.std.specs.Prelude.{codes, pos, negsuc}
 use Rattle.std.specs.Fmt.{digits}
 use Rattle.bt_base.specs.declared.id.IdFault.TheVariants.{Empty, BadCharacter}
 use Rattle.bt_base.specs.declared.line.LineFault.TheVariants.{NoWord, OpenQuote}
 use Rattle.bt_base.specs.declared.number.NumFault.TheVariants.{NotANumber, TooLarge, DivideByZero}
 use Rattle.bt_base.specs.CommandLines.{read_words}
-use Rattle.bt_base.specs.Ids.{read_id, id_number, same}
+use Rattle.bt_base.specs.Ids.{read_id, id_number}
 use Rattle.bt_base.specs.Numbers.{read_number, number_text, quotient_of, bounded, is_digits, zeros, millionths_of, fraction_text, decimals}
 
 words_of_lines : map read_words

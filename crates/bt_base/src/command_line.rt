@@ -40,7 +40,7 @@ impl CommandLine {
             return Ok(None);
         }
         Ok(Some(CommandLine {
-            text: Text::of_string(String::from_str(alloc, text)?),
+            text: Text::of_string(String::from_str(alloc, text)?)?,
         }))
     }
 

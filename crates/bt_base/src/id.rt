@@ -56,7 +56,7 @@ impl Id {
         match fault_of(text) {
             Some(fault) => Err(Fail::Why(fault)),
             None => Ok(Id {
-                text: Text::of_string(String::from_str(alloc, text)?),
+                text: Text::of_string(String::from_str(alloc, text)?)?,
             }),
         }
     }

@@ -136,7 +136,7 @@ impl Num {
         let whole = magnitude / 1_000_000;
         let mut text = format!(in alloc; "{sign}{whole}")?;
         push_fraction(&mut text, magnitude % 1_000_000)?;
-        Ok(Text::of_string(text))
+        Text::of_string(text)
     }
 }
 

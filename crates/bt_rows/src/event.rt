@@ -6,7 +6,7 @@ use crate::job::ReleaseTask;
 use crate::pool::{Dealloc, Fill, StartTask};
 use crate::run::Ending;
 use crate::task::{Given, Multi};
-use bt_base::{CommandLine, Id, List, Num, Text};
+use bt_base::{CommandLine, Id, List, Num, Shared, Text};
 use std::marker::Model;
 
 /// How a pool is to scale automatically.
@@ -167,7 +167,7 @@ pub struct TaskSpec {
 #[derive(Drop)]
 pub enum EventKind {
     /// A pool is added (Azure: Create Pool).
-    AddPool(PoolSpec),
+    AddPool(Shared<PoolSpec>),
     /// The pool with this id is deleted (Azure: Delete Pool).
     DeletePool(Id),
     /// The pool with this id is resized (Azure: Resize Pool).
@@ -181,9 +181,9 @@ pub enum EventKind {
     /// A formula is evaluated over the pool with this id, which it does not change (Azure: Evaluate Pool Auto Scale).
     EvaluateAutoscale(Id, Text),
     /// A job with this id is added (Azure: Create Job).
-    AddJob(Id, JobSpec),
+    AddJob(Id, Shared<JobSpec>),
     /// The job with this id is changed (Azure: Update Job).
-    PatchJob(Id, JobPatch),
+    PatchJob(Id, Shared<JobPatch>),
     /// The job with this id is disabled (Azure: Disable Job).
     DisableJob(Id, DisableTasks),
     /// The job with this id is enabled (Azure: Enable Job).
@@ -193,7 +193,7 @@ pub enum EventKind {
     /// The job with this id is deleted (Azure: Delete Job).
     DeleteJob(Id),
     /// A task is added to the job with this id (Azure: Create Task).
-    AddTask(Id, TaskSpec),
+    AddTask(Id, Shared<TaskSpec>),
     /// Tasks are added to the job with this id, each as `AddTask` would add it (Azure: Create Task Collection).
     AddTasks(Id, List<TaskSpec>),
     /// Of the job with the first id, the task with the second id is deleted (Azure: Delete Task).

@@ -21,21 +21,21 @@ impl Tables {
     pub fn find_pool(&self, id: &Id) -> Option<&PoolRow>
         ensures { option_copied result ≡ find (pool_has_id id.now) self.now.state.pools }
     {
-        self.pools.find(id)
+        self.pools.find_shared(id)
     }
 
     /// The node with this number.
     pub fn find_node(&self, number: u64) -> Option<&NodeRow>
         ensures { option_copied result ≡ find (node_has_number number) self.now.state.nodes }
     {
-        self.nodes.find(&number)
+        self.nodes.find_shared(&number)
     }
 
     /// The job with this id, but for case.
     pub fn find_job(&self, id: &Id) -> Option<&JobRow>
         ensures { option_copied result ≡ find (job_has_id id.now) self.now.state.jobs }
     {
-        self.jobs.find(id)
+        self.jobs.find_shared(id)
     }
 
     /// The task of the job with the first id that has the second id, but for case.
@@ -43,14 +43,14 @@ impl Tables {
     pub fn find_task(&self, job: &Id, id: &Id) -> Option<&TaskRow>
         ensures { option_copied result ≡ find (task_has_ids job.now id.now) self.now.state.tasks }
     {
-        self.tasks.find_by_text(&KeyText::of_ids(job, id))
+        self.tasks.find_shared_by_text(&KeyText::of_ids(job, id))
     }
 
     /// The run with this number.
     pub fn find_run(&self, number: u64) -> Option<&RunRow>
         ensures { option_copied result ≡ find (run_has_number number) self.now.state.runs }
     {
-        self.runs.find(&number)
+        self.runs.find_shared(&number)
     }
 
     /// The preparation of the job with this id, but for case, on the node with this number.
@@ -59,13 +59,13 @@ impl Tables {
         ensures { option_copied result ≡ find (prep_has_ids job.now node) self.now.state.preps }
     {
         self.preps
-            .find_by_text(&KeyText::of_number_and_id(node, job))
+            .find_shared_by_text(&KeyText::of_number_and_id(node, job))
     }
 
     /// The scaling of the pool with this id, but for case.
     pub fn find_scale(&self, pool: &Id) -> Option<&ScaleRow>
         ensures { option_copied result ≡ find (scale_has_pool pool.now) self.now.state.scales }
     {
-        self.scales.find(pool)
+        self.scales.find_shared(pool)
     }
 }

@@ -60,14 +60,14 @@ impl Tables {
     pub fn task_at(&self, place: usize) -> Option<&TaskRow>
         ensures { option_copied result ≡ slot_at self.now.task_slots place }
     {
-        self.tasks.row_at(place)
+        self.tasks.shared_at(place)
     }
 
     /// The run at this place. None if the place is free, or is not one of the tables'.
     pub fn run_at(&self, place: usize) -> Option<&RunRow>
         ensures { option_copied result ≡ slot_at self.now.run_slots place }
     {
-        self.runs.row_at(place)
+        self.runs.shared_at(place)
     }
 
     /// The number of places of tasks, with the free ones.

@@ -11,7 +11,7 @@ use crate::run::RunRow;
 use crate::sample::{SampleKey, SampleRow};
 use crate::scale::ScaleRow;
 use crate::task::{TaskKey, TaskRow};
-use bt_base::{Id, List, NoMemory};
+use bt_base::{Id, List, NoMemory, Shared};
 use kept_table::{Rows, Table};
 use std::alloc::Global;
 use std::marker::Model;
@@ -22,14 +22,14 @@ use std::marker::Model;
 /// that may be applied without an allocation.
 #[derive(Drop)]
 pub struct Tables {
-    pub(crate) pools: Table<PoolRow>,
-    pub(crate) nodes: Table<NodeRow>,
-    pub(crate) jobs: Table<JobRow>,
-    pub(crate) tasks: Table<TaskRow>,
-    pub(crate) runs: Table<RunRow>,
-    pub(crate) preps: Table<PrepRow>,
-    pub(crate) samples: Table<SampleRow>,
-    pub(crate) scales: Table<ScaleRow>,
+    pub(crate) pools: Table<Shared<PoolRow>>,
+    pub(crate) nodes: Table<Shared<NodeRow>>,
+    pub(crate) jobs: Table<Shared<JobRow>>,
+    pub(crate) tasks: Table<Shared<TaskRow>>,
+    pub(crate) runs: Table<Shared<RunRow>>,
+    pub(crate) preps: Table<Shared<PrepRow>>,
+    pub(crate) samples: Table<Shared<SampleRow>>,
+    pub(crate) scales: Table<Shared<ScaleRow>>,
     next_node: u64,
     next_run: u64,
     moment: u64,
@@ -59,35 +59,35 @@ impl Model for Tables {
 #[derive(Drop)]
 pub enum Change {
     /// Puts a pool.
-    PutPool(PoolRow),
+    PutPool(Shared<PoolRow>),
     /// Drops the pool with this id.
     DropPool(Id),
     /// Puts a node.
-    PutNode(NodeRow),
+    PutNode(Shared<NodeRow>),
     /// Drops the node with this number.
     DropNode(u64),
     /// Puts a job.
-    PutJob(JobRow),
+    PutJob(Shared<JobRow>),
     /// Drops the job with this id.
     DropJob(Id),
     /// Puts a task.
-    PutTask(TaskRow),
+    PutTask(Shared<TaskRow>),
     /// Drops the task with this key.
     DropTask(TaskKey),
     /// Puts a run.
-    PutRun(RunRow),
+    PutRun(Shared<RunRow>),
     /// Drops the run with this number.
     DropRun(u64),
     /// Puts a preparation.
-    PutPrep(PrepRow),
+    PutPrep(Shared<PrepRow>),
     /// Drops the preparation with this key.
     DropPrep(PrepKey),
     /// Puts a sample.
-    PutSample(SampleRow),
+    PutSample(Shared<SampleRow>),
     /// Drops the sample with this key.
     DropSample(SampleKey),
     /// Puts the scaling of a pool.
-    PutScale(ScaleRow),
+    PutScale(Shared<ScaleRow>),
     /// Drops the scaling of the pool with this id.
     DropScale(Id),
     /// Sets the numbers of the next node and of the next run.

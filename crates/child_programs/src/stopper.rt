@@ -2,7 +2,8 @@
 ghost use Rattle.std.specs.Prelude.{◌≡◌, ⊤, IfOk};
 
 use crate::table::ProgramTable;
-use bt_base::{Failed, NoMemory};
+use bt_base::NoMemory;
+use byte_streams::Failed;
 use child_runs::Stopper;
 use std::marker::Model;
 use std::sync::Wait;

@@ -1,6 +1,6 @@
 -- What stoppers were asked.
 use Rattle.std.specs.Prelude.{◌≡◌, ◌+◌, ◌-◌, ◌^◌, ◌↔◌, ◌∷◌, ℕ, List, [], Bool, true, false, min, Contains, Option}
-use Rattle.bt_base.specs.Content.{Gains}
+use Rattle.byte_streams.specs.Content.{Gains}
 
 -- the number of a run whose child program was to stop, and whether it was asked to
 pub record Stop : Type 0 where

@@ -3,7 +3,7 @@ ghost use Rattle.std.specs.Prelude.{◌≡◌, ◌+◌, ◌-◌, ◌^◌, ◌↔
 ghost use Rattle.bt_base.specs.Causes.{HasCause};
 ghost use Rattle.child_runs.specs.Counts.{CountsFault};
 
-use bt_base::Failed;
+use byte_streams::Failed;
 
 /// The numbers of the calls that fail, counted from 1, and how many calls were made and failed.
 #[derive(Drop)]

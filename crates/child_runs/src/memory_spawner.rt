@@ -6,7 +6,8 @@ use crate::counter::CallCounter;
 use crate::ran::{ChildEnding, ChildRun, Ran};
 use crate::spawner::Spawner;
 use crate::sure_spawner::SureSpawner;
-use bt_base::{Failed, Word};
+use bt_base::Word;
+use byte_streams::Failed;
 use std::alloc::Global;
 use std::marker::Model;
 

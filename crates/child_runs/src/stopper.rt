@@ -3,7 +3,7 @@ ghost use Rattle.std.specs.Prelude.{ℕ, is_ok};
 ghost use Rattle.bt_base.specs.Causes.{HasCause};
 ghost use Rattle.child_runs.specs.Stops.{Stop};
 
-use bt_base::Failed;
+use byte_streams::Failed;
 
 /// What asks child programs to stop.
 pub trait Stopper {

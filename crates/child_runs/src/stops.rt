@@ -1,11 +1,11 @@
 //! Stoppers in memory.
 ghost use Rattle.std.specs.Prelude.{◌≡◌, ◌∷◌, [], Some, option_map};
-ghost use Rattle.bt_base.specs.Content.{Gains};
+ghost use Rattle.byte_streams.specs.Content.{Gains};
 ghost use Rattle.child_runs.specs.Stops.{StopsSurely, StopsOrFails};
 
 use crate::counter::CallCounter;
 use crate::stopper::Stopper;
-use bt_base::Failed;
+use byte_streams::Failed;
 use std::alloc::Global;
 use std::marker::Model;
 

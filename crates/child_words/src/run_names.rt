@@ -10,14 +10,14 @@ use crate::names::Names;
 use bt_base::{Id, NoMemory, Text};
 use bt_rows::run::RunRow;
 use bt_rows::tables::Tables;
-use std::alloc::{AllocError, Global};
+use std::alloc::Global;
 use wire_words::node_id;
 
 /// The text with these characters.
-fn text_of(alloc: Global, text: &str) -> Result<Text, AllocError>
+fn text_of(alloc: Global, text: &str) -> Result<Text, NoMemory>
     ensures { IfOk result (λ copy. copy ≡ text.now) }
 {
-    Ok(Text::of_string(String::from_str(alloc, text)?))
+    Text::of_string(String::from_str(alloc, text)?)
 }
 
 /// The id as a text, if there is one.
@@ -35,7 +35,7 @@ fn node_text(alloc: Global, node: u64) -> Result<Text, NoMemory>
     ensures { IfOk result (λ text. text ≡ node_id node) }
 {
     let id = node_id(alloc, node)?;
-    Ok(text_of(alloc, id.as_str())?)
+    text_of(alloc, id.as_str())
 }
 
 /// Adds the id of the node.
@@ -60,7 +60,7 @@ fn node_list(alloc: Global, instances: &[Instance]) -> Result<Text, NoMemory>
             push_node(&mut list, alloc, one.node)?;
         }
     }
-    Ok(Text::of_string(list))
+    Text::of_string(list)
 }
 
 /// `true` or `false`.

@@ -1,7 +1,7 @@
 -- The output of the command `formula`, and how it ends.
 use Rattle.std.specs.Prelude.{◌≡◌, ◌⊎◌, ◌≤◌, ◌<◌, ℕ, List, [], ◌∷◌, ◌++◌, codes, length, take, Option, Some, None, IsSome, Result, Ok, Err}
 use Rattle.std.specs.Fmt.{decimal}
-use Rattle.bt_base.specs.Content.{Gains, GainsFront}
+use Rattle.byte_streams.specs.Content.{Gains, GainsFront}
 use Rattle.bt_base.specs.Utf8.{utf8_text}
 use Rattle.formula_trees.specs.Formula.{StatementTree}
 use Rattle.bt_base.specs.declared.formula_fault.FormulaFault.{FormulaFault}

@@ -8,7 +8,8 @@ use crate::end::End;
 use crate::position::position_of;
 use crate::show::show;
 use crate::shown::Shown;
-use bt_base::{NoMemory, ReadFault, Sink, Source, read_all, write_all};
+use bt_base::NoMemory;
+use byte_streams::{ReadFault, Sink, Source, read_all, write_all};
 use cli_words::FormulaOptions;
 use std::alloc::Global;
 

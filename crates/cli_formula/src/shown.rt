@@ -1,6 +1,6 @@
 //! The output of a formula.
 ghost use Rattle.std.specs.Prelude.{◌≡◌, Ok, Err, IfOk, string_bytes};
-ghost use Rattle.bt_base.specs.Content.{Gains, GainsFront};
+ghost use Rattle.byte_streams.specs.Content.{Gains, GainsFront};
 ghost use Rattle.cli_formula.specs.Showing.{fault_line, fault_at, results_line};
 ghost use Rattle.cli_formula.specs.Shown.{shown_of};
 
@@ -45,7 +45,7 @@ pub fn of_fault(alloc: Global, name: &str, place: usize) -> Result<Shown, NoMemo
     ensures { IfOk result (λ shown. shown_of shown ≡ Err (fault_at name.now place)) }
 {
     let line = fault_line(alloc, name, place)?;
-    Ok(Shown::Fault(Text::of_string(line), place))
+    Ok(Shown::Fault(Text::of_string(line)?, place))
 }
 
 /// The output of these results.
@@ -53,5 +53,5 @@ pub fn of_outcome(alloc: Global, outcome: &Outcome) -> Result<Shown, NoMemory>
     ensures { IfOk result (λ shown. shown_of shown ≡ Ok (results_line outcome.now)) }
 {
     let line = results_line(alloc, outcome)?;
-    Ok(Shown::Results(Text::of_string(line)))
+    Ok(Shown::Results(Text::of_string(line)?))
 }

@@ -68,5 +68,5 @@ pub fn results_text(alloc: Global, outcome: &Outcome) -> Result<Text, NoMemory>
     let targets = outcome.targets;
     let mut text = settings_text(alloc, targets.dedicated, targets.low, word)?;
     push_variables(alloc, &mut text, outcome.variables.as_slice())?;
-    Ok(Text::of_string(text))
+    Text::of_string(text)
 }

@@ -11,7 +11,7 @@ use std::alloc::Global;
 pub fn copied(alloc: Global, text: &str) -> Result<Text, NoMemory>
     ensures { IfOk result (λ copy. copy ≡ text.now) }
 {
-    Ok(Text::of_string(String::from_str(alloc, text)?))
+    Text::of_string(String::from_str(alloc, text)?)
 }
 
 /// A part of a formula's text as a text of its own.
@@ -20,7 +20,7 @@ pub fn text_in(alloc: Global, bytes: &[u8]) -> Result<Text, NoMemory>
 {
     match text_of(bytes) {
         Some(text) => copied(alloc, text),
-        None => Ok(Text::of_string(String::new(alloc))),
+        None => Text::of_string(String::new(alloc)),
     }
 }
 

@@ -10,11 +10,11 @@ ghost use Rattle.formula_types.specs.Compiled.{OrFault, IsRead, IsFormula, HasFa
 use crate::fault::{FormulaFault, of_lexical, of_syntax, of_type};
 use crate::formula::Formula;
 use crate::statement::check;
-use bt_base::{Fail, Text};
+use bt_base::{Fail, NoMemory, Text};
 use formula_lex::{Token, lex};
 use formula_syntax::parse;
 use formula_trees::Statement;
-use std::alloc::{AllocError, Global};
+use std::alloc::Global;
 
 /// The tokens of a text.
 fn tokens(alloc: Global, text: &str) -> Result<Vec<Token>, Fail<FormulaFault>>
@@ -56,10 +56,10 @@ fn types(alloc: Global, text: &str, statements: &[Statement]) -> Result<(), Fail
 }
 
 /// A copy of the text.
-fn copied(alloc: Global, text: &str) -> Result<Text, AllocError>
+fn copied(alloc: Global, text: &str) -> Result<Text, NoMemory>
     ensures { IfOk result (λ copy. copy ≡ text.now) }
 {
-    Ok(Text::of_string(String::from_str(alloc, text)?))
+    Text::of_string(String::from_str(alloc, text)?)
 }
 
 /// The formula of a text that is read as these statements.

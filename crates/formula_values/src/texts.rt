@@ -21,7 +21,7 @@ impl Value {
             Value::Timestamp(time) => timestamp_text(alloc, *time),
             Value::TimeInterval(time) => {
                 let units = time.units();
-                Ok(Text::of_string(format!(in alloc; "{units}")?))
+                Text::of_string(format!(in alloc; "{units}")?)
             }
         }
     }
@@ -34,7 +34,7 @@ fn vector_text(alloc: Global, items: &[Num]) -> Result<Text, NoMemory>
     let mut text = String::from_str(alloc, "[")?;
     push_items(alloc, &mut text, items)?;
     text.push(']')?;
-    Ok(Text::of_string(text))
+    Text::of_string(text)
 }
 
 fn push_items(alloc: Global, text: &mut String, items: &[Num]) -> Result<(), NoMemory>
@@ -66,7 +66,7 @@ fn timestamp_text(alloc: Global, time: Timestamp) -> Result<Text, NoMemory>
     let units = time.units();
     let mut text = String::new(alloc);
     push_time(&mut text, civil(units), (units % 10_000_000) as u32)?;
-    Ok(Text::of_string(text))
+    Text::of_string(text)
 }
 
 /// Appends a date and a time of day, with `units` of 100 ns past the second, as ISO 8601 writes them.

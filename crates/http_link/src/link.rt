@@ -3,9 +3,9 @@ ghost use Rattle.std.specs.Prelude.{◌≡◌, ◌<◌, ◌≤◌, ◌+◌, ◌-
 ghost use Rattle.std.specs.Io.{ReadsAtMost, WritesAtMost};
 ghost use Rattle.std.specs.Io.KnownBytes.{ReadConsumes};
 ghost use Rattle.bt_base.specs.Causes.{HasCause};
-ghost use Rattle.bt_base.specs.Content.{Gains, Takes, GainsFront};
+ghost use Rattle.byte_streams.specs.Content.{Gains, Takes, GainsFront};
 
-use bt_base::Failed;
+use byte_streams::Failed;
 
 /// A link to a peer: a source of the bytes that the peer sends, and a sink of those that it is sent.
 pub trait Link {

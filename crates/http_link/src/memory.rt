@@ -3,13 +3,13 @@ ghost use Rattle.std.specs.Prelude.{◌≡◌, ◌<◌, ◌≤◌, ◌+◌, ◌-
 ghost use Rattle.std.specs.Io.{ReadsAtMost, WritesAtMost};
 ghost use Rattle.std.specs.Io.KnownBytes.{ReadConsumes};
 ghost use Rattle.bt_base.specs.Causes.{HasCause};
-ghost use Rattle.bt_base.specs.Content.{Takes};
+ghost use Rattle.byte_streams.specs.Content.{Takes};
 ghost use Rattle.http_link.specs.Pieces.{joined};
 ghost use Rattle.http_link.specs.Links.{left_of, taken_by, left_in, taken_in, failing_calls, calls_of, call_faults};
 
 use crate::link::Link;
 use crate::pieces::Pieces;
-use bt_base::Failed;
+use byte_streams::Failed;
 use std::alloc::Global;
 
 /// A link in memory that never fails. Once it is out of memory it drops what it took, and later bytes too.

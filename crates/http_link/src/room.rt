@@ -5,7 +5,7 @@ ghost use Rattle.http_link.specs.Filling.{Fills, LeftAfter};
 ghost use Rattle.http_link.specs.declared.room.FillFault.TheVariants.{Memory, Failed as FailedToFill};
 
 use crate::link::Link;
-use bt_base::Failed;
+use byte_streams::Failed;
 use std::alloc::AllocError;
 
 /// The most bytes that `fill` adds at once.

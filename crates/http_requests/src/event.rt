@@ -6,7 +6,7 @@ ghost use Rattle.http_requests.specs.Events.{add_pool, unbuilt_of_pool, add_job,
 ghost use Rattle.http_requests.specs.Events.{add_task, add_tasks, delete_task, terminate_task, reactivate_task, post_for, delete_for};
 
 use crate::ids::{first_id, job_and_task};
-use bt_base::{Fail, Text};
+use bt_base::{Fail, Shared, Text};
 use bt_rows::event::EventKind;
 use bt_rows::refusal::Refusal;
 use http_routes::Route;
@@ -21,7 +21,8 @@ fn add_pool(alloc: Global, body: &[u8]) -> Result<EventKind, Fail<Refusal>>
     ensures value { Gives result (add_pool body.now) }
     ensures kept { IfOk result (λ kind. is_event_in_range kind ≡ true) }
 {
-    Ok(EventKind::AddPool(read_pool(alloc, body)?))
+    let pool = read_pool(alloc, body)?;
+    Ok(EventKind::AddPool(Shared::new(alloc, pool)?))
 }
 
 /// A request for a pool that is refused until its event is built.
@@ -40,7 +41,7 @@ fn add_job(alloc: Global, body: &[u8]) -> Result<EventKind, Fail<Refusal>>
     ensures kept { IfOk result (λ kind. is_event_in_range kind ≡ true) }
 {
     let (id, job) = read_job(alloc, body)?;
-    Ok(EventKind::AddJob(id, job))
+    Ok(EventKind::AddJob(id, Shared::new(alloc, job)?))
 }
 
 /// The event that is asked for by `PATCH`, which only the route of a job has.
@@ -50,7 +51,8 @@ pub fn patch_job(alloc: Global, path: &str, body: &[u8]) -> Result<EventKind, Fa
     ensures kept { IfOk result (λ kind. is_event_in_range kind ≡ true) }
 {
     let job = first_id(alloc, path)?;
-    Ok(EventKind::PatchJob(job, read_job_patch(alloc, body)?))
+    let patch = read_job_patch(alloc, body)?;
+    Ok(EventKind::PatchJob(job, Shared::new(alloc, patch)?))
 }
 
 #[tactic(auto, unfolding(crate::specs::Events::delete_job))]
@@ -106,7 +108,8 @@ fn add_task(alloc: Global, path: &str, body: &[u8]) -> Result<EventKind, Fail<Re
     ensures kept { IfOk result (λ kind. is_event_in_range kind ≡ true) }
 {
     let job = first_id(alloc, path)?;
-    Ok(EventKind::AddTask(job, read_task(alloc, body)?))
+    let task = read_task(alloc, body)?;
+    Ok(EventKind::AddTask(job, Shared::new(alloc, task)?))
 }
 
 #[tactic(auto, unfolding(crate::specs::Events::add_tasks))]

@@ -52,7 +52,7 @@ fn error_body(alloc: Global, code: &str) -> Result<Text, NoMemory>
 {
     let before = "{\"code\":\"";
     let after = "\",\"number\":0,\"values\":[]}";
-    Ok(Text::of_string(format!(in alloc; "{before}{code}{after}")?))
+    Text::of_string(format!(in alloc; "{before}{code}{after}")?)
 }
 
 /// A response with this status, whose body is an error object with this code, the number 0 and no values. The code has letters
@@ -80,7 +80,7 @@ pub fn route_not_found(alloc: Global) -> Result<Response, NoMemory>
 pub fn method_not_allowed(alloc: Global, methods: AllowedMethods) -> Result<Response, NoMemory>
     ensures { IfOk result (λ response. response ≡ method_not_allowed methods) }
 {
-    let names = Text::of_string(String::from_str(alloc, allow(methods))?);
+    let names = Text::of_string(String::from_str(alloc, allow(methods))?)?;
     Ok(Response {
         status: StatusCode::METHOD_NOT_ALLOWED,
         extra: Some(ExtraField::Allow(names)),

@@ -3,8 +3,8 @@ use Rattle.std.proofs.Common.{◌≡◌, ◌+◌, ◌<◌, ℕ, Bool, true, fals
 use Rattle.std.proofs.lemmas.List.{append-nil}
 use Rattle.std.proofs.lemmas.Grind.{flat_map-append}
 use Rattle.std.specs.Io.KnownBytes.{Consumes}
-use Rattle.bt_base.specs.Content.{Gains, GainsFront}
-use Rattle.bt_base.proofs.Gaining.{gains_nothing, gains_more}
+use Rattle.byte_streams.specs.Content.{Gains, GainsFront}
+use Rattle.byte_streams.proofs.Gaining.{gains_nothing, gains_more}
 use Rattle.http_serving.specs.declared.connection.TheConstants.{MESSAGE_LIMIT}
 use Rattle.http_serving.specs.declared.end.End.{End}
 use Rattle.http_serving.specs.declared.end.End.TheVariants.{Closed, Asked, Spent, Truncated, BadHead, BadFraming, HeadTooLong, BodyTooLong, LinkFault, Memory}

@@ -5,8 +5,8 @@ use Rattle.std.specs.Io.KnownBytes.{Consumes}
 use Rattle.httparse.specs.Grammar.{RequestHead, ReadsRequest}
 use Rattle.httparse.specs.Spans.{span_bytes}
 use Rattle.httparse.proofs.GrammarLemmas.{ReadsRequest-append}
-use Rattle.bt_base.specs.Content.{Gains, GainsFront}
-use Rattle.bt_base.proofs.Gaining.{gains_nothing}
+use Rattle.byte_streams.specs.Content.{Gains, GainsFront}
+use Rattle.byte_streams.proofs.Gaining.{gains_nothing}
 use Rattle.http_head.specs.declared.framing.Framing.TheVariants.{Body}
 use Rattle.http_serving.specs.declared.connection.TheConstants.{MESSAGE_LIMIT}
 use Rattle.http_serving.specs.declared.end.End.{End}

@@ -4,7 +4,7 @@ use Rattle.std.specs.Prelude.{◌≡◌, ℕ, ◌+◌, ◌<◌, Bool, true, fals
 use Rattle.std.specs.List.{flat_map}
 use Rattle.std.specs.Str.{bytes_eq}
 use Rattle.httparse.specs.Grammar.{RequestHead}
-use Rattle.bt_base.specs.Content.{Gains, GainsFront}
+use Rattle.byte_streams.specs.Content.{Gains, GainsFront}
 use Rattle.http_head.specs.Fields.{fields_of}
 use Rattle.http_head.specs.Framing.{is_last}
 use Rattle.http_serving.specs.declared.connection.TheConstants.{MESSAGE_LIMIT}

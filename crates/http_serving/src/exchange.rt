@@ -3,7 +3,7 @@ ghost use Rattle.std.specs.Prelude.{◌≡◌, ◌≤◌, ◌⊎◌, drop, lengt
 ghost use Rattle.std.specs.Str.{bytes_eq};
 ghost use Rattle.httparse.specs.Spans.{IsWithin, span_bytes};
 ghost use Rattle.bt_base.specs.Causes.{Rose};
-ghost use Rattle.bt_base.specs.Content.{Gains, GainsFront};
+ghost use Rattle.byte_streams.specs.Content.{Gains, GainsFront};
 ghost use Rattle.http_serving.specs.Responses.{head_text, text_of};
 ghost use Rattle.http_serving.specs.Reading.{IsFault};
 ghost use Rattle.http_serving.specs.Connection.{last_text, EndsAs, IsWritten};
@@ -14,7 +14,8 @@ use crate::messages::{Message, find_message};
 use crate::response::Response;
 use crate::service::Service;
 use crate::texts::{end_text, response_text};
-use bt_base::{Failed, NoMemory};
+use bt_base::NoMemory;
+use byte_streams::Failed;
 use http_link::{Link, write_all};
 use std::alloc::Global;
 use std::str;

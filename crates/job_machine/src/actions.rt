@@ -11,7 +11,7 @@ ghost use Rattle.batch_model.specs.WellFormed.{KeysAreDistinct};
 ghost use Rattle.job_machine.specs.Settled.{IsFirstOver};
 
 use crate::change::can_disable;
-use bt_base::{NoMemory, Text};
+use bt_base::{NoMemory, Shared, Text};
 use bt_rows::job::JobRow;
 use bt_rows::tables::{Change, Tables};
 use bt_rows::task::{Closed, JobAction, TaskRow};
@@ -24,7 +24,7 @@ use task_stops::{disable_after_put, terminate_after_put};
 fn task_failed(alloc: Global) -> Result<Text, NoMemory>
     ensures { IfOk result (λ reason. reason ≡ task_failed) }
 {
-    Ok(Text::of_string(String::from_str(alloc, "TaskFailed")?))
+    Text::of_string(String::from_str(alloc, "TaskFailed")?)
 }
 
 /// The changes that disable the job after this row of a task was put, if it can be disabled: its placed tasks are requeued.
@@ -122,8 +122,9 @@ pub fn complete(
     requires there { job_of tables.now.state job.now.id ≡ Some job.now }
     ensures { IfOk result (λ changes. apply_changes changes.items tables.now.state ≡ act_if_asked action job.now (put_task (completed closed task.now) tables.now.state)) }
 {
-    let row = completed(closed, task)?;
-    let mut later = act_if_asked(alloc, tables, action, &row, job)?;
+    let done = completed(closed, task)?;
+    let mut later = act_if_asked(alloc, tables, action, &done, job)?;
+    let row = Shared::new(alloc, done)?;
     let mut changes = vec![in alloc; Change::PutTask(row)]?;
     changes.append(&mut later)?;
     Ok(changes)

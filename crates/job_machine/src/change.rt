@@ -10,7 +10,7 @@ ghost use Rattle.batch_model.specs.Sound.{names_no_task};
 ghost use Rattle.batch_model.specs.WellFormed.{KeysAreDistinct};
 ghost use Rattle.machine_plans.specs.Plans.{IsAnswer, IsPlanOf, with_moment};
 
-use bt_base::{Duplicate, Fail, Id, NoMemory, Text};
+use bt_base::{Duplicate, Fail, Id, NoMemory, Shared, Text};
 use bt_rows::event::{DisableTasks, JobPatch};
 use bt_rows::job::{JobRow, JobState};
 use bt_rows::plan::Plan;
@@ -43,7 +43,7 @@ fn put_job(
     now: u64,
     status: u16,
     job: &JobRow,
-    row: JobRow,
+    row: Shared<JobRow>,
 ) -> Result<Plan, NoMemory>
     requires keys { KeysAreDistinct tables.now.state }
     requires there { job_of tables.now.state job.now.id ≡ Some job.now }
@@ -78,7 +78,7 @@ fn patch_found(
     if takes_end_back(patch, job) {
         return Err(Fail::Why(Refusal::TerminationEngaged));
     }
-    let row = patched(patch, job)?;
+    let row = Shared::new(alloc, patched(patch, job)?)?;
     Ok(put_job(alloc, tables, now, 200, job, row)?)
 }
 
@@ -113,7 +113,7 @@ fn enable_found(
     if job.state != JobState::Disabled {
         return Err(Fail::Why(Refusal::JobStateRefuses(job.state)));
     }
-    let row = job_in(JobState::Enabling, job)?;
+    let row = Shared::new(alloc, job_in(JobState::Enabling, job)?)?;
     Ok(put_job(alloc, tables, now, 202, job, row)?)
 }
 
@@ -178,7 +178,7 @@ pub fn disable_job(
 fn user_terminate(alloc: Global) -> Result<Text, NoMemory>
     ensures { IfOk result (λ reason. reason ≡ user_terminate) }
 {
-    Ok(Text::of_string(String::from_str(alloc, "UserTerminate")?))
+    Text::of_string(String::from_str(alloc, "UserTerminate")?)
 }
 
 /// The reason that is named, or else that of a termination that names none.

@@ -15,7 +15,7 @@ ghost use Rattle.table_scans.specs.Runs.{is_start_number};
 
 use crate::preparing::end_preparation;
 use crate::preps::released;
-use bt_base::{Fail, NoMemory};
+use bt_base::{Fail, NoMemory, Shared};
 use bt_rows::plan::{Plan, View};
 use bt_rows::prep::PrepRow;
 use bt_rows::refusal::Refusal;
@@ -46,7 +46,7 @@ fn put_end(
     requires there { run_of tables.now.state run.now.number ≡ Some run.now }
     ensures { IfOk result (IsPlanOf (accept 200 (with_end now ending run.now tables.now.state)) tables.now.state) }
 {
-    let ended = ended_run(now, ending, run)?;
+    let ended = Shared::new(alloc, ended_run(now, ending, run)?)?;
     accept_one(alloc, tables, now, 200, Change::PutRun(ended))
 }
 
@@ -83,8 +83,8 @@ fn put_released(
     requires found { prep_of_run tables.now.state run.now ≡ Some prep.now }
     ensures { IfOk result (IsPlanOf (accept 200 (change_prep prep.now released (with_end now ending run.now tables.now.state))) tables.now.state) }
 {
-    let ended = ended_run(now, ending, run)?;
-    let done = released(prep)?;
+    let ended = Shared::new(alloc, ended_run(now, ending, run)?)?;
+    let done = Shared::new(alloc, released(prep)?)?;
     accept_two(
         alloc,
         tables,

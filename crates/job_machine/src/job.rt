@@ -6,7 +6,7 @@ ghost use Rattle.batch_model.specs.Jobs.{new_job};
 ghost use Rattle.batch_model.specs.Rows.{job_of, pool_of, add_job_row};
 ghost use Rattle.machine_plans.specs.Plans.{IsAnswer, IsPlanOf, with_moment};
 
-use bt_base::{Duplicate, Fail, Id, NoMemory};
+use bt_base::{Duplicate, Fail, Id, NoMemory, Shared};
 use bt_rows::event::JobSpec;
 use bt_rows::job::{JobRow, JobState};
 use bt_rows::limits::JOB_LIMIT;
@@ -40,7 +40,12 @@ fn new_job(now: u64, id: &Id, pool: &Id, spec: &JobSpec) -> Result<JobRow, NoMem
 }
 
 /// The plan that adds a job whose id no job has.
-fn put_new_job(alloc: Global, tables: &Tables, now: u64, job: JobRow) -> Result<Plan, NoMemory>
+fn put_new_job(
+    alloc: Global,
+    tables: &Tables,
+    now: u64,
+    job: Shared<JobRow>,
+) -> Result<Plan, NoMemory>
     requires { is_some (job_of tables.now.state job.id) ≡ false }
     ensures { IfOk result (IsPlanOf (accept 201 (add_job_row job (with_moment now tables.now.state))) tables.now.state) }
 {
@@ -65,7 +70,8 @@ fn add_job_in(
     if tables.job_count() as u64 >= JOB_LIMIT {
         return Err(Fail::Why(Refusal::TableFull(Table::Jobs, JOB_LIMIT)));
     }
-    Ok(put_new_job(alloc, tables, now, new_job(now, id, &pool.id, spec)?)?)
+    let job = Shared::new(alloc, new_job(now, id, &pool.id, spec)?)?;
+    Ok(put_new_job(alloc, tables, now, job)?)
 }
 
 /// The answer to `add-job` with an id that no job has.

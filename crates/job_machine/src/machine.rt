@@ -53,8 +53,8 @@ pub fn plan_event(alloc: Global, view: &View, event: &Event) -> Result<Plan, Fai
     ensures { IsAnswer view.entry.now.now (event_now event.now (with_moment view.entry.now.now view.entry.now.tables.now.state)) view.entry.now.tables.now.state result }
 {
     match event.kind() {
-        EventKind::AddJob(id, spec) => add_job(alloc, view.tables, view.now, id, spec),
-        EventKind::PatchJob(id, patch) => patch_job(alloc, view.tables, view.now, id, patch),
+        EventKind::AddJob(id, spec) => add_job(alloc, view.tables, view.now, id, spec.get()),
+        EventKind::PatchJob(id, patch) => patch_job(alloc, view.tables, view.now, id, patch.get()),
         EventKind::DisableJob(id, option) => {
             disable_job(alloc, view.tables, view.now, id, *option)
         }
@@ -63,7 +63,7 @@ pub fn plan_event(alloc: Global, view: &View, event: &Event) -> Result<Plan, Fai
             terminate_job(alloc, view.tables, view.now, id, reason.as_ref())
         }
         EventKind::DeleteJob(id) => delete_job(alloc, view.tables, view.now, id),
-        EventKind::AddTask(job, spec) => add_task(alloc, view.tables, view.now, job, spec),
+        EventKind::AddTask(job, spec) => add_task(alloc, view.tables, view.now, job, spec.get()),
         EventKind::AddTasks(job, specs) => {
             add_tasks(alloc, view.tables, view.now, job, specs.as_slice())
         }

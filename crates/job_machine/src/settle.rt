@@ -16,7 +16,7 @@ ghost use Rattle.machine_plans.specs.Plans.{IsPlanOf, IsRule, answer_of_step};
 ghost use Rattle.job_machine.specs.Settled.{IsFirstOver};
 
 use crate::actions::complete;
-use bt_base::{Duplicate, List, NoMemory};
+use bt_base::{Duplicate, List, NoMemory, Shared};
 use bt_rows::due::{Due, Outcome};
 use bt_rows::job::JobRow;
 use bt_rows::plan::Plan;
@@ -94,7 +94,7 @@ fn put_settled(
     tables: &Tables,
     task: &TaskRow,
     outcome: Outcome,
-    row: TaskRow,
+    row: Shared<TaskRow>,
 ) -> Result<Plan, NoMemory>
     requires over { IsFirstOver tables.now.state task.now }
     requires job { row.job ≡ task.now.job }
@@ -123,7 +123,7 @@ fn settle_terminated(alloc: Global, tables: &Tables, task: &TaskRow) -> Result<P
     requires { IsFirstOver tables.now.state task.now }
     ensures { IfOk result (IsPlanOf (answer_of_step (settle_terminated tables.now.state task.now)) tables.now.state) }
 {
-    let row = terminated(tables.moment(), task)?;
+    let row = Shared::new(alloc, terminated(tables.moment(), task)?)?;
     put_settled(alloc, tables, task, Outcome::Failure, row)
 }
 
@@ -137,7 +137,7 @@ fn settle_again(
     requires { IsFirstOver tables.now.state task.now }
     ensures { IfOk result (IsPlanOf (answer_of_step (settle_again tables.now.state task.now failures)) tables.now.state) }
 {
-    let row = again(failures, task)?;
+    let row = Shared::new(alloc, again(failures, task)?)?;
     put_settled(alloc, tables, task, Outcome::Again(failures), row)
 }
 

@@ -6,20 +6,22 @@ ghost use Rattle.bt_rows.specs.declared.due.Due.TheVariants.{ReleaseMade};
 ghost use Rattle.batch_model.specs.Finding.{has_number_left};
 ghost use Rattle.batch_model.specs.JobRules.{is_being_prepared, is_releasing, release_first, release_for, release_made, release_on, releasing, wants_release};
 ghost use Rattle.batch_model.specs.Rows.{job_of, prep_of};
+ghost use Rattle.batch_model.specs.Runs.{job_run};
 ghost use Rattle.batch_model.specs.Sound.{NumbersAreNew};
+ghost use Rattle.batch_model.specs.Variants.{ReleaseRun};
 ghost use Rattle.batch_model.specs.WellFormed.{KeysAreDistinct};
-ghost use Rattle.machine_plans.specs.Plans.{IsPlanOf, IsRule, answer_of_step};
+ghost use Rattle.machine_plans.specs.Plans.{IsPlanOf, IsRule, answer_of_step, with_moment};
 ghost use Rattle.job_rules.specs.Releases.{has_release, is_to_release};
 
 use crate::removal::is_closing;
 use crate::rule::has_placed_task;
-use bt_base::{Duplicate, Id, NoMemory};
+use bt_base::{Duplicate, Id, NoMemory, Shared};
 use bt_rows::due::Due;
 use bt_rows::job::{JobRow, ReleaseTask};
 use bt_rows::node::NodeRow;
 use bt_rows::plan::Plan;
 use bt_rows::prep::{PrepRow, PrepState, ReleaseState};
-use bt_rows::run::RunKind;
+use bt_rows::run::{RunKind, RunRow};
 use bt_rows::tables::{Change, Tables};
 use machine_plans::{job_run, step_three};
 use std::alloc::Global;
@@ -90,6 +92,36 @@ fn releasing(prep: &PrepRow) -> Result<PrepRow, NoMemory>
     Ok(row)
 }
 
+/// The preparation, whose release run is made, in a block of its own.
+fn releasing_prep(alloc: Global, prep: &PrepRow) -> Result<Shared<PrepRow>, NoMemory>
+    ensures { IfOk result (λ row. row ≡ releasing prep.now) }
+{
+    Shared::new(alloc, releasing(prep)?)
+}
+
+/// The run of the job's release task on the node, made at `made`, in milliseconds since 1970, in a block of its own.
+fn release_run(
+    alloc: Global,
+    tables: &Tables,
+    made: u64,
+    node: &NodeRow,
+    job: &JobRow,
+    release: &ReleaseTask,
+) -> Result<Shared<RunRow>, NoMemory>
+    ensures { IfOk result (λ run. run ≡ job_run (with_moment made tables.now.state) node.now.number node.now.pool ReleaseRun release.now.line job.now.id) }
+{
+    let run = job_run(
+        tables,
+        made,
+        node.number,
+        &node.pool,
+        RunKind::Release,
+        &release.line,
+        &job.id,
+    )?;
+    Shared::new(alloc, run)
+}
+
 /// The plan that makes a run of the job's release task on the node.
 fn make(
     alloc: Global,
@@ -107,16 +139,8 @@ fn make(
 {
     let number = tables.next_run();
     let due = Due::ReleaseMade(job.id.copy()?, node.number, number);
-    let row = releasing(prep)?;
-    let run = job_run(
-        tables,
-        tables.moment(),
-        node.number,
-        &node.pool,
-        RunKind::Release,
-        &release.line,
-        &job.id,
-    )?;
+    let row = releasing_prep(alloc, prep)?;
+    let run = release_run(alloc, tables, tables.moment(), node, job, release)?;
     let counters = Change::Counters(tables.next_node(), number + 1);
     step_three(
         alloc,

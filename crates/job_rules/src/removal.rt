@@ -11,7 +11,7 @@ ghost use Rattle.row_changes.specs.Puts.{changes_where, job_drop, task_drop, run
 ghost use Rattle.job_rules.specs.Removals.{is_run_of_job, is_prep_of_job, removal};
 
 use crate::rule::{has_placed_task, step_job};
-use bt_base::{Duplicate, Id, List, NoMemory};
+use bt_base::{Duplicate, Id, List, NoMemory, Shared};
 use bt_rows::due::{Due, JobEnd};
 use bt_rows::job::{JobRow, JobState};
 use bt_rows::plan::Plan;
@@ -66,7 +66,7 @@ fn complete(alloc: Global, tables: &Tables, job: &JobRow) -> Result<Plan, NoMemo
     ensures { IfOk result (IsPlanOf (answer_of_step (job_completed tables.now.state job.now)) tables.now.state) }
 {
     let due = Due::JobEnded(job.id.copy()?, JobEnd::Kept);
-    let row = job_in(JobState::Completed, job)?;
+    let row = Shared::new(alloc, job_in(JobState::Completed, job)?)?;
     step_job(alloc, tables, due, job, row)
 }
 

@@ -10,7 +10,7 @@ ghost use Rattle.batch_model.specs.Tasks.{has_placed_task};
 ghost use Rattle.batch_model.specs.WellFormed.{KeysAreDistinct};
 ghost use Rattle.machine_plans.specs.Plans.{IsPlanOf, IsRule, answer_of_step};
 
-use bt_base::{Duplicate, Id, List, NoMemory, Text};
+use bt_base::{Duplicate, Id, List, NoMemory, Shared, Text};
 use bt_rows::due::Due;
 use bt_rows::job::{JobRow, JobState};
 use bt_rows::plan::Plan;
@@ -35,7 +35,7 @@ pub fn step_job(
     tables: &Tables,
     due: Due,
     job: &JobRow,
-    row: JobRow,
+    row: Shared<JobRow>,
 ) -> Result<Plan, NoMemory>
     requires keys { KeysAreDistinct tables.now.state }
     requires there { job_of tables.now.state job.now.id ≡ Some job.now }
@@ -52,7 +52,7 @@ fn enable(alloc: Global, tables: &Tables, job: &JobRow) -> Result<Plan, NoMemory
     ensures { IfOk result (IsPlanOf (answer_of_step (job_enabled tables.now.state job.now)) tables.now.state) }
 {
     let due = Due::JobEnabled(job.id.copy()?);
-    let row = job_in(JobState::Active, job)?;
+    let row = Shared::new(alloc, job_in(JobState::Active, job)?)?;
     step_job(alloc, tables, due, job, row)
 }
 
@@ -97,7 +97,7 @@ fn disable(alloc: Global, tables: &Tables, job: &JobRow) -> Result<Plan, NoMemor
     ensures { IfOk result (IsPlanOf (answer_of_step (job_disabled tables.now.state job.now)) tables.now.state) }
 {
     let due = Due::JobDisabled(job.id.copy()?);
-    let row = job_in(JobState::Disabled, job)?;
+    let row = Shared::new(alloc, job_in(JobState::Disabled, job)?)?;
     step_job(alloc, tables, due, job, row)
 }
 
@@ -137,7 +137,7 @@ fn first_that_ends_with_tasks(tables: &Tables) -> Option<&JobRow>
 fn all_complete(alloc: Global) -> Result<Text, NoMemory>
     ensures { IfOk result (λ reason. reason ≡ all_complete) }
 {
-    Ok(Text::of_string(String::from_str(alloc, "AllTasksComplete")?))
+    Text::of_string(String::from_str(alloc, "AllTasksComplete")?)
 }
 
 /// The plan that terminates the job, since its tasks are completed.

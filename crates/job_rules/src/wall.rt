@@ -15,7 +15,7 @@ ghost use Rattle.batch_model.specs.WellFormed.{KeysAreDistinct};
 ghost use Rattle.job_rules.specs.Releases.{has_release_task};
 ghost use Rattle.machine_plans.specs.Plans.{IsPlanOf, IsRule, answer_of_step};
 
-use bt_base::{Duplicate, List, Moment, NoMemory, Text};
+use bt_base::{Duplicate, List, Moment, NoMemory, Shared, Text};
 use bt_rows::due::Due;
 use bt_rows::job::{JobRow, JobState, ReleaseTask};
 use bt_rows::plan::Plan;
@@ -221,7 +221,8 @@ fn time_out_release(alloc: Global, tables: &Tables, run: &RunRow) -> Result<Plan
     ensures { IfOk result (IsPlanOf (answer_of_step (release_timed_out tables.now.state run.now)) tables.now.state) }
 {
     let due = Due::ReleaseTimedOut(run.number);
-    step_one(alloc, due, Change::PutRun(asked_to_stop(run)?))
+    let row = Shared::new(alloc, asked_to_stop(run)?)?;
+    step_one(alloc, due, Change::PutRun(row))
 }
 
 /// The plan that asks the first release run whose wall time is over to stop.
@@ -253,7 +254,7 @@ fn first_timed_out_job(tables: &Tables) -> Option<&JobRow>
 fn wall_time_over(alloc: Global) -> Result<Text, NoMemory>
     ensures { IfOk result (λ reason. reason ≡ wall_time_over) }
 {
-    Ok(Text::of_string(String::from_str(alloc, "MaxWallClockTimeExpiry")?))
+    Text::of_string(String::from_str(alloc, "MaxWallClockTimeExpiry")?)
 }
 
 /// The plan that terminates the job, since its wall time is over.

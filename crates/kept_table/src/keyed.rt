@@ -3,6 +3,7 @@ ghost use Rattle.std.specs.Prelude.{◌≡◌, ℕ, Bool, List};
 ghost use Rattle.kept_table.specs.Keys.{AreTexts};
 
 use crate::key_text::KeyText;
+use bt_base::Shared;
 
 /// A row that is known by its key. Keys are compared by their texts.
 pub trait Keyed: Drop {
@@ -27,4 +28,27 @@ pub trait Keyed: Drop {
 
     /// A row has a key, and two rows have the same key, exactly if the texts are the same.
     ghost texts_decide: { AreTexts has_key same_key key_text row_text };
+}
+
+/// A shared row is known by its row's key.
+impl<R: Keyed> Keyed for Shared<R> {
+    type Key = R::Key;
+
+    ghost has_key = { R.has_key };
+
+    ghost same_key = { R.same_key };
+
+    ghost key_text = { R.key_text };
+
+    ghost row_text = { R.row_text };
+
+    ghost texts_decide = { R.texts_decide };
+
+    fn key_text(key: &R::Key) -> KeyText {
+        R::key_text(key)
+    }
+
+    fn row_text(&self) -> KeyText {
+        self.get().row_text()
+    }
 }

@@ -3,12 +3,13 @@ ghost use Rattle.std.specs.Prelude.{◌≡◌};
 ghost use Rattle.std.specs.Iterator.{YieldsFirstRef, item_count};
 ghost use Rattle.kept_table.specs.Slots.{rows};
 
+use bt_base::Shared;
 use std::marker::Model;
 
 /// The rows of a table in the order of adding. Contracts see those that are still to come.
 #[derive(Drop)]
 pub struct Rows<'a, R> {
-    left: &'a [Option<R>],
+    left: &'a [Option<Shared<R>>],
 }
 
 impl<'a, R> Model for Rows<'a, R> {
@@ -22,7 +23,7 @@ impl<'a, R> Model for Rows<'a, R> {
 
 impl<'a, R> Rows<'a, R> {
     /// The rows in these slots.
-    pub(crate) fn of(slots: &'a [Option<R>]) -> Rows<'a, R>
+    pub(crate) fn of(slots: &'a [Option<Shared<R>>]) -> Rows<'a, R>
         ensures { result ≡ rows slots.now }
     {
         Rows { left: slots }
@@ -40,7 +41,7 @@ impl<'a, R> Iterator for Rows<'a, R> {
         while let Some((slot, others)) = self.left.split_first() {
             self.left = others;
             if let Some(row) = slot {
-                return Some(row);
+                return Some(row.get());
             }
         }
         None

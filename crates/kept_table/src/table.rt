@@ -9,7 +9,7 @@ use crate::key_text::KeyText;
 use crate::keyed::Keyed;
 use crate::places::{add_spares, drop_place, put_place, reserve_places, spare_text};
 use crate::rows::Rows;
-use bt_base::{Duplicate, NoMemory};
+use bt_base::{Duplicate, NoMemory, Shared};
 use std::alloc::Global;
 use std::collections::HashMap;
 use std::marker::Model;
@@ -60,13 +60,6 @@ impl<R: Keyed> Table<R> {
         ensures small { length self.now.slots < 2 ^ 63 }
     {
         self.slots.as_slice()
-    }
-
-    /// The rows, in the order of adding.
-    pub fn rows(&self) -> Rows<'_, R>
-        ensures { result ≡ rows self.now.slots }
-    {
-        Rows::of(&self.slots)
     }
 
     /// The number of places, with the free ones.
@@ -259,6 +252,45 @@ impl<R: Keyed + Duplicate> Table<R> {
         let mut copy = Table::new(alloc);
         copy.add_room(self.row_count)?;
         Ok(with_rows_of(copy, slots))
+    }
+}
+
+impl<R: Keyed> Table<Shared<R>> {
+    /// The rows, in the order of adding.
+    pub fn rows(&self) -> Rows<'_, R>
+        ensures { result ≡ rows self.now.slots }
+    {
+        Rows::of(&self.slots)
+    }
+
+    /// The row at this place. None if the place is free, or is not one of the table's.
+    pub fn shared_at(&self, place: usize) -> Option<&R>
+        ensures { option_copied result ≡ slot_at self.now.slots place }
+    {
+        match self.row_at(place) {
+            None => None,
+            Some(row) => Some(row.get()),
+        }
+    }
+
+    /// The row with this key. None if no row has it. It does not allocate.
+    pub fn find_shared(&self, key: &R::Key) -> Option<&R>
+        ensures { option_copied result ≡ find (R.has_key key.now) (rows self.now.slots) }
+    {
+        match self.find(key) {
+            None => None,
+            Some(row) => Some(row.get()),
+        }
+    }
+
+    /// The row whose key has this text. None if no row's has it. It does not allocate.
+    pub fn find_shared_by_text(&self, text: &KeyText) -> Option<&R>
+        ensures { option_copied result ≡ find (has_text R.row_text text.now) (rows self.now.slots) }
+    {
+        match self.find_by_text(text) {
+            None => None,
+            Some(row) => Some(row.get()),
+        }
     }
 }
 

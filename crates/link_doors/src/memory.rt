@@ -6,7 +6,7 @@ ghost use Rattle.link_doors.specs.Memory.{CountsFault, AcceptsOrFails, TakesBack
 use crate::accepted::Accepted;
 use crate::listener::Listener;
 use crate::sure::SureListener;
-use bt_base::Failed;
+use byte_streams::Failed;
 use http_link::Link;
 use std::marker::Model;
 

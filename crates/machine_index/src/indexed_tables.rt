@@ -18,7 +18,7 @@ ghost use Rattle.run_index.specs.Queued.{AreNumbered, lowest_queued};
 ghost use Rattle.run_index.specs.Seats.{lowest_at, asked_runs};
 
 use crate::index_parts::{RunParts, TaskParts};
-use bt_base::{Id, List, Moment, NoMemory};
+use bt_base::{Id, List, Moment, NoMemory, Shared};
 use bt_rows::run::RunRow;
 use bt_rows::tables::{Change, Tables};
 use bt_rows::task::{TaskKey, TaskRow};
@@ -181,20 +181,21 @@ impl IndexedTables {
     }
 
     /// Puts a task.
-    fn put_task(&mut self, task: TaskRow)
+    fn put_task(&mut self, task: Shared<TaskRow>)
         requires { 1 ≤ self.old.room }
         ensures state { self.new.state ≡ apply_change (Change.PutTask task) self.old.state }
         ensures room { self.new.room + 1 ≡ self.old.room }
     {
-        let before = self.tables.task_place(&task.job, &task.id);
+        let row = task.get();
+        let before = self.tables.task_place(&row.job, &row.id);
         let place = before.unwrap_or(self.tables.task_place_count());
         self.tables.places_known();
         self.tables.keys_known();
         self.held.release_task(&self.tables, &self.runs, place);
-        self.active.put(before, &task);
-        self.over.put(&self.tables, &self.runs, before, &task);
-        self.timed.put(before, &task);
-        self.numbered.put(&task, place);
+        self.active.put(before, row);
+        self.over.put(&self.tables, &self.runs, before, row);
+        self.timed.put(before, row);
+        self.numbered.put(row, place);
         self.tables.apply_one(Change::PutTask(task));
         self.tables.keys_known();
         self.held.hold_task(&self.tables, &self.runs, place);
@@ -219,21 +220,22 @@ impl IndexedTables {
     }
 
     /// Puts a run.
-    fn put_run(&mut self, run: RunRow)
+    fn put_run(&mut self, run: Shared<RunRow>)
         requires { 1 ≤ self.old.room }
         ensures state { self.new.state ≡ apply_change (Change.PutRun run) self.old.state }
         ensures room { self.new.room + 1 ≡ self.old.room }
     {
-        let before = self.tables.run_place(run.number);
+        let row = run.get();
+        let before = self.tables.run_place(row.number);
         let place = before.unwrap_or(self.tables.run_place_count());
         let old_task = task_of_run_at(&self.tables, place);
-        let new_task = place_of_run(&self.tables, &run);
+        let new_task = place_of_run(&self.tables, row);
         self.tables.places_known();
         self.tables.keys_known();
         self.held.release_run(&self.tables, place);
-        self.runs.add(&run, place);
-        self.queued.put(before, &run);
-        self.asked.put(before, &run);
+        self.runs.add(row, place);
+        self.queued.put(before, row);
+        self.asked.put(before, row);
         self.tables.apply_one(Change::PutRun(run));
         self.tables.places_known();
         self.tables.keys_known();

@@ -132,9 +132,10 @@ fn opened_run(now: u64, run: &RunRow) -> Result<Option<RunRow>, NoMemory>
 fn put_pools(changes: &mut Vec<Change>, tables: &Tables) -> Result<(), NoMemory>
     ensures { OnOk result (changes.new.items ≡ changes.old.items ++ pool_puts tables.now.state) }
 {
+    let alloc = *changes.allocator();
     for pool in tables.pools() {
         if let Some(row) = opened_pool(tables.moment(), pool)? {
-            changes.push(Change::PutPool(row))?;
+            changes.push(Change::put_pool(alloc, row)?)?;
         }
     }
     Ok(())
@@ -144,9 +145,10 @@ fn put_pools(changes: &mut Vec<Change>, tables: &Tables) -> Result<(), NoMemory>
 fn put_tasks(changes: &mut Vec<Change>, tables: &Tables) -> Result<(), NoMemory>
     ensures { OnOk result (changes.new.items ≡ changes.old.items ++ task_puts tables.now.state) }
 {
+    let alloc = *changes.allocator();
     for task in tables.tasks() {
         if let Some(row) = opened_task(tables, task)? {
-            changes.push(Change::PutTask(row))?;
+            changes.push(Change::put_task(alloc, row)?)?;
         }
     }
     Ok(())
@@ -156,9 +158,10 @@ fn put_tasks(changes: &mut Vec<Change>, tables: &Tables) -> Result<(), NoMemory>
 fn put_runs(changes: &mut Vec<Change>, tables: &Tables) -> Result<(), NoMemory>
     ensures { OnOk result (changes.new.items ≡ changes.old.items ++ run_puts tables.now.state) }
 {
+    let alloc = *changes.allocator();
     for run in tables.runs() {
         if let Some(row) = opened_run(tables.moment(), run)? {
-            changes.push(Change::PutRun(row))?;
+            changes.push(Change::put_run(alloc, row)?)?;
         }
     }
     Ok(())

@@ -6,141 +6,59 @@
 mod adding;
 mod by_hand;
 mod collections;
-mod conditions;
-mod dependencies;
 mod endings;
 mod first_path;
-mod jobs;
 mod later;
 mod openings;
 mod placing;
 mod pools;
-mod preparations;
-mod releases;
-mod retries;
 mod slots;
 mod starts;
-mod task_events;
 mod ticks;
-mod wall_times;
 
-pub use adding::a_moment_below_the_last_leaves_it;
-pub use adding::ids_are_spelled_as_the_rows;
-pub use adding::jobs_are_refused;
-pub use adding::tasks_are_refused;
-pub use by_hand::a_job_is_not_added_to_a_deleted_pool;
-pub use by_hand::a_refusal_changes_the_moment_alone;
-pub use by_hand::a_wanted_requeue_goes_first;
-pub use by_hand::finished_jobs_take_no_tasks;
-pub use by_hand::leaving_nodes_do_not_count;
-pub use by_hand::numbers_come_to_an_end;
-pub use by_hand::only_active_jobs_place_tasks;
-pub use by_hand::only_resizing_pools_get_nodes;
-pub use by_hand::resizes_end_in_two_ways;
-pub use by_hand::rules_begin_again;
-pub use by_hand::runs_are_refused_by_state;
-pub use by_hand::tasks_go_on_usable_nodes;
-pub use collections::at_most_100_elements;
-pub use collections::collections_are_refused_in_order;
-pub use collections::dependency_lists_are_not_too_long;
-pub use collections::each_element_is_answered;
-pub use conditions::a_failure_terminates_its_job;
-pub use conditions::absent_options_are_the_usual_ones;
-pub use conditions::actions_are_asked_for;
-pub use conditions::an_ending_disables_its_job;
-pub use conditions::codes_go_before_ranges;
-pub use dependencies::a_failure_blocks;
-pub use dependencies::a_reactivated_task_satisfies_nobody;
-pub use dependencies::deleted_tasks_satisfy_nobody;
-pub use dependencies::dependencies_and_actions_are_to_be_used;
-pub use dependencies::each_number_of_a_range_is_waited_for;
-pub use dependencies::the_last_failure_satisfies;
-pub use endings::any_other_ending_is_a_failure;
-pub use endings::the_limit_of_the_task_goes_before;
-pub use first_path::a_task_ends_with_success;
-pub use first_path::nothing_comes_of_no_calls;
-pub use first_path::runs_are_taken_and_ended_once;
-pub use jobs::a_completed_job_is_deleted;
-pub use jobs::a_disabled_job_places_nothing;
-pub use jobs::a_disabled_job_requeues_its_tasks;
-pub use jobs::a_disabled_job_waits_for_its_tasks;
-pub use jobs::a_disabling_job_is_opened;
-pub use jobs::a_job_ends_with_its_tasks;
-pub use jobs::a_job_is_deleted;
-pub use jobs::a_job_is_terminated;
-pub use jobs::a_job_without_tasks_ends;
-pub use jobs::a_terminating_job_is_deleted;
-pub use jobs::a_termination_goes_before_a_requeue;
-pub use jobs::priorities_go_before_the_order_of_jobs;
-pub use later::events_are_not_read_yet;
-pub use later::pools_that_scale_are_not_read_yet;
-pub use later::tasks_are_not_placed_yet;
-pub use openings::a_taken_run_is_made_again;
-pub use openings::an_ending_is_settled_after_the_opening;
-pub use openings::empty_tables_open_as_empty;
-pub use openings::nodes_start_anew;
-pub use openings::pools_are_filled_again;
-pub use openings::tasks_that_were_cut_short_are_requeued;
-pub use placing::nodes_are_taken_in_order;
-pub use placing::pools_are_apart;
-pub use placing::tasks_take_turns_on_a_node;
-pub use placing::the_earlier_job_goes_first;
-pub use pools::a_pool_gets_its_nodes;
-pub use pools::at_most_64_pools;
-pub use pools::ids_of_pools_have_no_case;
-pub use pools::nodes_are_as_many_as_seats;
-pub use pools::pools_share_seats;
-pub use preparations::a_failed_preparation_requeues_its_tasks;
-pub use preparations::a_node_is_prepared_first;
-pub use preparations::a_preparation_is_asked_to_stop;
-pub use preparations::a_preparation_is_not_waited_for;
-pub use preparations::a_preparation_is_tried_again;
-pub use preparations::a_preparation_without_end;
-pub use preparations::a_queued_preparation_is_halted;
-pub use preparations::a_terminated_job_halts_its_preparations;
-pub use preparations::nodes_are_prepared_once;
-pub use preparations::preparations_are_gone_after_the_opening;
-pub use preparations::preparations_come_to_an_end;
-pub use releases::a_deleted_job_is_released;
-pub use releases::a_job_is_prepared_and_released;
-pub use releases::a_release_run_is_ended_by_the_opening;
-pub use releases::a_release_run_is_stopped_in_time;
-pub use releases::nodes_that_served_are_released;
-pub use releases::releases_come_to_an_end;
-pub use retries::a_lowered_limit_counts_later;
-pub use retries::failures_are_below_the_limit;
-pub use retries::launch_errors_are_not_tried_again;
-pub use retries::tasks_are_tried_again_without_limit;
-pub use slots::a_task_fits_no_smaller_node;
-pub use slots::a_wide_task_is_passed_over;
-pub use slots::fill_types_go_before_numbers;
-pub use slots::placed_tasks_hold_their_slots;
-pub use slots::tasks_are_packed;
-pub use slots::tasks_are_spread;
-pub use slots::the_lower_number_of_full_nodes;
-pub use starts::a_node_fails_to_start;
-pub use starts::a_start_run_is_ended_once;
-pub use starts::a_start_task_fails_over_and_over;
-pub use starts::a_start_task_is_not_waited_for;
-pub use starts::a_start_task_is_tried_again;
-pub use starts::a_start_task_without_retries;
-pub use starts::endings_by_stage;
-pub use starts::failures_count_before_retries;
-pub use starts::nodes_start_by_themselves;
-pub use starts::start_runs_come_to_an_end;
-pub use task_events::a_completed_task_is_deleted_at_once;
-pub use task_events::a_reactivated_task_has_no_failures;
-pub use task_events::a_task_that_runs_is_deleted_later;
-pub use task_events::tasks_are_changed_by_the_states_of_jobs;
-pub use task_events::tasks_are_changed_by_their_stages;
-pub use task_events::tasks_are_looked_for_in_their_jobs;
-pub use task_events::terminated_tasks_block;
-pub use ticks::a_resize_times_out;
-pub use ticks::a_tick_moves_the_moment;
-pub use wall_times::a_job_is_terminated_in_time;
-pub use wall_times::a_new_attempt_has_its_whole_time;
-pub use wall_times::a_task_is_stopped_in_time;
-pub use wall_times::a_wall_time_is_changed;
-pub use wall_times::a_wall_time_may_be_zero;
-pub use wall_times::tasks_go_before_their_jobs;
-pub use wall_times::the_first_of_two_ends_stays;
+pub use adding::{
+    a_moment_below_the_last_leaves_it, ids_are_spelled_as_the_rows, jobs_are_refused,
+    tasks_are_refused,
+};
+pub use by_hand::{
+    a_job_is_not_added_to_a_deleted_pool, a_refusal_changes_the_moment_alone,
+    a_wanted_requeue_goes_first, finished_jobs_take_no_tasks, leaving_nodes_do_not_count,
+    numbers_come_to_an_end, only_active_jobs_place_tasks, only_resizing_pools_get_nodes,
+    resizes_end_in_two_ways, rules_begin_again, runs_are_refused_by_state,
+    tasks_go_on_usable_nodes,
+};
+pub use collections::{
+    at_most_100_elements, collections_are_refused_in_order, dependency_lists_are_not_too_long,
+    each_element_is_answered,
+};
+pub use endings::{any_other_ending_is_a_failure, the_limit_of_the_task_goes_before};
+pub use first_path::{
+    a_task_ends_with_success, nothing_comes_of_no_calls, runs_are_taken_and_ended_once,
+};
+pub use later::{
+    events_are_not_read_yet, pools_that_scale_are_not_read_yet, tasks_are_not_placed_yet,
+};
+pub use openings::{
+    a_taken_run_is_made_again, an_ending_is_settled_after_the_opening, empty_tables_open_as_empty,
+    nodes_start_anew, pools_are_filled_again, tasks_that_were_cut_short_are_requeued,
+};
+pub use placing::{
+    nodes_are_taken_in_order, pools_are_apart, tasks_take_turns_on_a_node,
+    the_earlier_job_goes_first,
+};
+pub use pools::{
+    a_pool_gets_its_nodes, at_most_64_pools, ids_of_pools_have_no_case, nodes_are_as_many_as_seats,
+    pools_share_seats,
+};
+pub use slots::{
+    a_task_fits_no_smaller_node, a_wide_task_is_passed_over, fill_types_go_before_numbers,
+    placed_tasks_hold_their_slots, tasks_are_packed, tasks_are_spread,
+    the_lower_number_of_full_nodes,
+};
+pub use starts::{
+    a_node_fails_to_start, a_start_run_is_ended_once, a_start_task_fails_over_and_over,
+    a_start_task_is_not_waited_for, a_start_task_is_tried_again, a_start_task_without_retries,
+    endings_by_stage, failures_count_before_retries, nodes_start_by_themselves,
+    start_runs_come_to_an_end,
+};
+pub use ticks::{a_resize_times_out, a_tick_moves_the_moment};

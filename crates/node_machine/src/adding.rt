@@ -6,15 +6,17 @@ ghost use Rattle.bt_rows.specs.declared.due.Due.TheVariants.{NodeAdded};
 ghost use Rattle.batch_model.specs.Finding.{has_number_left};
 ghost use Rattle.batch_model.specs.Pools.{free_seat};
 ghost use Rattle.batch_model.specs.Dues.{lacks_node, new_node, node_added, add_on, add_node};
+ghost use Rattle.batch_model.specs.Runs.{start_run};
 ghost use Rattle.batch_model.specs.Sound.{NumbersAreNew};
 ghost use Rattle.machine_plans.specs.Plans.{IsPlanOf, IsRule, answer_of_step};
 
 use crate::starting::{first_stage, start_run};
-use bt_base::{Duplicate, NoMemory};
+use bt_base::{Duplicate, NoMemory, Shared};
 use bt_rows::due::Due;
 use bt_rows::node::NodeRow;
 use bt_rows::plan::Plan;
 use bt_rows::pool::{PoolRow, StartTask};
+use bt_rows::run::RunRow;
 use bt_rows::tables::{Change, Tables};
 use machine_plans::{step_three, step_two};
 use std::alloc::Global;
@@ -71,6 +73,31 @@ fn node_line(tables: &Tables, pool: &PoolRow, seat: u8) -> Result<Due, NoMemory>
     Ok(Due::NodeAdded(pool.id.copy()?, tables.next_node(), seat))
 }
 
+/// The new node of the pool on the seat, in a block of its own.
+fn seated_node(
+    alloc: Global,
+    tables: &Tables,
+    pool: &PoolRow,
+    seat: u8,
+) -> Result<Shared<NodeRow>, NoMemory>
+    ensures { IfOk result (λ node. node ≡ new_node tables.now.state pool.now seat) }
+{
+    Shared::new(alloc, new_node(tables, pool, seat)?)
+}
+
+/// The first run of the node's start task, in a block of its own.
+fn first_run(
+    alloc: Global,
+    tables: &Tables,
+    node: &NodeRow,
+    start: &StartTask,
+) -> Result<Shared<RunRow>, NoMemory>
+    ensures { IfOk result (λ run. run ≡ start_run tables.now.state node.now start.now) }
+{
+    let run = Shared::new(alloc, start_run(tables, tables.moment(), node, start)?)?;
+    Ok(run)
+}
+
 /// The plan that adds a node of the pool on the seat, if the pool has no start task.
 fn added_alone(alloc: Global, tables: &Tables, pool: &PoolRow, seat: u8) -> Result<Plan, NoMemory>
     requires numbers { NumbersAreNew tables.now.state }
@@ -79,7 +106,7 @@ fn added_alone(alloc: Global, tables: &Tables, pool: &PoolRow, seat: u8) -> Resu
     ensures { IfOk result (IsPlanOf (answer_of_step (node_added tables.now.state seat pool.now)) tables.now.state) }
 {
     let due = node_line(tables, pool, seat)?;
-    let node = new_node(tables, pool, seat)?;
+    let node = seated_node(alloc, tables, pool, seat)?;
     let counters = Change::Counters(tables.next_node() + 1, tables.next_run());
     step_two(alloc, due, Change::PutNode(node), counters)
 }
@@ -99,8 +126,8 @@ fn added_starting(
     ensures { IfOk result (IsPlanOf (answer_of_step (node_added tables.now.state seat pool.now)) tables.now.state) }
 {
     let due = node_line(tables, pool, seat)?;
-    let node = new_node(tables, pool, seat)?;
-    let run = start_run(tables, tables.moment(), &node, start)?;
+    let node = seated_node(alloc, tables, pool, seat)?;
+    let run = first_run(alloc, tables, node.get(), start)?;
     let counters = Change::Counters(tables.next_node() + 1, tables.next_run() + 1);
     step_three(
         alloc,

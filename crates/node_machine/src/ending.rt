@@ -13,7 +13,7 @@ ghost use Rattle.node_machine.specs.Endings.{IsOnNode, IsThere, with_end};
 ghost use Rattle.table_scans.specs.Runs.{is_start_number};
 
 use crate::starting::{counted_node, failed_node, start_run, started_node};
-use bt_base::{Fail, NoMemory};
+use bt_base::{Fail, NoMemory, Shared};
 use bt_rows::node::{NodeRow, NodeStage};
 use bt_rows::plan::{Plan, View};
 use bt_rows::pool::StartTask;
@@ -46,7 +46,7 @@ fn put_end(
     requires { IsThere tables.now.state run.now }
     ensures { IfOk result (IsPlanOf (accept 200 (with_end now ending run.now tables.now.state)) tables.now.state) }
 {
-    let ended = ended_run(now, ending, run)?;
+    let ended = Shared::new(alloc, ended_run(now, ending, run)?)?;
     accept_one(alloc, tables, now, 200, Change::PutRun(ended))
 }
 
@@ -62,8 +62,8 @@ fn put_started(
     requires { IsOnNode tables.now.state run.now node.now }
     ensures { IfOk result (IsPlanOf (accept 200 (change_node node.now started_node (with_end now ending run.now tables.now.state))) tables.now.state) }
 {
-    let ended = ended_run(now, ending, run)?;
-    let started = started_node(node)?;
+    let ended = Shared::new(alloc, ended_run(now, ending, run)?)?;
+    let started = Shared::new(alloc, started_node(node)?)?;
     accept_two(
         alloc,
         tables,
@@ -86,8 +86,8 @@ fn put_failed(
     requires { IsOnNode tables.now.state run.now node.now }
     ensures { IfOk result (IsPlanOf (accept 200 (change_node node.now failed_node (with_end now ending run.now tables.now.state))) tables.now.state) }
 {
-    let ended = ended_run(now, ending, run)?;
-    let failed = failed_node(node)?;
+    let ended = Shared::new(alloc, ended_run(now, ending, run)?)?;
+    let failed = Shared::new(alloc, failed_node(node)?)?;
     accept_two(
         alloc,
         tables,
@@ -112,9 +112,9 @@ fn put_again(
     requires left { IsTrue (has_number_left tables.now.state.next_run) }
     ensures { IfOk result (IsPlanOf (accept 200 (start_again node.now start.now (with_end now ending run.now tables.now.state))) tables.now.state) }
 {
-    let ended = ended_run(now, ending, run)?;
-    let counted = counted_node(node)?;
-    let again = start_run(tables, now, node, start)?;
+    let ended = Shared::new(alloc, ended_run(now, ending, run)?)?;
+    let counted = Shared::new(alloc, counted_node(node)?)?;
+    let again = Shared::new(alloc, start_run(tables, now, node, start)?)?;
     let counters = Change::Counters(tables.next_node(), tables.next_run() + 1);
     let changes = vec![in alloc;
         Change::PutRun(ended),

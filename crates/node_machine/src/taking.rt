@@ -91,8 +91,9 @@ fn push_started(
 ) -> Result<(), NoMemory>
     ensures { OnOk result (changes.new.items ≡ changes.old.items ++ started_puts now run.now tables.now.state) }
 {
+    let alloc = *changes.allocator();
     if let Some(task) = find_task_of(tables, run) {
-        changes.push(Change::PutTask(started_task(now, task)?))?;
+        changes.push(Change::put_task(alloc, started_task(now, task)?)?)?;
     }
     Ok(())
 }
@@ -101,8 +102,9 @@ fn push_started(
 fn push_served(changes: &mut Vec<Change>, tables: &Tables, run: &RunRow) -> Result<(), NoMemory>
     ensures { OnOk result (changes.new.items ≡ changes.old.items ++ served_puts run.now tables.now.state) }
 {
+    let alloc = *changes.allocator();
     if let Some(prep) = find_prep_of(tables, run) {
-        changes.push(Change::PutPrep(served(prep)?))?;
+        changes.push(Change::put_prep(alloc, served(prep)?)?)?;
     }
     Ok(())
 }
@@ -117,7 +119,7 @@ fn take_changes(
     ensures { IfOk result (λ changes. changes.items ≡ take_changes now run.now tables.now.state) }
 {
     let taken = taken_run(now, run)?;
-    let mut changes = vec![in alloc; Change::PutRun(taken)]?;
+    let mut changes = vec![in alloc; Change::put_run(alloc, taken)?]?;
     push_started(&mut changes, tables, now, run)?;
     push_served(&mut changes, tables, run)?;
     Ok(changes)

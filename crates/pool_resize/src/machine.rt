@@ -22,7 +22,7 @@ pub fn plan_event(alloc: Global, view: &View, event: &Event) -> Result<Plan, Fai
     ensures { IsAnswer view.entry.now.now (event_now event.now (with_moment view.entry.now.now view.entry.now.tables.now.state)) view.entry.now.tables.now.state result }
 {
     match event.kind() {
-        EventKind::AddPool(spec) => add_pool(alloc, view.tables, view.now, spec),
+        EventKind::AddPool(spec) => add_pool(alloc, view.tables, view.now, spec.get()),
         EventKind::DeletePool(_)
         | EventKind::Resize(_, _)
         | EventKind::StopResize(_)

@@ -5,7 +5,7 @@ ghost use Rattle.batch_model.specs.Pools.{first_alloc, new_pool};
 ghost use Rattle.batch_model.specs.Rows.{pool_of, add_pool_row};
 ghost use Rattle.machine_plans.specs.Plans.{IsAnswer, IsPlanOf, with_moment};
 
-use bt_base::{Duplicate, Fail, NoMemory};
+use bt_base::{Duplicate, Fail, NoMemory, Shared};
 use bt_rows::event::PoolSpec;
 use bt_rows::limits::POOL_LIMIT;
 use bt_rows::plan::Plan;
@@ -50,7 +50,12 @@ fn new_pool(now: u64, spec: &PoolSpec) -> Result<PoolRow, NoMemory>
 }
 
 /// The plan that adds a pool whose id no pool has.
-fn put_new_pool(alloc: Global, tables: &Tables, now: u64, pool: PoolRow) -> Result<Plan, NoMemory>
+fn put_new_pool(
+    alloc: Global,
+    tables: &Tables,
+    now: u64,
+    pool: Shared<PoolRow>,
+) -> Result<Plan, NoMemory>
     requires { is_some (pool_of tables.now.state pool.id) ≡ false }
     ensures { IfOk result (IsPlanOf (accept 201 (add_pool_row pool (with_moment now tables.now.state))) tables.now.state) }
 {
@@ -75,5 +80,6 @@ pub fn add_pool(
     if tables.pool_count() as u64 >= POOL_LIMIT {
         return Err(Fail::Why(Refusal::TableFull(Table::Pools, POOL_LIMIT)));
     }
-    Ok(put_new_pool(alloc, tables, now, new_pool(now, spec)?)?)
+    let pool = Shared::new(alloc, new_pool(now, spec)?)?;
+    Ok(put_new_pool(alloc, tables, now, pool)?)
 }

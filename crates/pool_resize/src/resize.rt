@@ -5,7 +5,7 @@ ghost use Rattle.batch_model.specs.Dues.{has_reached, steady, pool_steady, has_t
 ghost use Rattle.batch_model.specs.WellFormed.{KeysAreDistinct};
 ghost use Rattle.machine_plans.specs.Plans.{IsPlanOf, IsRule, answer_of_step};
 
-use bt_base::{Duplicate, NoMemory};
+use bt_base::{Duplicate, NoMemory, Shared};
 use bt_rows::due::{Due, ResizeEnd};
 use bt_rows::plan::Plan;
 use bt_rows::pool::{Alloc, PoolRow, ResizeError};
@@ -68,7 +68,8 @@ fn pool_steady(alloc: Global, tables: &Tables, pool: &PoolRow) -> Result<Plan, N
     ensures { IfOk result (IsPlanOf (answer_of_step (pool_steady tables.now.state pool.now)) tables.now.state) }
 {
     let due = Due::PoolResized(pool.id.copy()?, ResizeEnd::Reached);
-    step_one(alloc, due, Change::PutPool(steady(pool)?))
+    let row = Shared::new(alloc, steady(pool)?)?;
+    step_one(alloc, due, Change::PutPool(row))
 }
 
 /// The pool, steady, with the error that its allocation timed out.
@@ -88,7 +89,8 @@ fn pool_timed_out(alloc: Global, tables: &Tables, pool: &PoolRow) -> Result<Plan
     ensures { IfOk result (IsPlanOf (answer_of_step (pool_timed_out tables.now.state pool.now)) tables.now.state) }
 {
     let due = Due::PoolResized(pool.id.copy()?, ResizeEnd::TimedOut);
-    step_one(alloc, due, Change::PutPool(timed_out(pool)?))
+    let row = Shared::new(alloc, timed_out(pool)?)?;
+    step_one(alloc, due, Change::PutPool(row))
 }
 
 /// The plan that ends the pool's resize.

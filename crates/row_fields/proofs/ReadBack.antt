@@ -6,17 +6,14 @@ use Rattle.row_fields.specs.Scalars.{count_data, count_in, u8_in, whole_data, i3
 use Rattle.row_fields.specs.Texts.{command_in}
 use Rattle.row_fields.specs.Names.{named_in}
 use Rattle.row_fields.specs.UnitEnums.{dealloc_data, dealloc_in, job_action_data, job_action_in}
+use Rattle.variant_names.specs.PayloadNames.{ending_name, node_stage_name, run_state_name, how_name}
 use Rattle.row_fields.specs.PayloadEnums.{
-  ending_name,
   ending_data,
   ending_in,
-  node_stage_name,
   node_stage_data,
   node_stage_in,
-  run_state_name,
   run_state_data,
   run_state_in,
-  how_name,
   how_data,
   how_in,
 }

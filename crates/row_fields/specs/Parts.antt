@@ -19,7 +19,8 @@ use Rattle.row_fields.specs.Scalars.{
 use Rattle.row_fields.specs.Texts.{command_in, text_plain}
 use Rattle.row_fields.specs.Names.{named_plain}
 use Rattle.row_fields.specs.Plain.{plain_item, option_item, and_items, no_more, array_plain}
-use Rattle.row_fields.specs.UnitEnums.{job_action_name, job_action_data, job_action_in}
+use Rattle.variant_names.specs.UnitNames.{job_action_name}
+use Rattle.row_fields.specs.UnitEnums.{job_action_data, job_action_in}
 use Rattle.row_fields.specs.PayloadEnums.{how_data, how_in, how_plain}
 use Rattle.bt_rows.specs.declared.pool.StartTask.{StartTask}
 use Rattle.bt_rows.specs.declared.job.ReleaseTask.{ReleaseTask}

@@ -1,13 +1,15 @@
 -- Enums of which a variant has a value: that variant is an array of its name and the value, each other one its name.
-use Rattle.std.proofs.Common.{ℕ, List, [], ◌∷◌, Result, Ok, codes, arith}
+use Rattle.std.proofs.Common.{[], ◌∷◌, Result, Ok, codes, arith}
 use Rattle.serde_json.specs.Data.{Data}
 use Rattle.bt_base.specs.Fails.{◌>>=◌}
+use Rattle.variant_names.specs.PayloadNames.{ending_name, node_stage_name, run_state_name, how_name}
 use Rattle.row_fields.specs.declared.fault.RowFault.{RowFault}
 use Rattle.row_fields.specs.Fields.{IsPlain}
 use Rattle.row_fields.specs.Plain.{deeper}
 use Rattle.row_fields.specs.Scalars.{whole_data, i32_in, whole_plain}
 use Rattle.row_fields.specs.Names.{named_data, named_in, named_plain, payload_data, payload_in, payload_plain, or_else}
-use Rattle.row_fields.specs.UnitEnums.{dealloc_name, dealloc_data, dealloc_in}
+use Rattle.variant_names.specs.UnitNames.{dealloc_name}
+use Rattle.row_fields.specs.UnitEnums.{dealloc_data, dealloc_in}
 use Rattle.bt_rows.specs.declared.run.Ending.{Ending}
 use Rattle.bt_rows.specs.declared.run.Ending.TheVariants as endings
 use Rattle.bt_rows.specs.declared.node.NodeStage.{NodeStage}
@@ -18,11 +20,6 @@ use Rattle.bt_rows.specs.declared.task.How.{How}
 use Rattle.bt_rows.specs.declared.task.How.TheVariants as hows
 
 -- how a child program ended
-unfoldable pub ending_name : Ending → List ℕ
-ending_name (endings.Code code) = codes "Code"
-ending_name endings.NoCode = codes "NoCode"
-ending_name endings.NotStarted = codes "NotStarted"
-
 unfoldable pub ending_data : Ending → Data
 ending_data (endings.Code code) = payload_data whole_data (codes "Code") code
 ending_data endings.NoCode = named_data ending_name endings.NoCode
@@ -41,12 +38,6 @@ ending_plain endings.NoCode = deeper 1 (named_plain ending_name _) (omega arith)
 ending_plain endings.NotStarted = deeper 1 (named_plain ending_name _) (omega arith)
 
 -- how far a node has come
-unfoldable pub node_stage_name : NodeStage → List ℕ
-node_stage_name node_stages.Starting = codes "Starting"
-node_stage_name node_stages.Usable = codes "Usable"
-node_stage_name node_stages.StartFailed = codes "StartFailed"
-node_stage_name (node_stages.Leaving option) = codes "Leaving"
-
 unfoldable pub node_stage_data : NodeStage → Data
 node_stage_data node_stages.Starting = named_data node_stage_name node_stages.Starting
 node_stage_data node_stages.Usable = named_data node_stage_name node_stages.Usable
@@ -67,13 +58,6 @@ node_stage_plain node_stages.StartFailed = deeper 1 (named_plain node_stage_name
 node_stage_plain (node_stages.Leaving option) = payload_plain dealloc_data 0 (named_plain dealloc_name) _ option
 
 -- how far a run has come
-unfoldable pub run_state_name : RunState → List ℕ
-run_state_name run_states.Waiting = codes "Waiting"
-run_state_name run_states.Queued = codes "Queued"
-run_state_name run_states.Taken = codes "Taken"
-run_state_name (run_states.Ended ending) = codes "Ended"
-run_state_name run_states.Withdrawn = codes "Withdrawn"
-
 unfoldable pub run_state_data : RunState → Data
 run_state_data run_states.Waiting = named_data run_state_name run_states.Waiting
 run_state_data run_states.Queued = named_data run_state_name run_states.Queued
@@ -96,11 +80,6 @@ run_state_plain (run_states.Ended ending) = payload_plain ending_data 1 ending_p
 run_state_plain run_states.Withdrawn = deeper 2 (named_plain run_state_name _) (omega arith)
 
 -- how a task was completed
-unfoldable pub how_name : How → List ℕ
-how_name (hows.Ended ending) = codes "Ended"
-how_name hows.Terminated = codes "Terminated"
-how_name hows.Wall = codes "Wall"
-
 unfoldable pub how_data : How → Data
 how_data (hows.Ended ending) = payload_data ending_data (codes "Ended") ending
 how_data hows.Terminated = named_data how_name hows.Terminated

@@ -1,6 +1,20 @@
--- The names of the variants of enums whose variants have no values; no two variants of an enum have one name.
-use Rattle.std.proofs.Common.{◌≡◌, ℕ, List, [], ◌∷◌, Result, Ok, codes, refl}
+-- Enums whose variants have no values: all their variants; no two variants of an enum have one name.
+use Rattle.std.proofs.Common.{◌≡◌, List, [], ◌∷◌, Result, Ok, refl}
 use Rattle.serde_json.specs.Data.{Data}
+use Rattle.variant_names.specs.UnitNames.{
+  alloc_name,
+  fill_name,
+  dealloc_name,
+  resize_error_name,
+  job_state_name,
+  job_action_name,
+  task_stage_name,
+  want_name,
+  run_kind_name,
+  prep_state_name,
+  release_state_name,
+  metric_name,
+}
 use Rattle.row_fields.specs.declared.fault.RowFault.{RowFault}
 use Rattle.row_fields.specs.Names.{named_data, named_in}
 use Rattle.bt_rows.specs.declared.pool.Alloc.{Alloc}
@@ -29,11 +43,6 @@ use Rattle.bt_base.specs.declared.pool_metric.Metric.{Metric}
 use Rattle.bt_base.specs.declared.pool_metric.Metric.TheVariants as metrics
 
 -- whether a pool is being resized
-unfoldable pub alloc_name : Alloc → List ℕ
-alloc_name allocs.Steady = codes "Steady"
-alloc_name allocs.Resizing = codes "Resizing"
-alloc_name allocs.Stopping = codes "Stopping"
-
 abbrev pub all_allocs : List Alloc
 all_allocs = allocs.Steady ∷ allocs.Resizing ∷ allocs.Stopping ∷ []
 
@@ -50,10 +59,6 @@ alloc_back allocs.Resizing = refl
 alloc_back allocs.Stopping = refl
 
 -- how tasks are distributed over nodes
-unfoldable pub fill_name : Fill → List ℕ
-fill_name fills.Spread = codes "Spread"
-fill_name fills.Pack = codes "Pack"
-
 abbrev pub all_fills : List Fill
 all_fills = fills.Spread ∷ fills.Pack ∷ []
 
@@ -69,12 +74,6 @@ fill_back fills.Spread = refl
 fill_back fills.Pack = refl
 
 -- what becomes of the tasks of a node that leaves
-unfoldable pub dealloc_name : Dealloc → List ℕ
-dealloc_name deallocs.Requeue = codes "Requeue"
-dealloc_name deallocs.Terminate = codes "Terminate"
-dealloc_name deallocs.TaskCompletion = codes "TaskCompletion"
-dealloc_name deallocs.RetainedData = codes "RetainedData"
-
 abbrev pub all_deallocs : List Dealloc
 all_deallocs = deallocs.Requeue ∷ deallocs.Terminate ∷ deallocs.TaskCompletion ∷ deallocs.RetainedData ∷ []
 
@@ -92,10 +91,6 @@ dealloc_back deallocs.TaskCompletion = refl
 dealloc_back deallocs.RetainedData = refl
 
 -- why a resize ended early
-unfoldable pub resize_error_name : ResizeError → List ℕ
-resize_error_name resize_errors.AllocationTimedOut = codes "AllocationTimedOut"
-resize_error_name resize_errors.ResizeStopped = codes "ResizeStopped"
-
 abbrev pub all_resize_errors : List ResizeError
 all_resize_errors = resize_errors.AllocationTimedOut ∷ resize_errors.ResizeStopped ∷ []
 
@@ -111,15 +106,6 @@ resize_error_back resize_errors.AllocationTimedOut = refl
 resize_error_back resize_errors.ResizeStopped = refl
 
 -- the state of a job
-unfoldable pub job_state_name : JobState → List ℕ
-job_state_name job_states.Active = codes "Active"
-job_state_name job_states.Disabling = codes "Disabling"
-job_state_name job_states.Disabled = codes "Disabled"
-job_state_name job_states.Enabling = codes "Enabling"
-job_state_name job_states.Terminating = codes "Terminating"
-job_state_name job_states.Completed = codes "Completed"
-job_state_name job_states.Deleting = codes "Deleting"
-
 abbrev pub all_job_states : List JobState
 all_job_states =
     job_states.Active
@@ -148,11 +134,6 @@ job_state_back job_states.Completed = refl
 job_state_back job_states.Deleting = refl
 
 -- what an ending does to the job
-unfoldable pub job_action_name : JobAction → List ℕ
-job_action_name job_actions.Nothing = codes "Nothing"
-job_action_name job_actions.Disable = codes "Disable"
-job_action_name job_actions.Terminate = codes "Terminate"
-
 abbrev pub all_job_actions : List JobAction
 all_job_actions = job_actions.Nothing ∷ job_actions.Disable ∷ job_actions.Terminate ∷ []
 
@@ -169,11 +150,6 @@ job_action_back job_actions.Disable = refl
 job_action_back job_actions.Terminate = refl
 
 -- how far a task has come
-unfoldable pub task_stage_name : TaskStage → List ℕ
-task_stage_name task_stages.Active = codes "Active"
-task_stage_name task_stages.Placed = codes "Placed"
-task_stage_name task_stages.Completed = codes "Completed"
-
 abbrev pub all_task_stages : List TaskStage
 all_task_stages = task_stages.Active ∷ task_stages.Placed ∷ task_stages.Completed ∷ []
 
@@ -190,12 +166,6 @@ task_stage_back task_stages.Placed = refl
 task_stage_back task_stages.Completed = refl
 
 -- how a task is to be ended
-unfoldable pub want_name : Want → List ℕ
-want_name wants.Requeue = codes "Requeue"
-want_name wants.Terminate = codes "Terminate"
-want_name wants.Wall = codes "Wall"
-want_name wants.Delete = codes "Delete"
-
 abbrev pub all_wants : List Want
 all_wants = wants.Requeue ∷ wants.Terminate ∷ wants.Wall ∷ wants.Delete ∷ []
 
@@ -213,13 +183,6 @@ want_back wants.Wall = refl
 want_back wants.Delete = refl
 
 -- what a run executes
-unfoldable pub run_kind_name : RunKind → List ℕ
-run_kind_name run_kinds.Start = codes "Start"
-run_kind_name run_kinds.Prep = codes "Prep"
-run_kind_name run_kinds.Task = codes "Task"
-run_kind_name run_kinds.Coordination = codes "Coordination"
-run_kind_name run_kinds.Release = codes "Release"
-
 abbrev pub all_run_kinds : List RunKind
 all_run_kinds = run_kinds.Start ∷ run_kinds.Prep ∷ run_kinds.Task ∷ run_kinds.Coordination ∷ run_kinds.Release ∷ []
 
@@ -238,11 +201,6 @@ run_kind_back run_kinds.Coordination = refl
 run_kind_back run_kinds.Release = refl
 
 -- the state of a preparation
-unfoldable pub prep_state_name : PrepState → List ℕ
-prep_state_name prep_states.Running = codes "Running"
-prep_state_name prep_states.Completed = codes "Completed"
-prep_state_name prep_states.Failed = codes "Failed"
-
 abbrev pub all_prep_states : List PrepState
 all_prep_states = prep_states.Running ∷ prep_states.Completed ∷ prep_states.Failed ∷ []
 
@@ -259,11 +217,6 @@ prep_state_back prep_states.Completed = refl
 prep_state_back prep_states.Failed = refl
 
 -- the state of a release task
-unfoldable pub release_state_name : ReleaseState → List ℕ
-release_state_name release_states.No = codes "No"
-release_state_name release_states.Running = codes "Running"
-release_state_name release_states.Done = codes "Done"
-
 abbrev pub all_release_states : List ReleaseState
 all_release_states = release_states.No ∷ release_states.Running ∷ release_states.Done ∷ []
 
@@ -280,18 +233,6 @@ release_state_back release_states.Running = refl
 release_state_back release_states.Done = refl
 
 -- a metric of a pool
-unfoldable pub metric_name : Metric → List ℕ
-metric_name metrics.CpuPercent = codes "CpuPercent"
-metric_name metrics.ActiveTasks = codes "ActiveTasks"
-metric_name metrics.RunningTasks = codes "RunningTasks"
-metric_name metrics.PendingTasks = codes "PendingTasks"
-metric_name metrics.SucceededTasks = codes "SucceededTasks"
-metric_name metrics.FailedTasks = codes "FailedTasks"
-metric_name metrics.TaskSlotsPerNode = codes "TaskSlotsPerNode"
-metric_name metrics.CurrentDedicatedNodes = codes "CurrentDedicatedNodes"
-metric_name metrics.CurrentLowPriorityNodes = codes "CurrentLowPriorityNodes"
-metric_name metrics.PreemptedNodeCount = codes "PreemptedNodeCount"
-
 abbrev pub all_metrics : List Metric
 all_metrics =
     metrics.CpuPercent

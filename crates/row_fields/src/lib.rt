@@ -18,5 +18,5 @@ mod unit_enums;
 pub use array::ArrayBuilder;
 pub use fault::RowFault;
 pub use field::{Field, not_a_row};
-pub use named::{Named, UnitEnum};
+pub use named::UnitEnum;
 pub use places::{field_at, list_at, option_at, require_length};

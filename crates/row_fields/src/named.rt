@@ -1,5 +1,5 @@
 //! Enums, by the names of their variants.
-ghost use Rattle.std.specs.Prelude.{◌≡◌, ℕ, List, Ok, IfOk, OnOk, option_map};
+ghost use Rattle.std.specs.Prelude.{◌≡◌, List, Ok, IfOk, OnOk, option_map};
 ghost use Rattle.std.specs.List.{find};
 ghost use Rattle.std.specs.Str.{bytes_eq};
 ghost use Rattle.serde_json.specs.View.{view};
@@ -16,16 +16,7 @@ use crate::texts::str_of;
 use bt_base::{Fail, NoMemory};
 use serde_json::Value;
 use std::alloc::Global;
-
-/// An enum whose variants have names.
-pub trait Named: Copy + Drop {
-    /// The name of a variant.
-    ghost name: { Self → List ℕ };
-
-    /// The name of the variant. It does not allocate.
-    fn name(self) -> &'static str
-        ensures { result.now ≡ name self };
-}
+use variant_names::Named;
 
 /// An enum whose variants have no values. As a field a variant is its name.
 pub trait UnitEnum: Named + 'static {

@@ -1,19 +1,15 @@
 //! Enums of which a variant has a value.
 ghost use Rattle.std.specs.Prelude.{◌≡◌};
 ghost use Rattle.row_fields.specs.PayloadEnums.{
-  ending_name,
   ending_data,
   ending_in,
   ending_plain,
-  node_stage_name,
   node_stage_data,
   node_stage_in,
   node_stage_plain,
-  run_state_name,
   run_state_data,
   run_state_in,
   run_state_plain,
-  how_name,
   how_data,
   how_in,
   how_plain,
@@ -21,26 +17,13 @@ ghost use Rattle.row_fields.specs.PayloadEnums.{
 
 use crate::fault::RowFault;
 use crate::field::Field;
-use crate::named::{Named, find_named, name_value, payload_of, payload_value};
+use crate::named::{find_named, name_value, payload_of, payload_value};
 use bt_base::{Fail, NoMemory};
 use bt_rows::node::NodeStage;
 use bt_rows::run::{Ending, RunState};
 use bt_rows::task::How;
 use serde_json::Value;
 use std::alloc::Global;
-
-impl Named for Ending {
-    ghost name = { ending_name };
-
-    #[tactic(auto, unfolding(crate::specs::PayloadEnums::ending_name))]
-    fn name(self) -> &'static str {
-        match self {
-            Ending::Code(_) => "Code",
-            Ending::NoCode => "NoCode",
-            Ending::NotStarted => "NotStarted",
-        }
-    }
-}
 
 impl Field for Ending {
     ghost data_of = { ending_data };
@@ -51,7 +34,7 @@ impl Field for Ending {
 
     ghost plain = { ending_plain };
 
-    #[tactic(auto, using(crate::proofs::ReadBack::ending_back), unfolding(crate::specs::PayloadEnums::ending_data, crate::specs::PayloadEnums::ending_name))]
+    #[tactic(auto, using(crate::proofs::ReadBack::ending_back), unfolding(crate::specs::PayloadEnums::ending_data, variant_names::specs::PayloadNames::ending_name))]
     fn to_value(&self, alloc: Global) -> Result<Value, NoMemory> {
         match self {
             Ending::Code(code) => payload_value(alloc, *self, code),
@@ -69,20 +52,6 @@ impl Field for Ending {
     }
 }
 
-impl Named for NodeStage {
-    ghost name = { node_stage_name };
-
-    #[tactic(auto, unfolding(crate::specs::PayloadEnums::node_stage_name))]
-    fn name(self) -> &'static str {
-        match self {
-            NodeStage::Starting => "Starting",
-            NodeStage::Usable => "Usable",
-            NodeStage::StartFailed => "StartFailed",
-            NodeStage::Leaving(_) => "Leaving",
-        }
-    }
-}
-
 impl Field for NodeStage {
     ghost data_of = { node_stage_data };
 
@@ -92,7 +61,7 @@ impl Field for NodeStage {
 
     ghost plain = { node_stage_plain };
 
-    #[tactic(auto, using(crate::proofs::ReadBack::node_stage_back), unfolding(crate::specs::PayloadEnums::node_stage_data, crate::specs::PayloadEnums::node_stage_name))]
+    #[tactic(auto, using(crate::proofs::ReadBack::node_stage_back), unfolding(crate::specs::PayloadEnums::node_stage_data, variant_names::specs::PayloadNames::node_stage_name))]
     fn to_value(&self, alloc: Global) -> Result<Value, NoMemory> {
         match self {
             NodeStage::Leaving(option) => payload_value(alloc, *self, option),
@@ -117,21 +86,6 @@ impl Field for NodeStage {
     }
 }
 
-impl Named for RunState {
-    ghost name = { run_state_name };
-
-    #[tactic(auto, unfolding(crate::specs::PayloadEnums::run_state_name))]
-    fn name(self) -> &'static str {
-        match self {
-            RunState::Waiting => "Waiting",
-            RunState::Queued => "Queued",
-            RunState::Taken => "Taken",
-            RunState::Ended(_) => "Ended",
-            RunState::Withdrawn => "Withdrawn",
-        }
-    }
-}
-
 impl Field for RunState {
     ghost data_of = { run_state_data };
 
@@ -141,7 +95,7 @@ impl Field for RunState {
 
     ghost plain = { run_state_plain };
 
-    #[tactic(auto, using(crate::proofs::ReadBack::run_state_back), unfolding(crate::specs::PayloadEnums::run_state_data, crate::specs::PayloadEnums::run_state_name))]
+    #[tactic(auto, using(crate::proofs::ReadBack::run_state_back), unfolding(crate::specs::PayloadEnums::run_state_data, variant_names::specs::PayloadNames::run_state_name))]
     fn to_value(&self, alloc: Global) -> Result<Value, NoMemory> {
         match self {
             RunState::Ended(ending) => payload_value(alloc, *self, ending),
@@ -167,19 +121,6 @@ impl Field for RunState {
     }
 }
 
-impl Named for How {
-    ghost name = { how_name };
-
-    #[tactic(auto, unfolding(crate::specs::PayloadEnums::how_name))]
-    fn name(self) -> &'static str {
-        match self {
-            How::Ended(_) => "Ended",
-            How::Terminated => "Terminated",
-            How::Wall => "Wall",
-        }
-    }
-}
-
 impl Field for How {
     ghost data_of = { how_data };
 
@@ -189,7 +130,7 @@ impl Field for How {
 
     ghost plain = { how_plain };
 
-    #[tactic(auto, using(crate::proofs::ReadBack::how_back), unfolding(crate::specs::PayloadEnums::how_data, crate::specs::PayloadEnums::how_name))]
+    #[tactic(auto, using(crate::proofs::ReadBack::how_back), unfolding(crate::specs::PayloadEnums::how_data, variant_names::specs::PayloadNames::how_name))]
     fn to_value(&self, alloc: Global) -> Result<Value, NoMemory> {
         match self {
             How::Ended(ending) => payload_value(alloc, *self, ending),

@@ -36,7 +36,7 @@ impl Field for Text {
 
     fn of_value(alloc: Global, value: &Value) -> Result<Text, Fail<RowFault>> {
         let text = str_of(value)?;
-        Ok(Text::of_string(String::from_str(alloc, text)?))
+        Ok(Text::of_string(String::from_str(alloc, text)?)?)
     }
 }
 

@@ -18,7 +18,8 @@ use Rattle.row_fields.specs.Scalars.{
 use Rattle.row_fields.specs.Texts.{text_in, id_in, text_plain}
 use Rattle.row_fields.specs.Names.{named_plain}
 use Rattle.row_fields.specs.Plain.{plain_item, option_item, and_items, no_more, array_plain}
-use Rattle.row_fields.specs.UnitEnums.{job_state_name, job_state_data, job_state_in}
+use Rattle.variant_names.specs.UnitNames.{job_state_name}
+use Rattle.row_fields.specs.UnitEnums.{job_state_data, job_state_in}
 use Rattle.row_fields.specs.Parts.{
   start_task_data,
   start_task_in,

@@ -9,17 +9,14 @@ use Rattle.row_fields.specs.Scalars.{count_data, count_in, u8_in, u32_in, flag_i
 use Rattle.row_fields.specs.Texts.{id_in, text_plain}
 use Rattle.row_fields.specs.Names.{named_plain}
 use Rattle.row_fields.specs.Plain.{plain_item, option_item, and_items, no_more, array_plain}
+use Rattle.variant_names.specs.UnitNames.{alloc_name, fill_name, dealloc_name, resize_error_name}
 use Rattle.row_fields.specs.UnitEnums.{
-  alloc_name,
   alloc_data,
   alloc_in,
-  fill_name,
   fill_data,
   fill_in,
-  dealloc_name,
   dealloc_data,
   dealloc_in,
-  resize_error_name,
   resize_error_data,
   resize_error_in,
 }

@@ -9,14 +9,8 @@ use Rattle.row_fields.specs.Scalars.{count_data, count_in, flag_in, count_plain,
 use Rattle.row_fields.specs.Texts.{id_in, text_plain}
 use Rattle.row_fields.specs.Names.{named_plain}
 use Rattle.row_fields.specs.Plain.{plain_item, and_items, no_more, array_plain}
-use Rattle.row_fields.specs.UnitEnums.{
-  prep_state_name,
-  prep_state_data,
-  prep_state_in,
-  release_state_name,
-  release_state_data,
-  release_state_in,
-}
+use Rattle.variant_names.specs.UnitNames.{prep_state_name, release_state_name}
+use Rattle.row_fields.specs.UnitEnums.{prep_state_data, prep_state_in, release_state_data, release_state_in}
 use Rattle.bt_rows.specs.declared.prep.PrepRow.{PrepRow}
 
 -- a row: an array of its fields

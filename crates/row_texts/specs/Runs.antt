@@ -9,7 +9,8 @@ use Rattle.row_fields.specs.Scalars.{count_data, count_in, u8_in, flag_in, count
 use Rattle.row_fields.specs.Texts.{id_in, command_in, text_plain}
 use Rattle.row_fields.specs.Names.{named_plain}
 use Rattle.row_fields.specs.Plain.{plain_item, option_item, and_items, no_more, array_plain}
-use Rattle.row_fields.specs.UnitEnums.{run_kind_name, run_kind_data, run_kind_in}
+use Rattle.variant_names.specs.UnitNames.{run_kind_name}
+use Rattle.row_fields.specs.UnitEnums.{run_kind_data, run_kind_in}
 use Rattle.row_fields.specs.PayloadEnums.{run_state_data, run_state_in, run_state_plain}
 use Rattle.bt_rows.specs.declared.run.RunRow.{RunRow}
 use Rattle.row_texts.specs.declared.run.RunWork.{RunWork}

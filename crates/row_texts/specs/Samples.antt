@@ -9,7 +9,8 @@ use Rattle.row_fields.specs.Scalars.{count_data, count_in, whole_data, num_in, c
 use Rattle.row_fields.specs.Texts.{id_in, text_plain}
 use Rattle.row_fields.specs.Names.{named_plain}
 use Rattle.row_fields.specs.Plain.{plain_item, and_items, no_more, array_plain}
-use Rattle.row_fields.specs.UnitEnums.{metric_name, metric_data, metric_in}
+use Rattle.variant_names.specs.UnitNames.{metric_name}
+use Rattle.row_fields.specs.UnitEnums.{metric_data, metric_in}
 use Rattle.bt_rows.specs.declared.sample.SampleRow.{SampleRow}
 
 -- a row: an array of its fields

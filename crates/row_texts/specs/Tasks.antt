@@ -10,7 +10,8 @@ use Rattle.row_fields.specs.Texts.{id_in, command_in, text_plain}
 use Rattle.row_fields.specs.Tuples.{pair_data, pair_in, pair_plain, triple_data, triple_in, triple_plain}
 use Rattle.row_fields.specs.Names.{named_plain}
 use Rattle.row_fields.specs.Plain.{plain_item, option_item, list_item, and_items, no_more, array_plain}
-use Rattle.row_fields.specs.UnitEnums.{task_stage_name, task_stage_data, task_stage_in, want_name, want_data, want_in}
+use Rattle.variant_names.specs.UnitNames.{task_stage_name, want_name}
+use Rattle.row_fields.specs.UnitEnums.{task_stage_data, task_stage_in, want_data, want_in}
 use Rattle.row_fields.specs.PayloadEnums.{ending_data, ending_in, ending_plain}
 use Rattle.row_fields.specs.Parts.{
   given_data,

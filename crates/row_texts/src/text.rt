@@ -16,7 +16,7 @@ pub fn write_row<T: TableRow>(alloc: Global, row: &T) -> Result<Text, NoMemory>
     ensures back { IfOk result (λ text. row_in_text T.in_data text ≡ Ok row.now) }
 {
     let value = row.to_value(alloc)?;
-    Ok(Text::of_string(value.to_string(alloc)?))
+    Text::of_string(value.to_string(alloc)?)
 }
 
 /// The row of this type that the text is. Returns `NotARow` exactly if the text is no such row, and `Memory` only when out of

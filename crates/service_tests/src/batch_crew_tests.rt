@@ -6,7 +6,7 @@ ghost use Rattle.counted_lock.specs.Passes.{IsPassOf};
 use batch_crew::{LaneEnd, run_lane, run_timer};
 use batch_desk::{Answer, Desk, Entry, Journal};
 use batch_keeper::{Keeper, SureKeeper};
-use bt_base::{CommandLine, Id, List, Moment, Word};
+use bt_base::{CommandLine, Id, List, Moment, Shared, Word};
 use bt_clock::ListClock;
 use bt_rows::event::{Event, EventKind, JobSpec, PoolSpec, TaskSpec};
 use bt_rows::pool::Fill;
@@ -30,7 +30,7 @@ fn moment(ms: u64) -> Result<Moment, Fail> {
 
 /// A pool p of one node.
 fn pool_added(alloc: Global) -> Result<Event, Fail> {
-    Ok(Event::new(EventKind::AddPool(PoolSpec {
+    let spec = PoolSpec {
         id: id(alloc, "p")?,
         dedicated: 1,
         low: 0,
@@ -40,7 +40,8 @@ fn pool_added(alloc: Global) -> Result<Event, Fail> {
         timeout: 900_000,
         start: None,
         scale: None,
-    })))
+    };
+    Ok(Event::new(EventKind::AddPool(Shared::new(alloc, spec)?)))
 }
 
 /// A job j on the pool p.
@@ -59,11 +60,11 @@ fn job_added(alloc: Global) -> Result<Event, Fail> {
         prep: None,
         release: None,
     };
-    Ok(Event::new(EventKind::AddJob(job, spec)))
+    Ok(Event::new(EventKind::AddJob(job, Shared::new(alloc, spec)?)))
 }
 
 /// Adds a task to the job with the first id, which is not tried again, and may run for one minute.
-fn task_event(alloc: Global, job: Id, id: Id, line: CommandLine) -> Event {
+fn task_event(alloc: Global, job: Id, id: Id, line: CommandLine) -> Result<Event, Fail> {
     let spec = TaskSpec {
         id,
         line,
@@ -79,7 +80,7 @@ fn task_event(alloc: Global, job: Id, id: Id, line: CommandLine) -> Event {
         spans: List::empty(alloc),
         multi: None,
     };
-    Event::new(EventKind::AddTask(job, spec))
+    Ok(Event::new(EventKind::AddTask(job, Shared::new(alloc, spec)?)))
 }
 
 /// A task t of the job j, with the command line w.
@@ -87,7 +88,7 @@ fn task_added(alloc: Global) -> Result<Event, Fail> {
     let job = id(alloc, "j")?;
     let task = id(alloc, "t")?;
     let line = CommandLine::read(alloc, "w")?.ok_or("no command line")?;
-    Ok(task_event(alloc, job, task, line))
+    task_event(alloc, job, task, line)
 }
 
 /// A desk of empty tables and one seat.

@@ -5,11 +5,12 @@ ghost use Rattle.batch_serve.specs.Works.{IsReady};
 
 use batch_keeper::{Keeper, SureKeeper};
 use batch_serve::{ServeStatus, Served, Worker, WorkerKind, serve_words};
-use bt_base::{Moment, NoMemory, SureSink, Word};
+use bt_base::{Moment, NoMemory, Word};
 use bt_clock::Clock;
 use bt_rows::run::Ending;
 use bt_rows::tables::Tables;
 use bt_rows::task::{How, TaskRow};
+use byte_streams::SureSink;
 use child_runs::{ChildEnding, Ran, Spawner, Stopper, SureStopper};
 use http_link::SureLink;
 use link_doors::{Listener, SureListener};

@@ -1,6 +1,7 @@
 //! A test of what no clause says: that spawners and stoppers in memory have memory while it is ample.
-use bt_base::{Failed, Word};
+use bt_base::Word;
 use bt_rows::run::Ending;
+use byte_streams::Failed;
 use child_runs::{ChildEnding, MemorySpawner, MemoryStopper, Spawner, Stopper};
 use std::test::Fail;
 

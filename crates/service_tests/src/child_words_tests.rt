@@ -1,6 +1,6 @@
 //! Tests of what no clause says: that each call which allocates succeeds while memory is ample. The expected words follow by hand from
 //! the rule for each name.
-use bt_base::{CommandLine, Id, List, Text, Word, words};
+use bt_base::{CommandLine, Id, List, NoMemory, Text, Word, words};
 use bt_rows::node::{NodeRow, NodeStage};
 use bt_rows::reply::QueuedRun;
 use bt_rows::run::{RunKind, RunRow, RunState};
@@ -10,8 +10,8 @@ use child_words::{Names, fill, with_words};
 use std::alloc::{AllocError, Global};
 use std::test::Fail;
 
-fn text(alloc: Global, text: &str) -> Result<Option<Text>, AllocError> {
-    Ok(Some(Text::of_string(String::from_str(alloc, text)?)))
+fn text(alloc: Global, text: &str) -> Result<Option<Text>, NoMemory> {
+    Ok(Some(Text::of_string(String::from_str(alloc, text)?)?))
 }
 
 /// The words, each with a comma after it.
@@ -25,7 +25,7 @@ fn joined(alloc: Global, words: &[Word]) -> Result<Vec<u8>, AllocError> {
 }
 
 /// Texts for a node and a task alone.
-fn names(alloc: Global) -> Result<Names, AllocError> {
+fn names(alloc: Global) -> Result<Names, NoMemory> {
     let node = text(alloc, "node-1")?;
     let task = text(alloc, "$AZ_BATCH_NODE_ID")?;
     Ok(Names {
@@ -160,7 +160,7 @@ fn put_task(alloc: Global, tables: &mut Tables) -> Result<(), Fail> {
     put(
         alloc,
         tables,
-        Change::PutTask(task(alloc, ids, line, first)),
+        Change::put_task(alloc, task(alloc, ids, line, first))?,
     )
 }
 
@@ -179,13 +179,13 @@ fn put_run(
     let ids = (id(alloc, "p")?, id(alloc, "j")?, id(alloc, "t")?);
     let line = command_line(alloc, LINE)?;
     let row = run(ids, line, number, u64::from(node), state);
-    put(alloc, tables, Change::PutRun(row))
+    put(alloc, tables, Change::put_run(alloc, row)?)
 }
 
 /// Adds the node with this number.
 fn put_node(alloc: Global, tables: &mut Tables, number: u8) -> Result<(), Fail> {
     let row = node(alloc, number)?;
-    put(alloc, tables, Change::PutNode(row))
+    put(alloc, tables, Change::put_node(alloc, row)?)
 }
 
 /// Adds two nodes with an attempt of a task on both: run 9 on node 1 is queued, and run 8 on node 2 is taken.

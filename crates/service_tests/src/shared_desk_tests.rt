@@ -5,7 +5,7 @@ ghost use Rattle.counted_lock.specs.Passes.{IsPassOf};
 use batch_ask::Ask;
 use batch_desk::{Answer, Desk};
 use batch_keeper::SureKeeper;
-use bt_base::{Id, Moment, NoMemory};
+use bt_base::{Id, Moment, NoMemory, Shared};
 use bt_rows::event::{Event, EventKind, PoolSpec};
 use bt_rows::pool::Fill;
 use bt_rows::reply::{Item, Reply};
@@ -19,7 +19,7 @@ use table_reads::Read;
 /// Adds a pool p without nodes.
 fn pool_added(alloc: Global) -> Option<Event> {
     let id = Id::read(alloc, "p").ok()?;
-    Some(Event::new(EventKind::AddPool(PoolSpec {
+    let spec = PoolSpec {
         id,
         dedicated: 0,
         low: 0,
@@ -29,7 +29,8 @@ fn pool_added(alloc: Global) -> Option<Event> {
         timeout: 900_000,
         start: None,
         scale: None,
-    })))
+    };
+    Some(Event::new(EventKind::AddPool(Shared::new(alloc, spec).ok()?)))
 }
 
 /// Reads the pool p.

@@ -29,7 +29,7 @@ fn number_at(row: &Row, column: usize) -> Result<u64, KeepError> {
 
 fn text_at(row: &Row, column: usize) -> Result<Text, KeepError> {
     match row.get::<String>(column) {
-        Ok(text) => Ok(Text::of_string(text)),
+        Ok(text) => Ok(Text::of_string(text)?),
         Err(error) => Err(answer_after(error)),
     }
 }

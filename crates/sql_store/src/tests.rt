@@ -13,7 +13,7 @@ use std::process::Abort;
 use std::test::Fail;
 
 fn text(alloc: Global, text: &str) -> Result<Text, NoMemory> {
-    Ok(Text::of_string(String::from_str(alloc, text)?))
+    Text::of_string(String::from_str(alloc, text)?)
 }
 
 fn put(alloc: Global, kind: RowKind, key: &str, row: &str) -> Result<Edit, NoMemory> {

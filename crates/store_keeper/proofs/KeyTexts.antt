@@ -17,7 +17,8 @@ use Rattle.bt_base.specs.declared.pool_metric.Metric.TheVariants as metrics
 use Rattle.bt_rows.specs.Metrics.{place_of_metric, same_metric}
 use Rattle.std.specs.Prelude.{Result, Ok, Err}
 use Rattle.serde_json.specs.Data.{string}
-use Rattle.row_fields.specs.UnitEnums.{metric_name, all_metrics, metric_in, metric_back}
+use Rattle.variant_names.specs.UnitNames.{metric_name}
+use Rattle.row_fields.specs.UnitEnums.{all_metrics, metric_in, metric_back}
 use Rattle.row_fields.specs.declared.fault.RowFault.{RowFault}
 use Rattle.store_keeper.specs.Keys.{joined, id_key, number_key, ids_key, id_number_key, label_key, is_id, is_number}
 use Rattle.store_keeper.proofs.NoSlash.{NoSlash, parted, no_slash}

@@ -3,7 +3,7 @@ use Rattle.std.specs.Prelude.{ℕ, ◌^◌, Bool, true, ◌&&◌, nat_lt, List, 
 use Rattle.std.specs.Fmt.{decimal}
 use Rattle.bt_base.specs.Ids.{lowered, id_fault}
 use Rattle.bt_base.specs.declared.pool_metric.Metric.{Metric}
-use Rattle.row_fields.specs.UnitEnums.{metric_name}
+use Rattle.variant_names.specs.UnitNames.{metric_name}
 use Rattle.bt_rows.specs.declared.pool.PoolRow.{PoolRow}
 use Rattle.bt_rows.specs.declared.node.NodeRow.{NodeRow}
 use Rattle.bt_rows.specs.declared.job.JobRow.{JobRow}

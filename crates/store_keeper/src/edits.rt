@@ -7,7 +7,7 @@ ghost use Rattle.store_keeper.specs.Edits.{Puts, Extends, AreEdits};
 
 use crate::keys::{id_key, id_number_key, ids_key, label_key, number_key};
 use crate::stored_row::{StoredRow, entry_of};
-use bt_base::{Id, NoMemory, Text};
+use bt_base::{Id, NoMemory, Shared, Text};
 use bt_rows::prep::PrepKey;
 use bt_rows::sample::SampleKey;
 use bt_rows::tables::Change;
@@ -21,7 +21,7 @@ fn push_put<T: StoredRow>(
     alloc: Global,
     edits: &mut Vec<Edit>,
     kind: RowKind,
-    row: &T,
+    row: &Shared<T>,
 ) -> Result<(), NoMemory>
     ensures { OnOk result (Puts kind T.key_of T.keyed T.in_data row.now edits.old.items edits.new.items) }
 {

@@ -30,7 +30,7 @@ fn push_row_put<T: StoredRow>(
 {
     match row_in::<T>(alloc, entry)? {
         Some(row) => {
-            puts.push(row.into_put())?;
+            puts.push(row.into_put(alloc)?)?;
             Ok(true)
         }
         None => Ok(false),

@@ -30,8 +30,8 @@ impl StoredRow for PoolRow {
 
     fn known(&self) {}
 
-    fn into_put(self) -> Change {
-        Change::PutPool(self)
+    fn into_put(self, alloc: Global) -> Result<Change, NoMemory> {
+        Change::put_pool(alloc, self)
     }
 }
 
@@ -50,8 +50,8 @@ impl StoredRow for NodeRow {
         let _number = self.number;
     }
 
-    fn into_put(self) -> Change {
-        Change::PutNode(self)
+    fn into_put(self, alloc: Global) -> Result<Change, NoMemory> {
+        Change::put_node(alloc, self)
     }
 }
 
@@ -68,8 +68,8 @@ impl StoredRow for JobRow {
 
     fn known(&self) {}
 
-    fn into_put(self) -> Change {
-        Change::PutJob(self)
+    fn into_put(self, alloc: Global) -> Result<Change, NoMemory> {
+        Change::put_job(alloc, self)
     }
 }
 
@@ -88,8 +88,8 @@ impl StoredRow for TaskRow {
         self.job.known();
     }
 
-    fn into_put(self) -> Change {
-        Change::PutTask(self)
+    fn into_put(self, alloc: Global) -> Result<Change, NoMemory> {
+        Change::put_task(alloc, self)
     }
 }
 
@@ -108,8 +108,8 @@ impl StoredRow for RunRow {
         let _number = self.number;
     }
 
-    fn into_put(self) -> Change {
-        Change::PutRun(self)
+    fn into_put(self, alloc: Global) -> Result<Change, NoMemory> {
+        Change::put_run(alloc, self)
     }
 }
 
@@ -129,8 +129,8 @@ impl StoredRow for PrepRow {
         let _node = self.node;
     }
 
-    fn into_put(self) -> Change {
-        Change::PutPrep(self)
+    fn into_put(self, alloc: Global) -> Result<Change, NoMemory> {
+        Change::put_prep(alloc, self)
     }
 }
 
@@ -150,8 +150,8 @@ impl StoredRow for SampleRow {
         let _label = self.label;
     }
 
-    fn into_put(self) -> Change {
-        Change::PutSample(self)
+    fn into_put(self, alloc: Global) -> Result<Change, NoMemory> {
+        Change::put_sample(alloc, self)
     }
 }
 
@@ -168,7 +168,7 @@ impl StoredRow for ScaleRow {
 
     fn known(&self) {}
 
-    fn into_put(self) -> Change {
-        Change::PutScale(self)
+    fn into_put(self, alloc: Global) -> Result<Change, NoMemory> {
+        Change::put_scale(alloc, self)
     }
 }

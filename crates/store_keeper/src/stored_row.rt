@@ -4,7 +4,7 @@ ghost use Rattle.bt_rows.specs.declared.tables.Change.{Change as RowChange};
 ghost use Rattle.row_texts.specs.Texts.{row_in_text};
 ghost use Rattle.store_keeper.specs.Reading.{if_key, row_in};
 
-use bt_base::{Fail, NoMemory, Text};
+use bt_base::{Fail, NoMemory, Shared, Text};
 use bt_rows::tables::Change;
 use keeper_store::Entry;
 use row_texts::{TableRow, read_row, write_row};
@@ -29,17 +29,18 @@ pub trait StoredRow: TableRow {
     fn known(&self)
         ensures { keyed self.now ≡ true };
 
-    /// The change that puts the row.
-    fn into_put(self) -> Change
-        ensures { result ≡ put self };
+    /// The change that puts the row. It fails only when out of memory.
+    fn into_put(self, alloc: Global) -> Result<Change, NoMemory>
+        ensures { IfOk result (λ change. change ≡ put self) };
 }
 
 /// The entry of a row: its text under its key, from which the row reads back.
-pub fn entry_of<T: StoredRow>(alloc: Global, row: &T) -> Result<Entry, NoMemory>
+pub fn entry_of<T: StoredRow>(alloc: Global, row: &Shared<T>) -> Result<Entry, NoMemory>
     ensures key { IfOk result (λ entry. entry.key ≡ T.key_of row.now) }
     ensures known { T.keyed row.now ≡ true }
     ensures text { IfOk result (λ entry. row_in_text T.in_data entry.text ≡ Ok row.now) }
 {
+    let row = row.get();
     row.known();
     let key = row.key(alloc)?;
     let text = write_row(alloc, row)?;

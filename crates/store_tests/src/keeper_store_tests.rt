@@ -7,7 +7,7 @@ use std::alloc::Global;
 use std::test::Fail;
 
 fn text(alloc: Global, text: &str) -> Result<Text, NoMemory> {
-    Ok(Text::of_string(String::from_str(alloc, text)?))
+    Text::of_string(String::from_str(alloc, text)?)
 }
 
 fn put(alloc: Global, key: &str, row: &str) -> Result<Edit, NoMemory> {

@@ -67,16 +67,16 @@ fn rows() -> [(u8, &'static str, &'static str); 8] {
 }
 
 /// The put of this row.
-fn put(row: Row) -> Change {
+fn put(alloc: Global, row: Row) -> Result<Change, NoMemory> {
     match row {
-        Row::Pool(row) => Change::PutPool(row),
-        Row::Node(row) => Change::PutNode(row),
-        Row::Job(row) => Change::PutJob(row),
-        Row::Task(row) => Change::PutTask(row),
-        Row::Run(row) => Change::PutRun(row),
-        Row::Prep(row) => Change::PutPrep(row),
-        Row::Sample(row) => Change::PutSample(row),
-        Row::Scale(row) => Change::PutScale(row),
+        Row::Pool(row) => Change::put_pool(alloc, row),
+        Row::Node(row) => Change::put_node(alloc, row),
+        Row::Job(row) => Change::put_job(alloc, row),
+        Row::Task(row) => Change::put_task(alloc, row),
+        Row::Run(row) => Change::put_run(alloc, row),
+        Row::Prep(row) => Change::put_prep(alloc, row),
+        Row::Sample(row) => Change::put_sample(alloc, row),
+        Row::Scale(row) => Change::put_scale(alloc, row),
     }
 }
 
@@ -89,7 +89,7 @@ fn puts(
     let mut changes = Vec::new(alloc);
     for (kind, text, _) in rows() {
         if kinds.contains(&kind) {
-            changes.push(put(row_of(alloc, kind, text)?))?;
+            changes.push(put(alloc, row_of(alloc, kind, text)?)?)?;
         }
     }
     changes.push(Change::Counters(numbers.0, numbers.1))?;
@@ -232,7 +232,7 @@ fn a_run_without_its_task_is_not_loaded(rt: HostRuntime) -> Result<(), Fail> {
     let mut first = keeper(alloc, Vec::new(alloc));
     first.save(alloc, changes.as_slice()).map_err(|_| "saved")?;
     let mut store = first.into_store();
-    let key = Text::of_string(String::from_str(alloc, "j/t")?);
+    let key = Text::of_string(String::from_str(alloc, "j/t")?)?;
     let edits = vec![in alloc; Edit::Drop(RowKind::Task, key)]?;
     store.write(alloc, edits.as_slice()).map_err(|_| "written")?;
     let mut second = StoreKeeper::new(store);

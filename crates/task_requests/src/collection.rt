@@ -8,7 +8,7 @@ ghost use Rattle.machine_plans.specs.Plans.{IsAnswer, IsPlanOf, with_moment};
 ghost use Rattle.task_requests.specs.Collections.{IsAnswered, added_by, refusal_beside};
 
 use crate::task::{new_task, task_refusal};
-use bt_base::{Duplicate, Fail, Id, List, NoMemory};
+use bt_base::{Duplicate, Fail, Id, List, NoMemory, Shared};
 use bt_rows::event::TaskSpec;
 use bt_rows::job::JobRow;
 use bt_rows::limits::COLLECTION_LIMIT;
@@ -25,7 +25,7 @@ use std::alloc::Global;
 #[derive(Drop)]
 struct Collected {
     elements: Vec<Element>,
-    tasks: Vec<TaskRow>,
+    tasks: Vec<Shared<TaskRow>>,
 }
 
 /// The answer to an element, from why it is refused, if it is.
@@ -41,7 +41,7 @@ fn element_of(spec: &TaskSpec, refusal: Option<Refusal>) -> Result<Element, NoMe
 
 /// Adds the task of an element, if the element is not refused.
 fn add_unless(
-    tasks: &mut Vec<TaskRow>,
+    tasks: &mut Vec<Shared<TaskRow>>,
     job: &JobRow,
     spec: &TaskSpec,
     refusal: Option<Refusal>,
@@ -49,7 +49,8 @@ fn add_unless(
     ensures { OnOk result (tasks.new.items ≡ tasks.old.items ++ added_by job.now spec.now refusal) }
 {
     if refusal.is_none() {
-        tasks.push(new_task(&job.id, spec)?)?;
+        let alloc = *tasks.allocator();
+        tasks.push(Shared::new(alloc, new_task(&job.id, spec)?)?)?;
     }
     Ok(())
 }
@@ -89,7 +90,7 @@ fn collect(
 }
 
 /// The puts of new tasks.
-fn puts(alloc: Global, tasks: Vec<TaskRow>) -> Result<Vec<Change>, NoMemory>
+fn puts(alloc: Global, tasks: Vec<Shared<TaskRow>>) -> Result<Vec<Change>, NoMemory>
     ensures { IfOk result (λ changes. changes.items ≡ map PutTask tasks.items) }
 {
     Ok(tasks.into_iter().map(Change::PutTask).collect(alloc)?)

@@ -13,7 +13,7 @@ ghost use Rattle.machine_plans.specs.Plans.{IsAnswer, IsPlanOf, with_moment};
 ghost use Rattle.task_requests.specs.Collections.{with_tasks};
 ghost use Rattle.task_requests.specs.Stated.{is_stated};
 
-use bt_base::{Duplicate, Fail, Id, NoMemory};
+use bt_base::{Duplicate, Fail, Id, NoMemory, Shared};
 use bt_rows::event::TaskSpec;
 use bt_rows::job::JobRow;
 use bt_rows::limits::{DEPENDENCY_ID_LIMIT, TASK_LIMIT};
@@ -32,25 +32,30 @@ fn has_row(tables: &Tables, job: &Id, id: &Id) -> bool
     tables.find_task(job, id).is_some()
 }
 
+/// Whether the task is the job's with this id, whatever its case.
+fn is_task(task: &TaskRow, job: &Id, id: &Id) -> bool
+    ensures { result ≡ is_task job.now id.now task.now }
+{
+    task.job.same(job) && task.id.same(id)
+}
+
 /// Whether one of the tasks is the job's with this id, whatever its case.
-fn has_task(tasks: &[TaskRow], job: &Id, id: &Id) -> bool
+fn has_task(tasks: &[Shared<TaskRow>], job: &Id, id: &Id) -> bool
     ensures { result ≡ list_any (is_task job.now id.now) tasks.now }
 {
-    tasks
-        .iter()
-        .any(|task| task.job.same(job) && task.id.same(id))
+    tasks.iter().any(|task| is_task(task.get(), job, id))
 }
 
 /// Whether the job has a task with this id, whatever its case, in the tables or among the added ones.
 #[tactic(auto, using(crate::proofs::AnsweredTasks::found_first, crate::proofs::AnsweredTasks::found_second))]
-fn is_known(tables: &Tables, added: &[TaskRow], job: &Id, id: &Id) -> bool
+fn is_known(tables: &Tables, added: &[Shared<TaskRow>], job: &Id, id: &Id) -> bool
     ensures { result ≡ is_some (task_of (with_tasks added.now tables.now.state) job.now id.now) }
 {
     has_row(tables, job, id) || has_task(added, job, id)
 }
 
 /// Whether the tables and the added tasks together have as many tasks as the limit.
-fn is_full(tables: &Tables, added: &[TaskRow]) -> bool
+fn is_full(tables: &Tables, added: &[Shared<TaskRow>]) -> bool
     ensures { result ≡ nat_le task_limit (length (with_tasks added.now tables.now.state).tasks) }
 {
     let room = TASK_LIMIT.saturating_sub(tables.task_count() as u64);
@@ -123,7 +128,7 @@ fn uses_dependencies(spec: &TaskSpec) -> bool
 /// `DependencyListTooLong`, `JobActionOff` or `TableFull`, in this order.
 pub fn task_refusal(
     tables: &Tables,
-    added: &[TaskRow],
+    added: &[Shared<TaskRow>],
     job: &JobRow,
     spec: &TaskSpec,
 ) -> Option<Refusal>
@@ -207,7 +212,12 @@ pub fn new_task(job: &Id, spec: &TaskSpec) -> Result<TaskRow, NoMemory>
 }
 
 /// The plan that adds a task whose job has none with its id.
-fn put_new_task(alloc: Global, tables: &Tables, now: u64, task: TaskRow) -> Result<Plan, NoMemory>
+fn put_new_task(
+    alloc: Global,
+    tables: &Tables,
+    now: u64,
+    task: Shared<TaskRow>,
+) -> Result<Plan, NoMemory>
     requires { is_some (task_of tables.now.state task.job task.id) ≡ false }
     ensures { IfOk result (IsPlanOf (accept 201 (add_task_row task (with_moment now tables.now.state))) tables.now.state) }
 {
@@ -229,7 +239,10 @@ fn add_task_to(
     }
     match task_refusal(tables, &[], job, spec) {
         Some(refusal) => Err(Fail::Why(refusal)),
-        None => Ok(put_new_task(alloc, tables, now, new_task(&job.id, spec)?)?),
+        None => {
+            let task = Shared::new(alloc, new_task(&job.id, spec)?)?;
+            Ok(put_new_task(alloc, tables, now, task)?)
+        }
     }
 }
 

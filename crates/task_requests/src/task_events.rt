@@ -13,7 +13,7 @@ ghost use Rattle.machine_plans.specs.Plans.{IsAnswer, IsPlanOf, with_moment};
 
 use crate::removal::drop_changes;
 use crate::task_rows::terminated;
-use bt_base::{Duplicate, Fail, Id, NoMemory};
+use bt_base::{Duplicate, Fail, Id, NoMemory, Shared};
 use bt_rows::job::{JobRow, JobState};
 use bt_rows::plan::Plan;
 use bt_rows::refusal::Refusal;
@@ -56,7 +56,7 @@ fn put_task(
     tables: &Tables,
     now: u64,
     task: &TaskRow,
-    row: TaskRow,
+    row: Shared<TaskRow>,
 ) -> Result<Plan, NoMemory>
     requires keys { KeysAreDistinct tables.now.state }
     requires there { task_of tables.now.state task.now.job task.now.id ≡ Some task.now }
@@ -128,7 +128,7 @@ fn put_terminated(
     requires there { task_of tables.now.state task.now.job task.now.id ≡ Some task.now }
     ensures { IfOk result (IsPlanOf (accept 204 (put_task (terminated now task.now) (with_moment now tables.now.state))) tables.now.state) }
 {
-    let row = terminated(now, task)?;
+    let row = Shared::new(alloc, terminated(now, task)?)?;
     put_task(alloc, tables, now, task, row)
 }
 
@@ -244,7 +244,7 @@ fn reactivate_found(
     if !can_reactivate(task) {
         return Err(Fail::Why(Refusal::TaskNotReactivable));
     }
-    let row = reactivated(task)?;
+    let row = Shared::new(alloc, reactivated(task)?)?;
     Ok(put_task(alloc, tables, now, task, row)?)
 }
 

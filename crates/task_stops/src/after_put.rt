@@ -15,7 +15,7 @@ ghost use Rattle.task_stops.specs.declared.stop.Stopped.TheVariants.{OthersOfJob
 use crate::halt::push_halt;
 use crate::jobs::{job_for, job_in};
 use crate::stop::{Stopped, push_stop};
-use bt_base::{Duplicate, Id, NoMemory, Text};
+use bt_base::{Duplicate, Id, NoMemory, Shared, Text};
 use bt_rows::job::{JobRow, JobState};
 use bt_rows::tables::{Change, Tables};
 use bt_rows::task::{TaskKey, TaskRow, Want};
@@ -60,7 +60,7 @@ pub fn disable_after_put(
     requires there { job_of tables.now.state job.now.id ≡ Some job.now }
     ensures { IfOk result (λ changes. apply_changes changes.items (put_task row.now tables.now.state) ≡ disable job.now Requeue (put_task row.now tables.now.state)) }
 {
-    let disabling = job_in(JobState::Disabling, job)?;
+    let disabling = Shared::new(alloc, job_in(JobState::Disabling, job)?)?;
     let mut changes = vec![in alloc; Change::PutJob(disabling)]?;
     push_stop_after_put(&mut changes, tables, row, &job.id, Want::Requeue)?;
     Ok(changes)
@@ -81,7 +81,7 @@ pub fn terminate_after_put(
     requires apart { Each names_no_task tables.now.state.runs }
     ensures { IfOk result (λ changes. apply_changes changes.items (put_task row.now tables.now.state) ≡ terminate reason job.now (put_task row.now tables.now.state)) }
 {
-    let terminating = job_for(JobState::Terminating, reason, job)?;
+    let terminating = Shared::new(alloc, job_for(JobState::Terminating, reason, job)?)?;
     let mut changes = vec![in alloc; Change::PutJob(terminating)]?;
     push_stop_after_put(&mut changes, tables, row, &job.id, Want::Terminate)?;
     push_halt(&mut changes, tables, tables.moment(), &job.id)?;

@@ -75,9 +75,10 @@ fn push_halted(
 ) -> Result<(), NoMemory>
     ensures { OnOk result (changes.new.items ≡ changes.old.items ++ puts_of PutRun (halted_preparation job.now now) tables.now.state.runs) }
 {
+    let alloc = *changes.allocator();
     for run in tables.runs() {
         if let Some(row) = halted_preparation(now, job, run)? {
-            changes.push(Change::PutRun(row))?;
+            changes.push(Change::put_run(alloc, row)?)?;
         }
     }
     Ok(())
@@ -87,9 +88,10 @@ fn push_halted(
 fn push_failed(changes: &mut Vec<Change>, tables: &Tables, job: &Id) -> Result<(), NoMemory>
     ensures { OnOk result (changes.new.items ≡ changes.old.items ++ puts_of PutPrep (failed_prep job.now tables.now.state) tables.now.state.preps) }
 {
+    let alloc = *changes.allocator();
     for prep in tables.preps() {
         if let Some(row) = failed_prep(tables, job, prep)? {
-            changes.push(Change::PutPrep(row))?;
+            changes.push(Change::put_prep(alloc, row)?)?;
         }
     }
     Ok(())

@@ -13,7 +13,7 @@ ghost use Rattle.task_stops.specs.StopChanges.{stop_changes, stop_changes_for};
 
 use crate::halt::push_halt;
 use crate::stop::{Stopped, push_stop};
-use bt_base::{Duplicate, Id, NoMemory, Text};
+use bt_base::{Duplicate, Id, NoMemory, Shared, Text};
 use bt_rows::event::DisableTasks;
 use bt_rows::job::{JobRow, JobState};
 use bt_rows::tables::{Change, Tables};
@@ -84,7 +84,7 @@ pub fn disable(
     requires there { job_of tables.now.state job.now.id ≡ Some job.now }
     ensures { IfOk result (λ changes. apply_changes changes.items (with_moment now tables.now.state) ≡ disable job.now option (with_moment now tables.now.state)) }
 {
-    let row = job_in(JobState::Disabling, job)?;
+    let row = Shared::new(alloc, job_in(JobState::Disabling, job)?)?;
     let mut changes = vec![in alloc; Change::PutJob(row)]?;
     push_stop_for(&mut changes, tables, now, option, &job.id)?;
     Ok(changes)
@@ -105,7 +105,7 @@ pub fn close(
     requires apart { Each names_no_task tables.now.state.runs }
     ensures { IfOk result (λ changes. apply_changes changes.items (with_moment now tables.now.state) ≡ close state reason job.now (with_moment now tables.now.state)) }
 {
-    let row = job_for(state, reason, job)?;
+    let row = Shared::new(alloc, job_for(state, reason, job)?)?;
     let mut changes = vec![in alloc; Change::PutJob(row)]?;
     push_stop_of_job(&mut changes, tables, now, &job.id, Want::Terminate)?;
     push_halt(&mut changes, tables, now, &job.id)?;

@@ -170,9 +170,10 @@ fn push_halted(
     requires { KeysAreDistinct tables.now.state }
     ensures { OnOk result (changes.new.items ≡ changes.old.items ++ puts_of PutRun (halted_run (is_among tables.now.state which.now) now tables.now.state) tables.now.state.runs) }
 {
+    let alloc = *changes.allocator();
     for run in tables.runs() {
         if let Some(row) = halted_run(tables, now, which, run)? {
-            changes.push(Change::PutRun(row))?;
+            changes.push(Change::put_run(alloc, row)?)?;
         }
     }
     Ok(())
@@ -187,9 +188,10 @@ fn push_wanted(
 ) -> Result<(), NoMemory>
     ensures { OnOk result (changes.new.items ≡ changes.old.items ++ puts_of PutTask (stopped_task (is_among tables.now.state which.now) want) tables.now.state.tasks) }
 {
+    let alloc = *changes.allocator();
     for task in tables.tasks() {
         if let Some(row) = stopped_task(tables, which, want, task)? {
-            changes.push(Change::PutTask(row))?;
+            changes.push(Change::put_task(alloc, row)?)?;
         }
     }
     Ok(())

@@ -1,7 +1,7 @@
 //! Links over TCP.
 ghost use Rattle.std.specs.Prelude.{◌≡◌, None, IfOk};
 
-use bt_base::Failed;
+use byte_streams::Failed;
 use http_link::Link;
 use std::io;
 use std::io::{ErrorKind, Read, Write};

@@ -69,7 +69,7 @@ fn value_text(alloc: Global, value: &Value) -> Result<Text, NoMemory>
     requires { has_float (view value.now) ≡ false }
     ensures { IfOk result (λ text. text ≡ compact_text (view value.now)) }
 {
-    Ok(Text::of_string(value.to_string(alloc)?))
+    Text::of_string(value.to_string(alloc)?)
 }
 
 /// The JSON of the reply as a text without spaces (RFC 8259): a refusal is its name, its number and its values; a row or counts
@@ -80,7 +80,7 @@ pub fn reply_json(alloc: Global, reply: &Reply) -> Result<Text, NoMemory>
     ensures { IfOk result (λ text. text ≡ reply_json reply.now) }
 {
     match reply_value(alloc, reply)? {
-        None => Ok(Text::of_string(String::new(alloc))),
+        None => Text::of_string(String::new(alloc)),
         Some(value) => value_text(alloc, &value),
     }
 }

@@ -6,7 +6,7 @@ ghost use Rattle.wire_lines.specs.Events.{id_argument, lone_id, job_and_body, ad
 ghost use Rattle.wire_lines.specs.Events.{job_and_task, delete_task, terminate_task, reactivate_task};
 
 use crate::parts::{split_just_two, split_one, split_two};
-use bt_base::{Fail, Id, text_of};
+use bt_base::{Fail, Id, Shared, text_of};
 use bt_rows::event::EventKind;
 use bt_rows::member::Member;
 use bt_rows::refusal::Refusal;
@@ -69,7 +69,7 @@ pub fn add_job(alloc: Global, text: &[u8]) -> Result<EventKind, Fail<Refusal>>
     ensures kept { IfOk result (λ kind. is_event_in_range kind ≡ true) }
 {
     let (id, job) = read_job(alloc, text)?;
-    Ok(EventKind::AddJob(id, job))
+    Ok(EventKind::AddJob(id, Shared::new(alloc, job)?))
 }
 
 /// The event of `patch-job` with these arguments.
@@ -79,7 +79,8 @@ pub fn patch_job(alloc: Global, text: &[u8]) -> Result<EventKind, Fail<Refusal>>
     ensures kept { IfOk result (λ kind. is_event_in_range kind ≡ true) }
 {
     let (job, body) = job_and_body(alloc, text)?;
-    Ok(EventKind::PatchJob(job, read_job_patch(alloc, body)?))
+    let patch = read_job_patch(alloc, body)?;
+    Ok(EventKind::PatchJob(job, Shared::new(alloc, patch)?))
 }
 
 /// The event of `disable-job` with these arguments.
@@ -133,7 +134,8 @@ pub fn add_task(alloc: Global, text: &[u8]) -> Result<EventKind, Fail<Refusal>>
     ensures kept { IfOk result (λ kind. is_event_in_range kind ≡ true) }
 {
     let (job, task) = job_and_body(alloc, text)?;
-    Ok(EventKind::AddTask(job, read_task(alloc, task)?))
+    let task = read_task(alloc, task)?;
+    Ok(EventKind::AddTask(job, Shared::new(alloc, task)?))
 }
 
 /// The event of `add-tasks` with these arguments.

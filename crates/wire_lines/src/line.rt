@@ -11,7 +11,7 @@ use crate::event::{
 };
 use crate::look::{ReadWord, read_with};
 use crate::parts::{split_just_two, split_two, split_word};
-use bt_base::{Fail, Moment};
+use bt_base::{Fail, Moment, Shared};
 use bt_rows::event::{Event, EventKind};
 use bt_rows::refusal::Refusal;
 use std::alloc::Global;
@@ -124,7 +124,10 @@ fn event_with(alloc: Global, word: LineWord, text: &[u8]) -> Result<EventKind, F
     ensures kept { IfOk result (λ kind. is_event_in_range kind ≡ true) }
 {
     match word {
-        LineWord::AddPool => Ok(EventKind::AddPool(read_pool(alloc, text)?)),
+        LineWord::AddPool => {
+            let pool = read_pool(alloc, text)?;
+            Ok(EventKind::AddPool(Shared::new(alloc, pool)?))
+        }
         LineWord::AddJob => add_job(alloc, text),
         LineWord::PatchJob => patch_job(alloc, text),
         LineWord::DisableJob => disable_job(alloc, text),

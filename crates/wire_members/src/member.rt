@@ -167,7 +167,7 @@ pub fn text_member(
     match member(part, name) {
         None => Ok(None),
         Some(value) => match value.as_str() {
-            Some(text) => Ok(Some(Text::of_string(String::from_str(alloc, text)?))),
+            Some(text) => Ok(Some(Text::of_string(String::from_str(alloc, text)?)?)),
             None => Err(invalid_property(name)),
         },
     }

@@ -59,8 +59,8 @@ fn respond(alloc: Global, method: &[u8], target: &str) -> Result<Response, NoMem
     }
 }
 
-fn text(alloc: Global, text: &str) -> Result<Text, AllocError> {
-    Ok(Text::of_string(String::from_str(alloc, text)?))
+fn text(alloc: Global, text: &str) -> Result<Text, NoMemory> {
+    Text::of_string(String::from_str(alloc, text)?)
 }
 
 const TWO: &[u8] =

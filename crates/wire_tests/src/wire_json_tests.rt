@@ -105,7 +105,7 @@ fn replies_are_written(rt: HostRuntime) -> Result<(), Fail> {
         reply_json(alloc, &job(alloc, None)?)?.as_str(),
         "{\"id\":\"J\",\"maxParallelTasks\":-1,\"poolId\":\"p\",\"priority\":-1000,\"state\":\"terminating\"}"
     );
-    let reason = Text::of_string(String::from_str(alloc, "enough é")?);
+    let reason = Text::of_string(String::from_str(alloc, "enough é")?)?;
     assert_eq!(rt;
         reply_json(alloc, &job(alloc, Some(reason))?)?.as_str(),
         "{\"id\":\"J\",\"maxParallelTasks\":-1,\"poolId\":\"p\",\"priority\":-1000,\"state\":\"terminating\",\"terminateReason\":\"enough é\"}"
@@ -144,7 +144,7 @@ fn counts_and_answers_are_written(rt: HostRuntime) -> Result<(), Fail> {
         reply_json(alloc, &elements(alloc)?)?.as_str(),
         "{\"value\":[{\"status\":\"success\",\"taskId\":\"a\"},{\"error\":{\"code\":\"TableFull\",\"number\":30,\"values\":[\"tasks\",\"1000000\"]},\"status\":\"clienterror\",\"taskId\":\"b\"}]}"
     );
-    let results = Text::of_string(String::from_str(alloc, "error EmptyVector 4")?);
+    let results = Text::of_string(String::from_str(alloc, "error EmptyVector 4")?)?;
     assert_eq!(rt;
         reply_json(alloc, &Reply::Results(results))?.as_str(),
         "{\"results\":\"error EmptyVector 4\"}"

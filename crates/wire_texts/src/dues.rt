@@ -127,5 +127,5 @@ pub fn write_due(alloc: Global, due: &Due) -> Result<Text, NoMemory>
 {
     let mut out = String::new(alloc);
     push_due(&mut out, due)?;
-    Ok(Text::of_string(out))
+    Text::of_string(out)
 }

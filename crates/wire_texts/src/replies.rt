@@ -69,5 +69,5 @@ pub fn write_reply(alloc: Global, reply: &Reply) -> Result<Text, NoMemory>
 {
     let mut out = String::new(alloc);
     push_reply(&mut out, alloc, reply)?;
-    Ok(Text::of_string(out))
+    Text::of_string(out)
 }

@@ -122,5 +122,6 @@ pub fn write_tables(alloc: Global, tables: &Tables) -> Result<Text, NoMemory>
     push_runs(&mut out, tables)?;
     push_preps(&mut out, tables)?;
     push_scales(&mut out, tables)?;
-    Ok(Text::of_string(out))
+    let text = Text::of_string(out)?;
+    Ok(text)
 }

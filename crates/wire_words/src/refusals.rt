@@ -148,14 +148,14 @@ pub fn table_word(table: Table) -> &'static str
 fn copied(alloc: Global, text: &str) -> Result<Text, NoMemory>
     ensures { IfOk result (λ copy. copy ≡ text.now) }
 {
-    Ok(Text::of_string(String::from_str(alloc, text)?))
+    Text::of_string(String::from_str(alloc, text)?)
 }
 
 /// The digits of a number.
 fn digits(alloc: Global, n: u64) -> Result<Text, NoMemory>
     ensures { IfOk result (λ text. text ≡ decimal n) }
 {
-    Ok(Text::of_string(format!(in alloc; "{n}")?))
+    Text::of_string(format!(in alloc; "{n}")?)
 }
 
 /// The values that the refusal carries, as texts: for an invalid property its name, for a refused formula the fault and its place,

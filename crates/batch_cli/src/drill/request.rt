@@ -7,7 +7,7 @@ ghost use Rattle.bt_rows.specs.declared.run.Ending.TheVariants.{Code};
 ghost use Rattle.batch_cli.specs.Drill.{drill_id, drill_line, pool_spec, job_spec, task_spec, needs_of, spans_of, exit_code_of};
 
 use crate::drill::limits::{DRILL_ID, DRILL_NODES, DRILL_SLOTS};
-use bt_base::{CommandLine, Fail, Id, List, NoMemory};
+use bt_base::{CommandLine, Fail, Id, List, NoMemory, Shared};
 use bt_rows::event::{Event, EventKind, JobSpec, PoolSpec, TaskSpec};
 use bt_rows::limits::{DEFAULT_RESIZE_TIMEOUT, DEFAULT_RETENTION};
 use bt_rows::pool::Fill;
@@ -60,7 +60,7 @@ pub fn add_pool(alloc: Global) -> Result<Event, NoMemory>
     ensures { IfOk result (λ event. event ≡ AddPool pool_spec) }
 {
     let id = drill_id(alloc)?;
-    Ok(Event::new(EventKind::AddPool(PoolSpec {
+    let spec = PoolSpec {
         id,
         dedicated: DRILL_NODES,
         low: 0,
@@ -70,7 +70,8 @@ pub fn add_pool(alloc: Global) -> Result<Event, NoMemory>
         timeout: DEFAULT_RESIZE_TIMEOUT,
         start: None,
         scale: None,
-    })))
+    };
+    Ok(Event::new(EventKind::AddPool(Shared::new(alloc, spec)?)))
 }
 
 /// The event that adds the job of a drill.
@@ -91,7 +92,7 @@ pub fn add_job(alloc: Global) -> Result<Event, NoMemory>
         prep: None,
         release: None,
     };
-    Ok(Event::new(EventKind::AddJob(id, spec)))
+    Ok(Event::new(EventKind::AddJob(id, Shared::new(alloc, spec)?)))
 }
 
 /// The ids that the task with this number and this second draw depends on.
@@ -149,7 +150,7 @@ pub fn add_task(alloc: Global, number: u32, first: u32, second: u32) -> Result<E
 {
     let job = drill_id(alloc)?;
     let spec = task_spec(alloc, number, first, second)?;
-    Ok(Event::new(EventKind::AddTask(job, spec)))
+    Ok(Event::new(EventKind::AddTask(job, Shared::new(alloc, spec)?)))
 }
 
 /// The event that takes the run with this number.

@@ -1,15 +1,16 @@
 //! The line that sums up a drill.
 ghost use Rattle.std.specs.Prelude.{◌≡◌, ◌≤◌, IfOk, OnOk, OnErr, IsErrOf, count_by, string_bytes};
 ghost use Rattle.bt_base.specs.Causes.{Rose};
-ghost use Rattle.bt_base.specs.Content.{Gains, GainsFront};
+ghost use Rattle.byte_streams.specs.Content.{Gains, GainsFront};
 ghost use Rattle.batch_model.specs.Tasks.{is_in_job};
 ghost use Rattle.batch_cli.specs.Drill.{is_success, has_success, has_failure, is_waiting, is_run_of, counts_of, counts_line, summary_text};
 
 use crate::drill::request::drill_id;
 use crate::stopped::Stopped;
-use bt_base::{Id, NoMemory, Sink, write_all};
+use bt_base::{Id, NoMemory};
 use bt_rows::tables::Tables;
 use bt_rows::task::{Closed, TaskRow, TaskStage};
+use byte_streams::{Sink, write_all};
 use std::alloc::Global;
 use table_scans::{is_active, names};
 

@@ -1,5 +1,5 @@
 use Rattle.std.proofs.Common.{arith, rules, ap, ◌≡◌, inr, string_bytes, subst}
-use Rattle.bt_base.specs.Content.{Gains, GainsFront}
+use Rattle.byte_streams.specs.Content.{Gains, GainsFront}
 use Rattle.batch_cli.specs.Shown.{memory_stops}
 use Rattle.batch_cli.proofs.Advancing.{at_err_anyway}
 use Rattle.batch_cli.proofs.GoingOn.{stops_append}

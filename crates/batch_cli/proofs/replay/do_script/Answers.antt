@@ -1,5 +1,5 @@
 use Rattle.std.proofs.Common.{subst}
-use Rattle.bt_base.specs.Content.{Gains, GainsFront}
+use Rattle.byte_streams.specs.Content.{Gains, GainsFront}
 use Rattle.batch_wire.specs.Tables.{tables_text}
 use Rattle.batch_cli.proofs.Advancing.{at_err_anyway}
 use Rattle.batch_cli.proofs.GoingOn.{going_ends, going_cut}

@@ -1,5 +1,5 @@
 use Rattle.std.proofs.Common.{refl, inl}
-use Rattle.bt_base.proofs.Gaining.{gains_nothing}
+use Rattle.byte_streams.proofs.Gaining.{gains_nothing}
 use Rattle.batch_cli.proofs.GoingOn.{if_some_anyway}
 use Rattle.batch_cli.proofs.run.run_desk.Goals as goal
 

@@ -1,5 +1,5 @@
 use Rattle.std.proofs.Common.{arith, ◌∙◌}
-use Rattle.bt_base.proofs.Gaining.{gains_more, cut_more}
+use Rattle.byte_streams.proofs.Gaining.{gains_more, cut_more}
 use Rattle.http_link.proofs.link.write_all.Goals as goal
 
 pub loop-rest-preserved : goal.loop-rest-preserved

@@ -14,6 +14,7 @@ returns c =
     ap (λ changes. apply_changes changes s) (c.in_ok-append.ensures.items ∙ ap (λ first. first ++ later) c.in_ok-changes.ensures.items)
     ∙ ap (apply_changes later)
     (task_changed (is_over s) c.args.task.now c.in_ok-row.row s c.requires.over.keys c.requires.over.found
-    (ap (λ (row : TaskRow). row.job) c.in_ok-row.ensures) (ap (λ (row : TaskRow). row.id) c.in_ok-row.ensures))
+    (ap (λ (row : TaskRow). row.job) (c.in_ok-row.ensures ∙ c.in_ok-done.ensures)) (ap (λ (row : TaskRow). row.id) (c.in_ok-row.ensures ∙ c.in_ok-done.ensures)))
+    ∙ ap (λ row. apply_changes later (put_task row s)) c.in_ok-row.ensures
     ∙ c.in_ok-later.ensures
-    ∙ ap (λ row. act_if_asked c.args.action job (put_task row s)) c.in_ok-row.ensures
+    ∙ ap (λ row. act_if_asked c.args.action job (put_task row s)) c.in_ok-done.ensures

@@ -1,4 +1,4 @@
-use Rattle.std.proofs.Common.{ap, subst}
+use Rattle.std.proofs.Common.{ap, subst, ◌∙◌}
 use Rattle.std.specs.Result.{IfOk}
 use Rattle.batch_model.specs.Events.{accept}
 use Rattle.machine_plans.specs.Plans.{IsPlanOf}
@@ -9,5 +9,5 @@ pub returns : goal.returns
 returns c =
     let s = c.args.tables.now.state in
     subst (λ answered. IfOk c.accept_one.result (IsPlanOf answered s))
-    (ap (accept 200) (end_put s c.requires.keys c.args.run.now c.requires.there c.args.now c.args.ending c.in_ok-ended.ended c.in_ok-ended.ensures))
+    (ap (accept 200) (end_put s c.requires.keys c.args.run.now c.requires.there c.args.now c.args.ending c.in_ok-ended.ended (c.in_ok-ended.ensures ∙ c.in_ok-ended_run.ensures)))
     c.accept_one.ensures

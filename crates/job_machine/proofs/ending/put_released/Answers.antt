@@ -1,4 +1,4 @@
-use Rattle.std.proofs.Common.{[], ◌∷◌, refl}
+use Rattle.std.proofs.Common.{[], ◌∷◌, refl, ◌∙◌}
 use Rattle.bt_rows.specs.declared.tables.Change.TheVariants.{PutPrep, PutRun}
 use Rattle.batch_model.specs.Events.{accept}
 use Rattle.batch_model.specs.Preparing.{released}
@@ -16,4 +16,4 @@ returns c =
     moved_plan c.accept_two.result c.args.now (accept 200 (change_prep prep released (with_end c.args.now c.args.ending run s))) s
     (PutRun c.in_ok-ended.ended ∷ PutPrep c.in_ok-done.done ∷ []) (λ refusal e. cc)
     c.accept_two.ensures.reply c.accept_two.ensures.changes
-    (end_and_prep s c.requires.keys run c.requires.there c.args.now c.args.ending c.in_ok-ended.ended c.in_ok-done.done prep released c.in_ok-ended.ensures c.in_ok-done.ensures (λ x. refl) c.requires.found)
+    (end_and_prep s c.requires.keys run c.requires.there c.args.now c.args.ending c.in_ok-ended.ended c.in_ok-done.done prep released (c.in_ok-ended.ensures ∙ c.in_ok-ended_run.ensures) (c.in_ok-done.ensures ∙ c.in_ok-released.ensures) (λ x. refl) c.requires.found)

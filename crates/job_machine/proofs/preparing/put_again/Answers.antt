@@ -22,4 +22,4 @@ returns c =
     c.reply_listed.ensures.reply c.reply_listed.ensures.changes
     (ap (λ these. apply_changes these (with_moment c.args.now s)) made
     ∙ end_and_again s run prep c.requires.there c.args.now c.args.ending c.in_ok-ended.ended c.in_ok-again.again c.in_ok-counted.counted preparation c.next_node.result (c.next_run.result + 1)
-    c.in_ok-ended.ensures c.in_ok-counted.ensures c.in_ok-again.ensures c.next_node.ensures (ap (λ n. n + 1) c.next_run.ensures))
+    c.in_ok-ended.ensures (c.in_ok-counted.ensures ∙ c.in_ok-counted_preparation.ensures) c.in_ok-again.ensures c.next_node.ensures (ap (λ n. n + 1) c.next_run.ensures))

@@ -23,4 +23,4 @@ returns c =
     c.push_stops.new.changes.items (λ refusal e. cc)
     c.reply_listed.ensures.reply c.reply_listed.ensures.changes
     (ap (λ these. apply_changes these (with_moment c.args.now s)) made
-    ∙ end_and_spent s run prep c.requires c.args.now c.args.ending c.in_ok-ended.ended c.in_ok-spent.spent preparation c.in_ok-ended.ensures c.in_ok-spent.ensures)
+    ∙ end_and_spent s run prep c.requires c.args.now c.args.ending c.in_ok-ended.ended c.in_ok-spent.spent preparation c.in_ok-ended.ensures (c.in_ok-spent.ensures ∙ c.in_ok-spent_preparation.ensures))

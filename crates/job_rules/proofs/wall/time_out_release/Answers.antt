@@ -11,6 +11,6 @@ pub returns : goal.returns
 returns c =
     let s = c.args.tables.now.state in
     let run = c.args.run.now in
-    of_step c.step_one.result (ReleaseTimedOut run.number) (PutRun c.in_ok-asked_to_stop.field-0 ∷ []) s (release_timed_out s run)
+    of_step c.step_one.result (ReleaseTimedOut run.number) (PutRun c.in_ok-row.row ∷ []) s (release_timed_out s run)
     c.step_one.ensures.reply c.step_one.ensures.changes refl
-    (ap (λ row. apply_change (PutRun row) s) c.in_ok-asked_to_stop.ensures ∙ run_asked s c.requires.keys run c.requires.there)
+    (ap (λ row. apply_change (PutRun row) s) (c.in_ok-row.ensures ∙ c.in_ok-asked_to_stop.ensures) ∙ run_asked s c.requires.keys run c.requires.there)

@@ -16,9 +16,7 @@ returns c =
     let nodes = c.next_node.result + 1 in
     let runs = c.next_run.result + 1 in
     let run : c.in_ok-run.run' ≡ start_run s seated start =
-    c.in_ok-run.ensures
-    ∙ (ap (λ at. start_run (record s { moment = at }) c.in_ok-node.node start) c.moment.ensures
-    ∙ ap (λ node. start_run s node start) c.in_ok-node.ensures) in
+    c.in_ok-run.ensures ∙ ap (λ node. start_run s node start) (c.get.ensures ∙ c.in_ok-node.ensures) in
     of_step c.step_three.result c.in_ok-due.due
     (PutNode c.in_ok-node.node ∷ PutRun c.in_ok-run.run' ∷ Counters nodes runs ∷ []) s
     (node_added s c.args.seat c.args.pool.now) c.step_three.ensures.reply c.step_three.ensures.changes

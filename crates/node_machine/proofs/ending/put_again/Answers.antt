@@ -22,4 +22,4 @@ returns c =
     c.reply_listed.ensures.reply c.reply_listed.ensures.changes
     (ap (λ these. apply_changes these (with_moment c.args.now s)) made
     ∙ end_and_again s run c.requires.there.there c.args.now c.args.ending c.in_ok-ended.ended c.in_ok-again.again c.in_ok-counted.counted node start c.next_node.result (c.next_run.result + 1)
-    c.in_ok-ended.ensures c.in_ok-counted.ensures c.in_ok-again.ensures c.next_node.ensures (ap (λ n. n + 1) c.next_run.ensures) c.requires.there.seated)
+    (c.in_ok-ended.ensures ∙ c.in_ok-ended_run.ensures) (c.in_ok-counted.ensures ∙ c.in_ok-counted_node.ensures) (c.in_ok-again.ensures ∙ c.in_ok-start_run.ensures) c.next_node.ensures (ap (λ n. n + 1) c.next_run.ensures) c.requires.there.seated)

@@ -1,4 +1,4 @@
-use Rattle.std.proofs.Common.{[], ◌∷◌, refl}
+use Rattle.std.proofs.Common.{[], ◌∷◌, refl, ◌∙◌}
 use Rattle.bt_rows.specs.declared.tables.Change.TheVariants.{PutNode, PutRun}
 use Rattle.batch_model.specs.Events.{accept}
 use Rattle.batch_model.specs.Starts.{change_node, failed_node}
@@ -15,4 +15,4 @@ returns c =
     moved_plan c.accept_two.result c.args.now (accept 200 (change_node node failed_node (with_end c.args.now c.args.ending run s))) s
     (PutRun c.in_ok-ended.ended ∷ PutNode c.in_ok-failed.failed ∷ []) (λ refusal e. cc)
     c.accept_two.ensures.reply c.accept_two.ensures.changes
-    (end_and_node s run c.requires.there c.args.now c.args.ending c.in_ok-ended.ended c.in_ok-failed.failed node failed_node c.in_ok-ended.ensures c.in_ok-failed.ensures (λ x. refl) c.requires.seated)
+    (end_and_node s run c.requires.there c.args.now c.args.ending c.in_ok-ended.ended c.in_ok-failed.failed node failed_node (c.in_ok-ended.ensures ∙ c.in_ok-ended_run.ensures) (c.in_ok-failed.ensures ∙ c.in_ok-failed_node.ensures) (λ x. refl) c.requires.seated)

@@ -10,8 +10,8 @@ use Rattle.pool_resize.proofs.resize.pool_steady.Goals as goal
 
 pub returns : goal.returns
 returns c =
-    of_step c.step_one.result (PoolResized c.in_ok-copy.field-0 Reached) (PutPool c.in_ok-steady.field-0 ∷ []) c.args.tables.now.state
+    of_step c.step_one.result (PoolResized c.in_ok-copy.field-0 Reached) (PutPool c.in_ok-row.row ∷ []) c.args.tables.now.state
     (pool_steady c.args.tables.now.state c.args.pool.now) c.step_one.ensures.reply c.step_one.ensures.changes
     (ap (λ id. PoolResized id Reached) c.in_ok-copy.ensures)
-    (ap (λ row. apply_change (PutPool row) c.args.tables.now.state) c.in_ok-steady.ensures
+    (ap (λ row. apply_change (PutPool row) c.args.tables.now.state) (c.in_ok-row.ensures ∙ c.in_ok-steady.ensures)
     ∙ pool_changed (ends_resize c.args.tables.now.state) c.args.pool.now (steady c.args.pool.now) c.args.tables.now.state c.requires.keys c.requires.found refl)

@@ -10,8 +10,8 @@ use Rattle.pool_resize.proofs.resize.pool_timed_out.Goals as goal
 
 pub returns : goal.returns
 returns c =
-    of_step c.step_one.result (PoolResized c.in_ok-copy.field-0 TimedOut) (PutPool c.in_ok-timed_out.field-0 ∷ []) c.args.tables.now.state
+    of_step c.step_one.result (PoolResized c.in_ok-copy.field-0 TimedOut) (PutPool c.in_ok-row.row ∷ []) c.args.tables.now.state
     (pool_timed_out c.args.tables.now.state c.args.pool.now) c.step_one.ensures.reply c.step_one.ensures.changes
     (ap (λ id. PoolResized id TimedOut) c.in_ok-copy.ensures)
-    (ap (λ row. apply_change (PutPool row) c.args.tables.now.state) c.in_ok-timed_out.ensures
+    (ap (λ row. apply_change (PutPool row) c.args.tables.now.state) (c.in_ok-row.ensures ∙ c.in_ok-timed_out.ensures)
     ∙ pool_changed (ends_resize c.args.tables.now.state) c.args.pool.now (timed_out c.args.pool.now) c.args.tables.now.state c.requires.keys c.requires.found refl)

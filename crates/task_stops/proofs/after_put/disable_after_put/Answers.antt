@@ -18,5 +18,5 @@ returns c =
     ap (λ changes. apply_changes changes (put_task row s))
     (c.in_ok-push_stop_after_put.ensures
     ∙ ap (λ changes. changes ++ stop_changes (is_in_job job.id) WantRequeue s.moment (put_task row s))
-    (c.in_ok-changes.ensures.items ∙ ap (λ put. PutJob put ∷ []) c.in_ok-disabling.ensures))
+    (c.in_ok-changes.ensures.items ∙ ap (λ put. PutJob put ∷ []) (c.in_ok-disabling.ensures ∙ c.in_ok-job_in.ensures)))
     ∙ disabled_made (put_task row s) (keys_put row s c.requires.keys) job c.requires.there s.moment Requeue

@@ -21,6 +21,6 @@ returns c =
     (c.in_ok-push_halt.ensures
     ∙ ap (λ changes. changes ++ halt_changes job.id c.moment.result s)
     (c.in_ok-push_stop_after_put.ensures
-    ∙ ap (λ changes. changes ++ stops) (c.in_ok-changes.ensures.items ∙ ap (λ put. PutJob put ∷ []) c.in_ok-terminating.ensures))
+    ∙ ap (λ changes. changes ++ stops) (c.in_ok-changes.ensures.items ∙ ap (λ put. PutJob put ∷ []) (c.in_ok-terminating.ensures ∙ c.in_ok-job_for.ensures)))
     ∙ ap (λ now. (PutJob (job_for Terminating c.args.reason job) ∷ stops) ++ halt_changes job.id now s) c.moment.ensures)
     ∙ closed_made (put_task row s) (keys_put row s c.requires.keys) job c.requires.there s.moment c.requires.apart Terminating c.args.reason

@@ -18,5 +18,5 @@ returns c =
     ∙ ap (λ changes. changes ++ halt_changes job.id c.args.now s)
     (c.in_ok-push_stop_of_job.ensures
     ∙ ap (λ changes. changes ++ stop_changes (is_in_job job.id) WantTerminate c.args.now s)
-    (c.in_ok-changes.ensures.items ∙ ap (λ row. PutJob row ∷ []) c.in_ok-row.ensures)))
+    (c.in_ok-changes.ensures.items ∙ ap (λ row. PutJob row ∷ []) (c.in_ok-row.ensures ∙ c.in_ok-job_for.ensures))))
     ∙ closed_made s c.requires.keys job c.requires.there c.args.now c.requires.apart c.args.state c.args.reason

@@ -13,5 +13,5 @@ returns c =
     ap (λ changes. apply_changes changes (with_moment c.args.now s))
     (c.in_ok-push_stop_for.ensures
     ∙ ap (λ changes. changes ++ stop_changes_for c.args.option job.id c.args.now s)
-    (c.in_ok-changes.ensures.items ∙ ap (λ row. PutJob row ∷ []) c.in_ok-row.ensures))
+    (c.in_ok-changes.ensures.items ∙ ap (λ row. PutJob row ∷ []) (c.in_ok-row.ensures ∙ c.in_ok-job_in.ensures)))
     ∙ disabled_made s c.requires.keys job c.requires.there c.args.now c.args.option
