@@ -1,5 +1,6 @@
 pub mod ByText
 pub mod Closing
+pub mod Found
 pub mod IdLengths
 pub mod KeptAfter
 pub mod KeyTexts

@@ -1,10 +1,10 @@
 -- Rows in slots, some of them free. The place of a slot is its number, from 0.
-use Rattle.std.specs.Prelude.{◌≡◌, ℕ, zero, suc, ◌+◌, ◌*◌, ◌≤◌, Bool, false, List, [], ◌∷◌, ◌++◌, length, map, set}
+use Rattle.std.specs.Prelude.{◌≡◌, ℕ, zero, suc, ◌+◌, ◌*◌, ◌≤◌, Bool, false, List, [], ◌∷◌, ◌++◌, length, map, set, slice_index}
 use Rattle.std.specs.Prelude.{nat_lt, Option, Some, None, if◌then◌else◌, vec_len, vec_capacity, Vec}
 use Rattle.std.specs.Option.{option_map}
-use Rattle.std.specs.List.{All, filter_map}
+use Rattle.std.specs.List.{filter_map}
 use Rattle.std.specs.Str.{bytes_eq}
-use Rattle.std.specs.HashMap.{HashMap, get_by, spare}
+use Rattle.hash_index.specs.Hashes.{HashesView, text_hash}
 
 -- what contracts see of a table: its slots, and how many more rows can be pushed without allocating
 pub record TableView (R : Type 0) : Type 0 where
@@ -73,19 +73,13 @@ module _ {R : Type 0} (row_text : R → List ℕ) where
   AreApart (None ∷ slots) = AreApart slots
   AreApart (Some row ∷ slots) = (place_of (has_text (row_text row)) slots ≡ None) × AreApart slots
 
-  -- the map has the place of each text
-  pub record IsKept {Z S : Type 0} (slots : List (Option R)) (places : HashMap (Vec ℕ Z) ℕ S) : Type 0 where
-    pub exact : (text : List ℕ) → get_by (has_bytes text) places ≡ place_of (has_text text) slots
+  -- a row's place has the hash of the text of the row's key; a free place has any hash
+  pub record IsKept (slots : List (Option R)) (hashes : List ℕ) : Type 0 where
+    pub long : length hashes ≡ length slots
+    pub hashed : (at : ℕ) (row : R) → slot_at slots at ≡ Some row → slice_index hashes at ≡ text_hash (row_text row)
     pub apart : AreApart slots
 
--- an empty buffer that takes any text without allocating
-pub record IsSpare {Z : Type 0} (spare : Vec ℕ Z) : Type 0 where
-  pub empty : vec_len spare ≡ 0
-  pub wide : 129 ≤ vec_capacity spare
-
 -- `room` more rows can be pushed without allocating
-pub record HasRoom {R Y Z W S : Type 0} (rows : Vec (Option R) Y) (map : HashMap (Vec ℕ Z) ℕ S) (texts : Vec (Vec ℕ Z) W) (room : ℕ) : Type 0 where
+pub record HasRoom {R Y : Type 0} (rows : Vec (Option R) Y) (index : HashesView) (room : ℕ) : Type 0 where
   pub slots : vec_len rows + room ≤ vec_capacity rows
-  pub places : room ≤ spare map
-  pub spares : room ≤ vec_len texts
-  pub wide : All IsSpare texts.items
+  pub hashes : room ≤ index.room

@@ -5,7 +5,6 @@
 
 mod key_text;
 mod keyed;
-mod places;
 mod rows;
 mod table;
 

@@ -3,19 +3,20 @@ ghost use Rattle.std.specs.Prelude.{◌≡◌, ◌+◌, ◌*◌, ◌<◌, ◌≤
 ghost use Rattle.std.specs.Option.{option_copied};
 ghost use Rattle.std.specs.List.{find};
 ghost use Rattle.kept_table.specs.Lists.{put_row, drop_row, AreAsListed};
-ghost use Rattle.kept_table.specs.Slots.{TableView, AreApart, place_of, has_text, slot_at, rows, is_sparse, closed_up, put_slot, clear_slot, IsKept, HasRoom};
+ghost use Rattle.kept_table.specs.Slots.{TableView, AreApart, place_of, has_text, holds, slot_at, rows, is_sparse, closed_up, put_slot, clear_slot, IsKept, HasRoom};
 
 use crate::key_text::KeyText;
 use crate::keyed::Keyed;
-use crate::places::{add_spares, drop_place, put_place, reserve_places, spare_text};
 use crate::rows::Rows;
 use bt_base::{Duplicate, NoMemory, Shared};
+use hash_index::{HashIndex, Places, text_hash};
 use std::alloc::Global;
-use std::collections::HashMap;
 use std::marker::Model;
 use std::mem;
 
-/// Rows in slots by place, in the order of adding. The slot of a removed row stays free until `reserve` closes up the places.
+/// Rows in slots by place, in the order of adding. The slot of a removed row stays free until `reserve` closes up the places. The
+/// texts of keys are not stored: the index has a hash of 32 bits for each place, and a row is found by comparing the text with those
+/// of the rows that have its hash.
 ///
 /// Contracts see the slots, and beside them the room: how many more rows can be pushed without allocating.
 #[derive(Drop)]
@@ -23,8 +24,8 @@ pub struct Table<R: Keyed> {
     slots: Vec<Option<R>>,
     /// How many slots have a row.
     row_count: usize,
-    places: HashMap<Vec<u8>, usize>,
-    spares: Vec<Vec<u8>>,
+    /// The hashes of the rows' texts by their places. The hash of a removed row stays.
+    index: HashIndex,
     room: usize,
 }
 
@@ -36,7 +37,7 @@ impl<R: Keyed> Model for Table<R> {
 
     ghost view = { λ t. record { slots = t.slots.items; room = t.room } };
 
-    ghost invariant = { λ t. IsKept R.row_text t.slots.items t.places × HasRoom t.slots t.places t.spares t.room × (t.row_count ≡ length (rows t.slots.items)) };
+    ghost invariant = { λ t. IsKept R.row_text t.slots.items t.index.hashes × HasRoom t.slots t.index t.room × (t.row_count ≡ length (rows t.slots.items)) };
 }
 
 impl<R: Keyed> Table<R> {
@@ -47,8 +48,7 @@ impl<R: Keyed> Table<R> {
         Table {
             slots: Vec::new(alloc),
             row_count: 0,
-            places: HashMap::new(alloc),
-            spares: Vec::new(alloc),
+            index: HashIndex::new(alloc),
             room: 0,
         }
     }
@@ -97,7 +97,8 @@ impl<R: Keyed> Table<R> {
     pub fn place_of_text(&self, text: &KeyText) -> Option<usize>
         ensures { result ≡ place_of (has_text R.row_text text.now) self.now.slots }
     {
-        self.places.get(text.as_slice()).copied()
+        let places = self.index.places(text_hash(text.as_slice()));
+        self.place_among(places, text)
     }
 
     /// The place of the row with this key. None if no row has it. It does not allocate.
@@ -142,8 +143,7 @@ impl<R: Keyed> Table<R> {
         ensures room { self.new.room + 1 ≡ self.old.room }
     {
         let key = row.row_text();
-        let text = spare_text(&mut self.spares, key.as_slice());
-        put_place(&mut self.places, text, self.slots.len());
+        self.index.add(text_hash(key.as_slice()));
         self.slots.push_reserved(Some(row));
         self.row_count += 1;
         self.room -= 1;
@@ -162,8 +162,6 @@ impl<R: Keyed> Table<R> {
         requires { place_of (R.has_key key.now) self.old.slots ≡ Some place }
         ensures { self.new ≡ record self.old { slots = set self.old.slots place None } }
     {
-        let text = R::key_text(key);
-        drop_place(&mut self.places, text.as_slice());
         self.slots[place] = None;
         self.row_count -= 1;
     }
@@ -209,14 +207,14 @@ impl<R: Keyed> Table<R> {
         }
     }
 
-    /// Makes room for this many more rows. The places stay. The only error is out of memory.
+    /// Makes room for this many more rows. The places stay. The only error is out of memory, and then there may be no room.
     pub fn add_room(&mut self, additional: usize) -> Result<(), NoMemory>
         ensures slots { self.new.slots ≡ self.old.slots }
         ensures room { OnOk result (additional ≤ self.new.room) }
     {
-        let alloc = *self.slots.allocator();
-        add_spares(alloc, &mut self.spares, additional)?;
-        reserve_places(&mut self.places, additional)?;
+        // Where a reserve fails, the index is not known to have as much room as before.
+        self.room = 0;
+        self.index.reserve(additional)?;
         self.slots.reserve(additional)?;
         self.room = additional;
         Ok(())
@@ -239,6 +237,30 @@ impl<R: Keyed> Table<R> {
         let slots = mem::replace(&mut self.slots, Vec::new(alloc));
         *self = with_rows_of(closed, slots);
         Ok(())
+    }
+}
+
+impl<R: Keyed> Table<R> {
+    /// The first of these places that has a row whose key has this text.
+    fn place_among(&self, places: Places<'_>, text: &KeyText) -> Option<usize>
+        ensures { result ≡ find (λ at. holds (has_text R.row_text text.now) (slot_at self.now.slots at)) places.entry }
+    {
+        for place in places {
+            if self.has_text_at(place, text) {
+                return Some(place);
+            }
+        }
+        None
+    }
+
+    /// Whether this place has a row whose key has this text.
+    fn has_text_at(&self, place: usize, text: &KeyText) -> bool
+        ensures { result ≡ holds (has_text R.row_text text.now) (slot_at self.now.slots place) }
+    {
+        match self.row_at(place) {
+            None => false,
+            Some(row) => row.row_text().as_slice() == text.as_slice(),
+        }
     }
 }
 

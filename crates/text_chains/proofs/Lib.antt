@@ -1,3 +1,3 @@
 pub mod Covered
-pub mod HeadsOf
-pub mod Links
+pub mod PlacesOf
+pub mod Texts

@@ -3,11 +3,11 @@ ghost use Rattle.std.specs.Prelude.{◌≡◌, ◌+◌, ◌<◌, ◌≤◌, ℕ,
 ghost use Rattle.std.specs.List.{Contains};
 ghost use Rattle.text_chains.specs.Chains.{places_of, with_place};
 
-use crate::heads::{MOST_BYTES, add_spares, head, put_head, reserve_heads};
-use crate::places::{Link, Places, places_from};
+use crate::links::{Link, MOST_BYTES};
+use crate::places::{Places, places_from};
 use bt_base::NoMemory;
+use hash_index::{HashIndex, text_hash};
 use std::alloc::Global;
-use std::collections::HashMap;
 use std::marker::Model;
 
 /// Lists of places by text.
@@ -16,21 +16,22 @@ use std::marker::Model;
 /// added without allocating.
 #[derive(Drop)]
 pub struct TextChains {
-    /// The number of the newest link of each text: one plus its index.
-    heads: HashMap<Vec<u8>, usize>,
+    /// The numbers of the links, from 0, by the hashes of their texts.
+    index: HashIndex,
     links: Vec<Link>,
-    spares: Vec<Vec<u8>>,
+    /// The texts of the links, one after the other.
+    texts: Vec<u8>,
     room: usize,
 }
 
 impl Model for TextChains {
-    ghost use Rattle.text_chains.specs.Chains.{ChainsView, chains_of, IsChained, HasRoom};
+    ghost use Rattle.text_chains.specs.Chains.{ChainsView, chains_of, AreHashed, HasRoom};
 
     ghost Value = { ChainsView };
 
-    ghost view = { λ t. record { chains = chains_of t.links.items t.heads.entries; room = t.room } };
+    ghost view = { λ t. record { chains = chains_of t.links.items t.texts.items; room = t.room } };
 
-    ghost invariant = { λ t. IsChained t.links.items t.heads × HasRoom t.links t.heads t.spares t.room };
+    ghost invariant = { λ t. AreHashed t.index.hashes t.links.items t.texts.items × HasRoom t.index.room t.links t.texts t.room };
 }
 
 impl TextChains {
@@ -39,9 +40,9 @@ impl TextChains {
         ensures { (text : List ℕ) → places_of result text ≡ [] }
     {
         TextChains {
-            heads: HashMap::new(alloc),
+            index: HashIndex::new(alloc),
             links: Vec::new(alloc),
-            spares: Vec::new(alloc),
+            texts: Vec::new(alloc),
             room: 0,
         }
     }
@@ -50,7 +51,8 @@ impl TextChains {
     pub fn places(&self, text: &[u8]) -> Places<'_>
         ensures { result ≡ places_of self.now text.now }
     {
-        places_from(self.links.as_slice(), head(&self.heads, text))
+        let numbers = self.index.places(text_hash(text));
+        places_from(numbers, self.links.as_slice(), self.texts.as_slice(), text)
     }
 
     /// Whether the place is one of the text's. It does not allocate.
@@ -67,21 +69,29 @@ impl TextChains {
         ensures places { (other : List ℕ) → places_of self.new other ≡ with_place (places_of self.old) text.now place other }
         ensures room { self.new.room + 1 ≡ self.old.room }
     {
-        let next = head(&self.heads, text);
-        self.links.push_reserved(Link { place, next });
-        put_head(&mut self.heads, &mut self.spares, text, self.links.len());
+        self.index.add(text_hash(text));
+        match self.texts.extend_from_slice(text) {
+            Ok(()) => {}
+            Err(_) => unreachable!(),
+        }
+        let text_end = self.texts.len();
+        self.links.push_reserved(Link { place, text_end });
         self.room -= 1;
     }
 
-    /// Makes room for this many more places. The only error is out of memory.
+    /// Makes room for this many more places. The only error is out of memory, also where there would be 2^32 - 1 places or more.
     pub fn reserve(&mut self, additional: usize) -> Result<(), NoMemory>
         ensures places { (text : List ℕ) → places_of self.new text ≡ places_of self.old text }
         ensures room { OnOk result (additional ≤ self.new.room) }
     {
-        let alloc = *self.links.allocator();
-        add_spares(alloc, &mut self.spares, additional)?;
-        reserve_heads(&mut self.heads, additional)?;
+        // If it fails, some parts may have less room than before.
+        self.room = 0;
+        let Some(bytes) = additional.checked_mul(MOST_BYTES) else {
+            return Err(NoMemory);
+        };
+        self.index.reserve(additional)?;
         self.links.reserve(additional)?;
+        self.texts.reserve(bytes)?;
         self.room = additional;
         Ok(())
     }

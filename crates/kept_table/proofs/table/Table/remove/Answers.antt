@@ -1,4 +1,4 @@
-use Rattle.std.proofs.Common.{◌≡◌, ◌-◌, ℕ, List, length, set, Some, None, ap, ◌∙◌, arith}
+use Rattle.std.proofs.Common.{◌≡◌, ◌-◌, length, set, Some, None, ap, ◌∙◌, arith}
 use Rattle.kept_table.specs.Slots.{TableView, place_of, has_text, rows}
 use Rattle.kept_table.proofs.ByText.{of_key}
 use Rattle.kept_table.proofs.Closing.{count_remove}
@@ -27,13 +27,12 @@ invariant_of-self g c =
     let room = c.self.invariant.1 in
     let test = g.R.Keyed.has_key c.args.key.now in
     let some : place_of test t.slots.items ≡ Some c.args.place = ap (λ (v : TableView g.row.R.Denot). place_of test v.slots) c.self.view_is ∙ c.requires in
-    let bytes = c.as_slice.result.now in
-    let by_text : place_of (has_text key bytes) t.slots.items ≡ Some c.args.place =
-    ap (λ (text : List ℕ). place_of (has_text key text) t.slots.items) (c.as_slice.ensures.bytes ∙ c.key_text-text.ensures)
-    ∙ (of_key g.met.R.Keyed.texts_decide c.args.key.now t.slots.items ∙ some) in
+    let text = g.R.Keyed.key_text c.args.key.now in
+    let by_text : place_of (has_text key text) t.slots.items ≡ Some c.args.place =
+    of_key g.met.R.Keyed.texts_decide c.args.key.now t.slots.items ∙ some in
     let fewer : t.row_count - 1 ≡ length (rows (set t.slots.items c.args.place None)) =
     omega (arith, c.self.invariant.2, count_remove test t.slots.items c.args.place some) in (
-      kept_remove key t.slots.items c.args.place bytes t.places c.drop_place.new.places by_text c.drop_place.ensures.places c.self.invariant.0,
-      record { slots = room.slots; places = omega (arith, room.places, c.drop_place.ensures.room); spares = room.spares; wide = room.wide },
+      kept_remove key t.slots.items c.args.place text t.index.hashes by_text c.self.invariant.0,
+      record { slots = room.slots; hashes = room.hashes },
       fewer,
     )

@@ -22,7 +22,7 @@ invariant_of-self g c =
     let some : place_of test t.slots.items ≡ Some c.args.place = ap (λ (v : TableView g.row.R.Denot). place_of test v.slots) c.self.view_is ∙ c.requires in
     let by_text : place_of (has_text key (key c.args.row)) t.slots.items ≡ Some c.args.place =
     of_row g.met.R.Keyed.texts_decide c.args.row t.slots.items ∙ some in (
-      kept_replace key t.slots.items c.args.place c.args.row t.places by_text c.self.invariant.0,
-      record { slots = room.slots; places = room.places; spares = room.spares; wide = room.wide },
+      kept_replace key t.slots.items c.args.place c.args.row t.index.hashes by_text c.self.invariant.0,
+      record { slots = room.slots; hashes = room.hashes },
       c.self.invariant.2 ∙ sym (count_replace test t.slots.items c.args.place c.args.row some),
     )
