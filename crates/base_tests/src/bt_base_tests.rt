@@ -1,6 +1,6 @@
 //! Tests of what no clause says: that each call which allocates succeeds with ample memory. Each function owns few values,
 //! since each exit by `?` has to let all of them go.
-use bt_base::{CommandLine, Duplicate, Id, List, Num, words};
+use bt_base::{CommandLine, Duplicate, Id, List, Num, SharedList, Text, words};
 use byte_streams::{Failed, MemorySink, MemorySource, ReadFault, SureSink, read_all, write_all};
 use std::test::Fail as TestFail;
 
@@ -15,6 +15,25 @@ fn ids_are_read_and_copied(rt: HostRuntime) -> Result<(), TestFail> {
 fn command_lines_are_read_and_copied(rt: HostRuntime) -> Result<(), TestFail> {
     let line = CommandLine::read(rt.alloc(), "sh -c \"echo hi\"")?.ok_or("no command line")?;
     assert!(rt; line.copy()?.as_str() == "sh -c \"echo hi\"");
+    Ok(())
+}
+
+#[test]
+fn short_and_long_texts_are_copied(rt: HostRuntime) -> Result<(), TestFail> {
+    let texts = [
+        "",
+        "a",
+        "0123456789abcde",
+        "0123456789abcdef",
+        "0123456789abcdefg",
+        "0123456789abcdé",
+        "0123456789abcdeé",
+    ];
+    for text in texts {
+        let made = Text::of_string(String::from_str(rt.alloc(), text)?)?;
+        assert!(rt; made.as_str() == text);
+        assert!(rt; made.copy()?.as_str() == text);
+    }
     Ok(())
 }
 
@@ -37,6 +56,17 @@ fn numbers_are_written(rt: HostRuntime) -> Result<(), TestFail> {
 fn plain_lists_are_copied(rt: HostRuntime) -> Result<(), TestFail> {
     let list = List::of_vec([1, 2].to_vec(rt.alloc())?);
     assert_eq!(rt; list.copied()?.into_vec().as_slice(), [1, 2].as_slice());
+    Ok(())
+}
+
+#[test]
+fn shared_lists_are_copied(rt: HostRuntime) -> Result<(), TestFail> {
+    let list = List::of_vec([1, 2].to_vec(rt.alloc())?);
+    let shared = SharedList::of_list(rt.alloc(), list)?;
+    assert_eq!(rt; shared.copy()?.as_slice(), [1, 2].as_slice());
+    let empty = SharedList::of_list(rt.alloc(), List::<u64>::empty(rt.alloc()))?;
+    assert!(rt; empty.copy()?.as_slice().is_empty());
+    assert!(rt; SharedList::<u64>::empty().as_slice().is_empty());
     Ok(())
 }
 

@@ -12,6 +12,8 @@ mod first_tree_tests;
 #[cfg(test)]
 mod formula_eval_tests;
 #[cfg(test)]
+mod hash_index_tests;
+#[cfg(test)]
 mod kept_table_tests;
 #[cfg(test)]
 mod option_words_tests;

@@ -6,7 +6,7 @@ use crate::job::ReleaseTask;
 use crate::pool::{Dealloc, Fill, StartTask};
 use crate::run::Ending;
 use crate::task::{Given, Multi};
-use bt_base::{CommandLine, Id, List, Num, Shared, Text};
+use bt_base::{CommandLine, Id, List, Num, Shared, SharedList, Text};
 use std::marker::Model;
 
 /// How a pool is to scale automatically.
@@ -128,6 +128,7 @@ pub enum DisableTasks {
 }
 
 /// The body of `add-task` (Azure: BatchTaskCreateContent).
+/// Its small fields stand together, so that it has no gaps.
 #[derive(Drop)]
 pub struct TaskSpec {
     /// The id (Azure: id).
@@ -136,6 +137,10 @@ pub struct TaskSpec {
     pub line: CommandLine,
     /// The slots that it holds of its node, 1 to 8 (Azure: requiredSlots).
     pub slots: u8,
+    /// Exit options for a command line that could not be started (Azure: exitConditions.preProcessingError).
+    pub launch: Option<Given>,
+    /// Exit options for every other ending that is not code 0 (Azure: exitConditions.default).
+    pub other: Option<Given>,
     /// How often it is tried again after a failure: 0 to 1,000,000, or -1 for no limit; None for the job's number (Azure:
     /// constraints.maxTaskRetryCount).
     pub retries: Option<i32>,
@@ -146,18 +151,14 @@ pub struct TaskSpec {
     /// constraints.retentionTime).
     pub retention: Option<u64>,
     /// Exit options for single exit codes (Azure: exitConditions.exitCodes).
-    pub codes: List<(i32, Given)>,
+    pub codes: SharedList<(i32, Given)>,
     /// Exit options for ranges of exit codes, with the first and the last code of each (Azure: exitConditions.exitCodeRanges).
-    pub ranges: List<(i32, i32, Given)>,
-    /// Exit options for a command line that could not be started (Azure: exitConditions.preProcessingError).
-    pub launch: Option<Given>,
-    /// Exit options for every other ending that is not code 0 (Azure: exitConditions.default).
-    pub other: Option<Given>,
+    pub ranges: SharedList<(i32, i32, Given)>,
     /// The ids of tasks of the job that it depends on (Azure: dependsOn.taskIds).
-    pub needs: List<Id>,
+    pub needs: SharedList<Id>,
     /// Ranges of numbers of tasks of the job that it depends on, with the first and the last number of each, at most 64
     /// (Azure: dependsOn.taskIdRanges).
-    pub spans: List<(u32, u32)>,
+    pub spans: SharedList<(u32, u32)>,
     /// How it runs on several nodes; None if it runs on one (Azure: multiInstanceSettings).
     pub multi: Option<Multi>,
 }
@@ -171,11 +172,11 @@ pub enum EventKind {
     /// The pool with this id is deleted (Azure: Delete Pool).
     DeletePool(Id),
     /// The pool with this id is resized (Azure: Resize Pool).
-    Resize(Id, ResizeSpec),
+    Resize(Id, Shared<ResizeSpec>),
     /// The resize of the pool with this id is stopped (Azure: Stop Pool Resize).
     StopResize(Id),
     /// The pool with this id scales automatically from now on (Azure: Enable Pool Auto Scale).
-    EnableAutoscale(Id, ScaleSpec),
+    EnableAutoscale(Id, Shared<ScaleSpec>),
     /// The pool with this id no longer scales automatically (Azure: Disable Pool Auto Scale).
     DisableAutoscale(Id),
     /// A formula is evaluated over the pool with this id, which it does not change (Azure: Evaluate Pool Auto Scale).
@@ -195,7 +196,7 @@ pub enum EventKind {
     /// A task is added to the job with this id (Azure: Create Task).
     AddTask(Id, Shared<TaskSpec>),
     /// Tasks are added to the job with this id, each as `AddTask` would add it (Azure: Create Task Collection).
-    AddTasks(Id, List<TaskSpec>),
+    AddTasks(Id, Shared<List<TaskSpec>>),
     /// Of the job with the first id, the task with the second id is deleted (Azure: Delete Task).
     DeleteTask(Id, Id),
     /// Of the job with the first id, the task with the second id is terminated (Azure: Terminate Task).

@@ -49,12 +49,11 @@ pub enum RunState {
 
 /// A run: one execution of a command line on a node. Its key is its number. All of it is this project's own, but for what
 /// names a property of Azure.
+/// Its small fields stand together, so that it has no gaps.
 #[derive(Drop)]
 pub struct RunRow {
     /// The number, 1 to 10^15, in order of making; it is never used again.
     pub number: u64,
-    /// What it executes.
-    pub kind: RunKind,
     /// The number of its node.
     pub node: u64,
     /// The id of the node's pool (Azure: nodeInfo.poolId).
@@ -67,19 +66,21 @@ pub struct RunRow {
     pub attempt: u64,
     /// The command line that is executed (Azure: commandLine).
     pub line: CommandLine,
-    /// The slots of the node that it holds, 1 to 8; 0 for a start, preparation or release run, and for the main run of a task
-    /// with several instances (Azure: requiredSlots).
-    pub slots: u8,
-    /// How far it has come.
-    pub state: RunState,
-    /// Whether the node was asked to stop the child program.
-    pub asked: bool,
     /// When it was made, in milliseconds since 1970.
     pub made: u64,
     /// When its child program was started, in milliseconds since 1970; None if it was not (Azure: executionInfo.startTime).
     pub taken: Option<u64>,
     /// When it ended or was withdrawn, in milliseconds since 1970; None if it is unended (Azure: executionInfo.endTime).
     pub ended: Option<u64>,
+    /// How far it has come.
+    pub state: RunState,
+    /// What it executes.
+    pub kind: RunKind,
+    /// The slots of the node that it holds, 1 to 8; 0 for a start, preparation or release run, and for the main run of a task
+    /// with several instances (Azure: requiredSlots).
+    pub slots: u8,
+    /// Whether the node was asked to stop the child program.
+    pub asked: bool,
 }
 
 impl Duplicate for RunRow {

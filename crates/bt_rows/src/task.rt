@@ -3,7 +3,7 @@ ghost use Rattle.bt_rows.specs.Keys.{task_has_key, same_task};
 ghost use Rattle.bt_rows.specs.Texts.{task_text, task_key_text, task_by_text, same_task_by_text};
 
 use crate::run::Ending;
-use bt_base::{CommandLine, Duplicate, Id, List, NoMemory};
+use bt_base::{CommandLine, Duplicate, Id, NoMemory, SharedList};
 use kept_table::{KeyText, Keyed};
 
 /// What a task's ending does to its job (Azure: jobAction).
@@ -93,6 +93,7 @@ pub struct Closed {
 }
 
 /// A task of a job. Its key is the job and its id.
+/// Its small fields stand together, so that it has no gaps.
 #[derive(Drop)]
 pub struct TaskRow {
     /// The id of the job, as the job spells it.
@@ -103,9 +104,19 @@ pub struct TaskRow {
     pub line: CommandLine,
     /// The slots that it holds of its node, 1 to 8 (Azure: requiredSlots).
     pub slots: u8,
+    /// How far it has come.
+    pub stage: TaskStage,
+    /// How it is to be ended from outside its command line; None if it is not (this project's own).
+    pub wanted: Option<Want>,
+    /// Exit options for a command line that could not be started (Azure: exitConditions.preProcessingError).
+    pub launch: Option<Given>,
+    /// Exit options for every other ending that is not code 0 (Azure: exitConditions.default).
+    pub other: Option<Given>,
     /// How often it is tried again after a failure: 0 to 1,000,000, or -1 for no limit; None for the job's number (Azure:
     /// constraints.maxTaskRetryCount).
     pub retries: Option<i32>,
+    /// The ending with which a coordination failed in the present attempt; None if none did (this project's own).
+    pub fail: Option<Ending>,
     /// The longest time from the start of an attempt to its end, in milliseconds, 0 to 3,153,600,000,000; None for no limit
     /// (Azure: constraints.maxWallClockTime).
     pub wall: Option<u64>,
@@ -113,31 +124,21 @@ pub struct TaskRow {
     /// constraints.retentionTime).
     pub retention: Option<u64>,
     /// Exit options for single exit codes, of which the first with the code counts (Azure: exitConditions.exitCodes).
-    pub codes: List<(i32, Given)>,
+    pub codes: SharedList<(i32, Given)>,
     /// Exit options for ranges of exit codes, with the first and the last code of each, of which the first that holds the code
     /// counts, after `codes` (Azure: exitConditions.exitCodeRanges).
-    pub ranges: List<(i32, i32, Given)>,
-    /// Exit options for a command line that could not be started (Azure: exitConditions.preProcessingError).
-    pub launch: Option<Given>,
-    /// Exit options for every other ending that is not code 0 (Azure: exitConditions.default).
-    pub other: Option<Given>,
+    pub ranges: SharedList<(i32, i32, Given)>,
     /// The ids of tasks of the job that it depends on, at most 64,000 characters together (Azure: dependsOn.taskIds).
-    pub needs: List<Id>,
+    pub needs: SharedList<Id>,
     /// Ranges of numbers of tasks of the job that it depends on, with the first and the last number of each, at most 64
     /// (Azure: dependsOn.taskIdRanges).
-    pub spans: List<(u32, u32)>,
+    pub spans: SharedList<(u32, u32)>,
     /// How it runs on several nodes; None if it runs on one (Azure: multiInstanceSettings).
     pub multi: Option<Multi>,
-    /// How far it has come.
-    pub stage: TaskStage,
     /// The number of its present attempt, which is how often it was placed.
     pub attempt: u64,
     /// How many of its attempts failed since it was added or reactivated (Azure: executionInfo.retryCount).
     pub failures: u64,
-    /// How it is to be ended from outside its command line; None if it is not (this project's own).
-    pub wanted: Option<Want>,
-    /// The ending with which a coordination failed in the present attempt; None if none did (this project's own).
-    pub fail: Option<Ending>,
     /// When the present attempt's first child program was started, in milliseconds since 1970; None if none was (Azure:
     /// executionInfo.startTime).
     pub started: Option<u64>,
@@ -151,9 +152,9 @@ impl Duplicate for TaskRow {
         let id = self.id.copy()?;
         let line = self.line.copy()?;
         let needs = self.needs.copy()?;
-        let codes = self.codes.copied()?;
-        let ranges = self.ranges.copied()?;
-        let spans = self.spans.copied()?;
+        let codes = self.codes.copy()?;
+        let ranges = self.ranges.copy()?;
+        let spans = self.spans.copy()?;
         let multi = self.multi.clone()?;
         Ok(TaskRow {
             job,

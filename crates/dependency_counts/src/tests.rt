@@ -5,7 +5,7 @@ use crate::condition;
 use crate::counts::Counts;
 use crate::live::CountKey;
 use crate::steps::Steps;
-use bt_base::{CommandLine, Id, List};
+use bt_base::{CommandLine, Id, List, SharedList};
 use bt_rows::limits::DEPENDENCY_RANGE_LIMIT;
 use bt_rows::run::Ending;
 use bt_rows::task::{Given, JobAction, Options, TaskRow, TaskStage};
@@ -24,12 +24,12 @@ fn plain_task(alloc: Global, id: &str) -> Result<TaskRow, Fail> {
         retries: None,
         wall: None,
         retention: None,
-        codes: List::empty(alloc),
-        ranges: List::empty(alloc),
+        codes: SharedList::empty(),
+        ranges: SharedList::empty(),
         launch: None,
         other: None,
-        needs: List::empty(alloc),
-        spans: List::empty(alloc),
+        needs: SharedList::empty(),
+        spans: SharedList::empty(),
         multi: None,
         stage: TaskStage::Active,
         attempt: 0,
@@ -54,8 +54,8 @@ fn stating_task(alloc: Global) -> Result<TaskRow, Fail> {
     let codes = vec![in alloc; (3, disabling), (3, going_on)]?;
     let ranges = vec![in alloc; (1, 5, going_on), (-2, 9, satisfying)]?;
     let mut task = plain_task(alloc, "a")?;
-    task.codes = List::of_vec(codes);
-    task.ranges = List::of_vec(ranges);
+    task.codes = SharedList::of_list(alloc, List::of_vec(codes))?;
+    task.ranges = SharedList::of_list(alloc, List::of_vec(ranges))?;
     task.launch = Some(given(Some(JobAction::Disable), Some(false)));
     Ok(task)
 }
@@ -187,10 +187,11 @@ fn add_dependent(
     alloc: Global,
     id: &str,
     need: &str,
-    spans: List<(u32, u32)>,
+    spans: SharedList<(u32, u32)>,
 ) -> Result<CountKey, Fail> {
     let mut task = plain_task(alloc, id)?;
-    task.needs = List::of_vec(vec![in alloc; Id::read(alloc, need)?]?);
+    let needs = vec![in alloc; Id::read(alloc, need)?]?;
+    task.needs = SharedList::of_list(alloc, List::of_vec(needs))?;
     task.spans = spans;
     add(counts, &task)
 }
@@ -205,7 +206,7 @@ fn count_numbers<L: Ledger>(alloc: Global, blank: Blank) -> Result<(), Fail>
     let mut counts = Counts::new(alloc);
     let four = add_plain(&mut counts, alloc, "4")?;
     let other_four = add_plain(&mut counts, alloc, "04")?;
-    let spans = List::of_vec(vec![in alloc; (4, 6)]?);
+    let spans = SharedList::of_list(alloc, List::of_vec(vec![in alloc; (4, 6)]?))?;
     let x = add_dependent(&mut counts, alloc, "x", "x2", spans)?;
     expect_waiting(&counts, x, 4)?;
     let table = [
@@ -234,7 +235,7 @@ fn find_ready<L: Ledger>(alloc: Global, blank: Blank) -> Result<(), Fail>
 {
     let mut steps = Steps::<L>::open(blank);
     let mut counts = Counts::new(alloc);
-    let b = add_dependent(&mut counts, alloc, "b", "a", List::empty(alloc))?;
+    let b = add_dependent(&mut counts, alloc, "b", "a", SharedList::empty())?;
     let a = add_plain(&mut counts, alloc, "A")?;
     let c = add_plain(&mut counts, alloc, "c")?;
     let table = [(None, Some(a)), (Some(a), Some(c)), (Some(c), None)];

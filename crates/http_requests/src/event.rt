@@ -118,7 +118,8 @@ fn add_tasks(alloc: Global, path: &str, body: &[u8]) -> Result<EventKind, Fail<R
     ensures kept { IfOk result (λ kind. is_event_in_range kind ≡ true) }
 {
     let job = first_id(alloc, path)?;
-    Ok(EventKind::AddTasks(job, read_collection(alloc, body)?))
+    let tasks = read_collection(alloc, body)?;
+    Ok(EventKind::AddTasks(job, Shared::new(alloc, tasks)?))
 }
 
 #[tactic(auto, unfolding(crate::specs::Events::delete_task))]

@@ -65,7 +65,7 @@ pub fn plan_event(alloc: Global, view: &View, event: &Event) -> Result<Plan, Fai
         EventKind::DeleteJob(id) => delete_job(alloc, view.tables, view.now, id),
         EventKind::AddTask(job, spec) => add_task(alloc, view.tables, view.now, job, spec.get()),
         EventKind::AddTasks(job, specs) => {
-            add_tasks(alloc, view.tables, view.now, job, specs.as_slice())
+            add_tasks(alloc, view.tables, view.now, job, specs.get().as_slice())
         }
         EventKind::DeleteTask(job, task) => delete_task(alloc, view.tables, view.now, job, task),
         EventKind::TerminateTask(job, task) => {

@@ -19,4 +19,4 @@ pub use array::ArrayBuilder;
 pub use fault::RowFault;
 pub use field::{Field, not_a_row};
 pub use named::UnitEnum;
-pub use places::{field_at, list_at, option_at, require_length};
+pub use places::{field_at, list_at, option_at, require_length, shared_list_at};

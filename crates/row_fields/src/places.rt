@@ -6,7 +6,7 @@ ghost use Rattle.row_fields.specs.Fields.{require_length, field_at, option_at, o
 
 use crate::fault::RowFault;
 use crate::field::{Field, not_a_row};
-use bt_base::{Fail, List};
+use bt_base::{Fail, List, SharedList};
 use serde_json::Value;
 use std::alloc::Global;
 
@@ -92,4 +92,16 @@ pub fn list_at<T: Field>(
         Some(value) => list_of(alloc, value),
         None => Err(not_a_row()),
     }
+}
+
+/// The list that `list_at` finds, in a list that is shared. It fails as that does.
+pub fn shared_list_at<T: Field>(
+    alloc: Global,
+    place: usize,
+    value: &Value,
+) -> Result<SharedList<T>, Fail<RowFault>>
+    ensures { Gives result (list_at T.in_data place (view value.now)) }
+{
+    let list = list_at(alloc, place, value)?;
+    Ok(SharedList::of_list(alloc, list)?)
 }

@@ -17,10 +17,10 @@ ghost use Rattle.row_texts.specs.Tasks.{
 };
 
 use crate::table_row::TableRow;
-use bt_base::{Fail, Id, List, NoMemory};
+use bt_base::{Fail, Id, NoMemory, SharedList};
 use bt_rows::run::Ending;
 use bt_rows::task::{Closed, Given, Multi, TaskRow, TaskStage, Want};
-use row_fields::{ArrayBuilder, RowFault, field_at, list_at, option_at, require_length};
+use row_fields::{ArrayBuilder, RowFault, field_at, option_at, require_length, shared_list_at};
 use serde_json::Value;
 use std::alloc::Global;
 
@@ -30,12 +30,12 @@ struct TaskSettings {
     retries: Option<i32>,
     wall: Option<u64>,
     retention: Option<u64>,
-    codes: List<(i32, Given)>,
-    ranges: List<(i32, i32, Given)>,
+    codes: SharedList<(i32, Given)>,
+    ranges: SharedList<(i32, i32, Given)>,
     launch: Option<Given>,
     other: Option<Given>,
-    needs: List<Id>,
-    spans: List<(u32, u32)>,
+    needs: SharedList<Id>,
+    spans: SharedList<(u32, u32)>,
     multi: Option<Multi>,
 }
 
@@ -94,12 +94,12 @@ fn task_settings_in(alloc: Global, value: &Value) -> Result<TaskSettings, Fail<R
     let retries = option_at(alloc, 4, value)?;
     let wall = option_at(alloc, 5, value)?;
     let retention = option_at(alloc, 6, value)?;
-    let codes = list_at(alloc, 7, value)?;
-    let ranges = list_at(alloc, 8, value)?;
+    let codes = shared_list_at(alloc, 7, value)?;
+    let ranges = shared_list_at(alloc, 8, value)?;
     let launch = option_at(alloc, 9, value)?;
     let other = option_at(alloc, 10, value)?;
-    let needs = list_at(alloc, 11, value)?;
-    let spans = list_at(alloc, 12, value)?;
+    let needs = shared_list_at(alloc, 11, value)?;
+    let spans = shared_list_at(alloc, 12, value)?;
     let multi = option_at(alloc, 13, value)?;
     Ok(TaskSettings {
         retries,

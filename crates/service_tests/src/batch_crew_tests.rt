@@ -6,7 +6,7 @@ ghost use Rattle.counted_lock.specs.Passes.{IsPassOf};
 use batch_crew::{LaneEnd, run_lane, run_timer};
 use batch_desk::{Answer, Desk, Entry, Journal};
 use batch_keeper::{Keeper, SureKeeper};
-use bt_base::{CommandLine, Id, List, Moment, Shared, Word};
+use bt_base::{CommandLine, Id, Moment, Shared, SharedList, Word};
 use bt_clock::ListClock;
 use bt_rows::event::{Event, EventKind, JobSpec, PoolSpec, TaskSpec};
 use bt_rows::pool::Fill;
@@ -72,12 +72,12 @@ fn task_event(alloc: Global, job: Id, id: Id, line: CommandLine) -> Result<Event
         retries: Some(0),
         wall: Some(60_000),
         retention: None,
-        codes: List::empty(alloc),
-        ranges: List::empty(alloc),
+        codes: SharedList::empty(),
+        ranges: SharedList::empty(),
         launch: None,
         other: None,
-        needs: List::empty(alloc),
-        spans: List::empty(alloc),
+        needs: SharedList::empty(),
+        spans: SharedList::empty(),
         multi: None,
     };
     Ok(Event::new(EventKind::AddTask(job, Shared::new(alloc, spec)?)))

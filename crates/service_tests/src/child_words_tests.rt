@@ -1,6 +1,6 @@
 //! Tests of what no clause says: that each call which allocates succeeds while memory is ample. The expected words follow by hand from
 //! the rule for each name.
-use bt_base::{CommandLine, Id, List, NoMemory, Text, Word, words};
+use bt_base::{CommandLine, Id, NoMemory, SharedList, Text, Word, words};
 use bt_rows::node::{NodeRow, NodeStage};
 use bt_rows::reply::QueuedRun;
 use bt_rows::run::{RunKind, RunRow, RunState};
@@ -132,12 +132,12 @@ fn task(alloc: Global, ids: (Id, Id), line: CommandLine, first: CommandLine) -> 
         retries: None,
         wall: None,
         retention: None,
-        codes: List::empty(alloc),
-        ranges: List::empty(alloc),
+        codes: SharedList::empty(),
+        ranges: SharedList::empty(),
         launch: None,
         other: None,
-        needs: List::empty(alloc),
-        spans: List::empty(alloc),
+        needs: SharedList::empty(),
+        spans: SharedList::empty(),
         multi: Some(Multi {
             count: 2,
             line: first,

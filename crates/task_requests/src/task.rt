@@ -182,9 +182,9 @@ pub fn new_task(job: &Id, spec: &TaskSpec) -> Result<TaskRow, NoMemory>
     let id = spec.id.copy()?;
     let line = spec.line.copy()?;
     let needs = spec.needs.copy()?;
-    let codes = spec.codes.copied()?;
-    let ranges = spec.ranges.copied()?;
-    let spans = spec.spans.copied()?;
+    let codes = spec.codes.copy()?;
+    let ranges = spec.ranges.copy()?;
+    let spans = spec.spans.copy()?;
     let multi = spec.multi.clone()?;
     Ok(TaskRow {
         job,

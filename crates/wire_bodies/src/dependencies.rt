@@ -7,8 +7,8 @@ ghost use Rattle.bt_rows.specs.declared.limits.TheConstants.{DEPENDENCY_RANGE_LI
 ghost use Rattle.bt_rows.specs.Ranges.{is_span_in_range};
 ghost use Rattle.wire_bodies.specs.Dependencies as depends;
 
-use crate::list_item::{ListItem, read_items};
-use bt_base::{Fail, Id, List};
+use crate::list_item::{ListItem, read_shared_items};
+use bt_base::{Fail, Id, SharedList};
 use bt_rows::limits::DEPENDENCY_RANGE_LIMIT;
 use bt_rows::member::Member;
 use bt_rows::refusal::Refusal;
@@ -20,9 +20,9 @@ use wire_members::{id_item, invalid_property, list_member, object_item, required
 #[derive(Drop)]
 pub struct Dependencies {
     /// The ids of tasks.
-    pub needs: List<Id>,
+    pub needs: SharedList<Id>,
     /// Ranges of numbers of tasks, with the first and the last number of each.
-    pub spans: List<(u32, u32)>,
+    pub spans: SharedList<(u32, u32)>,
 }
 
 impl ListItem for Id {
@@ -81,8 +81,8 @@ pub fn dependencies_in(alloc: Global, part: Option<&Value>) -> Result<Dependenci
     ensures spans { IfOk result (λ all. list_all is_span_in_range all.spans ≡ true) }
 {
     let values = list_member(part, Member::TaskIds)?;
-    let needs = read_items(alloc, Member::TaskIds, values)?;
+    let needs = read_shared_items(alloc, Member::TaskIds, values)?;
     let values = few_spans(list_member(part, Member::TaskIdRanges)?)?;
-    let spans = read_items(alloc, Member::TaskIdRanges, values)?;
+    let spans = read_shared_items(alloc, Member::TaskIdRanges, values)?;
     Ok(Dependencies { needs, spans })
 }

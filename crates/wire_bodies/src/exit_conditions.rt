@@ -4,8 +4,8 @@ ghost use Rattle.serde_json.specs.View.{view};
 ghost use Rattle.bt_base.specs.Fails.{Gives};
 ghost use Rattle.wire_bodies.specs.ExitConditions as exits;
 
-use crate::list_item::{ListItem, read_items};
-use bt_base::{Fail, List};
+use crate::list_item::{ListItem, read_shared_items};
+use bt_base::{Fail, SharedList};
 use bt_rows::member::Member;
 use bt_rows::refusal::Refusal;
 use bt_rows::task::{Given, JobAction};
@@ -20,9 +20,9 @@ use wire_members::{
 #[derive(Drop)]
 pub struct Conditions {
     /// Options for single codes.
-    pub codes: List<(i32, Given)>,
+    pub codes: SharedList<(i32, Given)>,
     /// Options for ranges of codes, with the first and the last code of each.
-    pub ranges: List<(i32, i32, Given)>,
+    pub ranges: SharedList<(i32, i32, Given)>,
     /// Options for a command line that could not be started.
     pub launch: Option<Given>,
     /// Options for every other ending that is not code 0.
@@ -122,9 +122,9 @@ pub fn conditions_in(alloc: Global, part: Option<&Value>) -> Result<Conditions, 
     ensures { Gives result (exits.conditions_in (option_map (λ v. view v.now) part.entry)) }
 {
     let values = list_member(part, Member::ExitCodes)?;
-    let codes = read_items(alloc, Member::ExitCodes, values)?;
+    let codes = read_shared_items(alloc, Member::ExitCodes, values)?;
     let values = list_member(part, Member::ExitCodeRanges)?;
-    let ranges = read_items(alloc, Member::ExitCodeRanges, values)?;
+    let ranges = read_shared_items(alloc, Member::ExitCodeRanges, values)?;
     let launch = options_of(object_member(part, Member::PreProcessingError)?)?;
     let other = options_of(object_member(part, Member::Default)?)?;
     Ok(Conditions {

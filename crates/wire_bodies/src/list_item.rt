@@ -8,7 +8,7 @@ ghost use Rattle.bt_rows.specs.declared.member.Member.{Member};
 ghost use Rattle.bt_rows.specs.declared.refusal.Refusal.{Refusal};
 ghost use Rattle.wire_bodies.specs.Items.{items_in};
 
-use bt_base::{Fail, List};
+use bt_base::{Fail, List, SharedList};
 use bt_rows::member::Member;
 use bt_rows::refusal::Refusal;
 use serde_json::Value;
@@ -44,4 +44,18 @@ pub fn read_items<T: ListItem>(
         items.push(T::read(alloc, list, value)?)?;
     }
     Ok(List::of_vec(items))
+}
+
+/// The items that `read_items` reads, in a list that is shared. It fails as that does.
+pub fn read_shared_items<T: ListItem>(
+    alloc: Global,
+    list: Member,
+    values: &[Value],
+) -> Result<SharedList<T>, Fail<Refusal>>
+    ensures value { Gives result (items_in (T.item_in list) (items_view values.now)) }
+    ensures count { IfOk result (λ items. length items ≡ length values.now) }
+    ensures kept { IfOk result (λ items. list_all T.is_in_range items ≡ true) }
+{
+    let items = read_items(alloc, list, values)?;
+    Ok(SharedList::of_list(alloc, items)?)
 }

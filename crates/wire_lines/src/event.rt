@@ -145,7 +145,8 @@ pub fn add_tasks(alloc: Global, text: &[u8]) -> Result<EventKind, Fail<Refusal>>
     ensures kept { IfOk result (λ kind. is_event_in_range kind ≡ true) }
 {
     let (job, tasks) = job_and_body(alloc, text)?;
-    Ok(EventKind::AddTasks(job, read_collection(alloc, tasks)?))
+    let tasks = read_collection(alloc, tasks)?;
+    Ok(EventKind::AddTasks(job, Shared::new(alloc, tasks)?))
 }
 
 /// The event of `delete-task` with these arguments.

@@ -7,7 +7,7 @@ ghost use Rattle.bt_rows.specs.declared.run.Ending.TheVariants.{Code};
 ghost use Rattle.batch_cli.specs.Drill.{drill_id, drill_line, pool_spec, job_spec, task_spec, needs_of, spans_of, exit_code_of};
 
 use crate::drill::limits::{DRILL_ID, DRILL_NODES, DRILL_SLOTS};
-use bt_base::{CommandLine, Fail, Id, List, NoMemory, Shared};
+use bt_base::{CommandLine, Fail, Id, List, NoMemory, Shared, SharedList};
 use bt_rows::event::{Event, EventKind, JobSpec, PoolSpec, TaskSpec};
 use bt_rows::limits::{DEFAULT_RESIZE_TIMEOUT, DEFAULT_RETENTION};
 use bt_rows::pool::Fill;
@@ -96,26 +96,30 @@ pub fn add_job(alloc: Global) -> Result<Event, NoMemory>
 }
 
 /// The ids that the task with this number and this second draw depends on.
-fn needs_of(alloc: Global, number: u32, draw: u32) -> Result<List<Id>, NoMemory>
+fn needs_of(alloc: Global, number: u32, draw: u32) -> Result<SharedList<Id>, NoMemory>
     ensures { IfOk result (λ needs. needs ≡ needs_of number draw) }
 {
     if number > 1 && draw % 4 == 0 {
         let id = task_id(alloc, 1 + draw % (number - 1))?;
-        Ok(List::of_vec(vec![in alloc; id]?))
+        let ids = vec![in alloc; id]?;
+        let needs = SharedList::of_list(alloc, List::of_vec(ids))?;
+        Ok(needs)
     } else {
-        Ok(List::empty(alloc))
+        Ok(SharedList::empty())
     }
 }
 
 /// The range of numbers that the task with this number and this second draw depends on.
-fn spans_of(alloc: Global, number: u32, draw: u32) -> Result<List<(u32, u32)>, NoMemory>
+fn spans_of(alloc: Global, number: u32, draw: u32) -> Result<SharedList<(u32, u32)>, NoMemory>
     ensures { IfOk result (λ spans. spans ≡ spans_of number draw) }
 {
     if number > 1 && draw % 4 == 1 {
         let first = number.saturating_sub(3).max(1);
-        Ok(List::of_vec(vec![in alloc; (first, number - 1)]?))
+        let ranges = vec![in alloc; (first, number - 1)]?;
+        let spans = SharedList::of_list(alloc, List::of_vec(ranges))?;
+        Ok(spans)
     } else {
-        Ok(List::empty(alloc))
+        Ok(SharedList::empty())
     }
 }
 
@@ -134,8 +138,8 @@ fn task_spec(alloc: Global, number: u32, first: u32, second: u32) -> Result<Task
         retries: None,
         wall: None,
         retention: Some(DEFAULT_RETENTION),
-        codes: List::empty(alloc),
-        ranges: List::empty(alloc),
+        codes: SharedList::empty(),
+        ranges: SharedList::empty(),
         launch: None,
         other: None,
         needs,
