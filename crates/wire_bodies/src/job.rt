@@ -1,8 +1,8 @@
 //! The body of `add-job`.
-ghost use Rattle.std.specs.Prelude.{◌≡◌, true, IfOk};
+ghost use Rattle.std.specs.Prelude.{◌≡◌, true, pos, negsuc, unwrap_or, IfOk};
 ghost use Rattle.serde_json.specs.View.{view};
 ghost use Rattle.bt_base.specs.Fails.{Gives};
-ghost use Rattle.bt_rows.specs.Ranges.{is_job_spec_in_range, are_limits_in_range, is_retry_limit, is_duration, passes_if_some};
+ghost use Rattle.bt_rows.specs.Ranges.{is_job_spec_in_range, are_limits_in_range, is_parallel, is_priority, is_retry_limit, is_duration, passes_if_some};
 ghost use Rattle.wire_bodies.specs.Jobs.{limits_or_none, job_in, job_of};
 
 use crate::job_member::{limits_if, on_all_if, on_fail_if, parallel_if, priority_if};
@@ -28,6 +28,24 @@ fn limits_or_none(limits: Option<Limits>) -> Limits
     })
 }
 
+/// The priority; 0 if there is none.
+fn priority_or_zero(priority: Option<i32>) -> i32
+    requires { passes_if_some is_priority priority ≡ true }
+    ensures value { result ≡ unwrap_or priority (pos 0) }
+    ensures kept { is_priority result ≡ true }
+{
+    priority.unwrap_or(0)
+}
+
+/// The greatest number of placed tasks; no limit if there is none.
+fn parallel_or_none(parallel: Option<i32>) -> i32
+    requires { passes_if_some is_parallel parallel ≡ true }
+    ensures value { result ≡ unwrap_or parallel (negsuc 0) }
+    ensures kept { is_parallel result ≡ true }
+{
+    parallel.unwrap_or(-1)
+}
+
 /// The job that the members of the body are, and its id.
 #[tactic(auto, unfolding(crate::specs::Jobs::job_in))]
 fn job(alloc: Global, body: &Value) -> Result<(Id, JobSpec), Fail<Refusal>>
@@ -50,8 +68,8 @@ fn job(alloc: Global, body: &Value) -> Result<(Id, JobSpec), Fail<Refusal>>
         id,
         JobSpec {
             pool,
-            priority: priority.unwrap_or(0),
-            parallel: parallel.unwrap_or(-1),
+            priority: priority_or_zero(priority),
+            parallel: parallel_or_none(parallel),
             retries: limits.retries,
             wall: limits.wall,
             deps,
