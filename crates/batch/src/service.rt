@@ -318,14 +318,13 @@ where
     requires { All (λ w. IsHostReady w.kind) workers.items }
 {
     let mut workers = workers;
-    let Served { status, keeper, .. } = serve_words(
-        rt,
-        rt.alloc(),
-        words,
-        sink,
+    let Served {
+        status,
         keeper,
-        workers.as_mut_slice(),
-    );
+        journal,
+    } = serve_words(rt, rt.alloc(), words, sink, keeper, workers.as_mut_slice());
+    drop(journal);
+    drop(workers);
     (status, keeper)
 }
 
@@ -341,7 +340,8 @@ where
 {
     let workers = prepare(rt, options)?;
     let keeper = SureKeeper::new(Tables::empty(rt.alloc()));
-    let (status, _keeper) = serve_over(rt, words, sink, keeper, workers);
+    let (status, keeper) = serve_over(rt, words, sink, keeper, workers);
+    drop(keeper);
     Ok(status)
 }
 

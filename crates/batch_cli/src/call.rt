@@ -119,7 +119,9 @@ pub fn show_look<K: Keeper + Drop>(
 {
     let mut out = String::new(alloc);
     let reply = desk.read(alloc, read)?;
-    push_reply(alloc, &mut out, n, &reply)?;
+    let pushed = push_reply(alloc, &mut out, n, &reply);
+    drop(reply);
+    pushed?;
     Ok(out)
 }
 

@@ -29,11 +29,15 @@ pub fn export<W: Sink, K: Keeper + Drop>(alloc: Global, sink: &mut W, mut keeper
     let status = match keeper.load(alloc) {
         Err(KeepError::Memory) => Status::Memory,
         Err(KeepError::Failed) => Status::KeeperFault,
-        Ok(tables) => match finish(alloc, &tables, sink) {
-            Err(Stopped::Memory) => Status::Memory,
-            Err(Stopped::SinkFault) => Status::SinkFault,
-            Ok(()) => Status::Done,
-        },
+        Ok(tables) => {
+            let finished = finish(alloc, &tables, sink);
+            drop(tables);
+            match finished {
+                Err(Stopped::Memory) => Status::Memory,
+                Err(Stopped::SinkFault) => Status::SinkFault,
+                Ok(()) => Status::Done,
+            }
+        }
     };
     (status, keeper)
 }

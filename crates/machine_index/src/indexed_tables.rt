@@ -2,7 +2,8 @@
 ghost use Rattle.std.specs.Prelude.{◌≡◌, ◌+◌, ◌<◌, ◌≤◌, List, Option, Some, length, IfOk, IfSome, OnOk};
 ghost use Rattle.std.specs.List.{find};
 ghost use Rattle.std.specs.Option.{option_copied};
-ghost use Rattle.kept_table.specs.Slots.{slot_at, clear_at};
+ghost use Rattle.kept_table.specs.Slots.{slot_at, clear_at, place_of};
+ghost use Rattle.bt_rows.specs.Keys.{task_has_ids};
 ghost use Rattle.bt_rows.specs.Changes.{apply_change, apply_changes, tasks_placed, runs_placed};
 ghost use Rattle.batch_model.specs.Readiness.{is_number_satisfied};
 ghost use Rattle.batch_model.specs.Settling.{is_over};
@@ -25,6 +26,7 @@ use bt_rows::task::{TaskKey, TaskRow};
 use run_index::{AskedRuns, HeldSlots, QueuedRuns, RunsOfAttempts, place_of_run};
 use std::alloc::Global;
 use std::marker::Model;
+use std::mem;
 use task_index::{ActiveTasks, NumberedTasks, PlacedTasks, TimedTasks};
 
 /// Tables, and beside them what the due rules look for. Each change of the tables is followed.
@@ -100,22 +102,60 @@ fn clear_timed(timed: &mut TimedTasks, place: Option<usize>)
     }
 }
 
+/// The place of the task with the row's key. None if there is none.
+fn place_of_row(tables: &Tables, row: &TaskRow) -> Option<usize>
+    ensures { result ≡ place_of (task_has_ids row.now.job row.now.id) tables.now.task_slots }
+{
+    tables.task_place(&row.job, &row.id)
+}
+
+/// Whether more than half of the places are free, of tasks or of runs, whichever has more places.
+fn is_sparse(tables: &Tables) -> bool {
+    if tables.run_place_count() < tables.task_place_count() {
+        tables.has_sparse_tasks()
+    } else {
+        tables.has_sparse_runs()
+    }
+}
+
+/// What is kept beside these tables. The only error is out of memory.
+fn parts_of(alloc: Global, tables: &Tables) -> Result<(RunParts, TaskParts), NoMemory>
+    ensures { IfOk result (λ parts. IsIndexed tables.now.task_slots tables.now.run_slots parts.0.runs parts.1.active parts.1.over parts.0.held parts.1.timed parts.0.queued parts.0.asked parts.1.numbered) }
+{
+    tables.places_known();
+    let runs = RunParts::of_tables(alloc, tables)?;
+    let tasks = TaskParts::of_tables(alloc, tables, &runs.runs)?;
+    Ok((runs, tasks))
+}
+
 impl IndexedTables {
     /// These tables with what is kept of them, and without room.
     fn of_parts(tables: Tables, runs: RunParts, tasks: TaskParts) -> IndexedTables
         requires { IsIndexed tables.task_slots tables.run_slots runs.runs tasks.active tasks.over runs.held tasks.timed runs.queued runs.asked tasks.numbered }
         ensures { result.state ≡ tables.state }
     {
+        let RunParts {
+            runs,
+            held,
+            queued,
+            asked,
+        } = runs;
+        let TaskParts {
+            active,
+            over,
+            timed,
+            numbered,
+        } = tasks;
         IndexedTables {
             tables,
-            runs: runs.runs,
-            active: tasks.active,
-            over: tasks.over,
-            held: runs.held,
-            timed: tasks.timed,
-            queued: runs.queued,
-            asked: runs.asked,
-            numbered: tasks.numbered,
+            runs,
+            active,
+            over,
+            held,
+            timed,
+            queued,
+            asked,
+            numbered,
             room: 0,
         }
     }
@@ -124,10 +164,13 @@ impl IndexedTables {
     pub fn of_tables(alloc: Global, tables: Tables) -> Result<IndexedTables, NoMemory>
         ensures { IfOk result (λ indexed. indexed.state ≡ tables.state) }
     {
-        tables.places_known();
-        let runs = RunParts::of_tables(alloc, &tables)?;
-        let tasks = TaskParts::of_tables(alloc, &tables, &runs.runs)?;
-        Ok(IndexedTables::of_parts(tables, runs, tasks))
+        match parts_of(alloc, &tables) {
+            Ok((runs, tasks)) => Ok(IndexedTables::of_parts(tables, runs, tasks)),
+            Err(error) => {
+                drop(tables);
+                Err(error)
+            }
+        }
     }
 
     /// The tables.
@@ -137,13 +180,12 @@ impl IndexedTables {
         &self.tables
     }
 
-    /// Whether more than half of the places are free, of tasks or of runs, whichever has more places.
-    fn is_sparse(&self) -> bool {
-        if self.tables.run_place_count() < self.tables.task_place_count() {
-            self.tables.has_sparse_tasks()
-        } else {
-            self.tables.has_sparse_runs()
-        }
+    /// A copy without free places and without room. It fails only when out of memory.
+    fn closed_up(&self, alloc: Global) -> Result<IndexedTables, NoMemory>
+        ensures { IfOk result (λ copy. copy.state ≡ self.now.state) }
+    {
+        let copy = self.tables.copy()?;
+        IndexedTables::of_tables(alloc, copy)
     }
 
     /// Closes up the free places of tasks and of runs, if there are many, and then leaves no room. It copies the tables: of tasks and
@@ -152,9 +194,9 @@ impl IndexedTables {
     pub fn close_up(&mut self, alloc: Global) -> Result<(), NoMemory>
         ensures { self.new.state ≡ self.old.state }
     {
-        if self.is_sparse() {
-            let copy = self.tables.copy()?;
-            *self = IndexedTables::of_tables(alloc, copy)?;
+        if is_sparse(&self.tables) {
+            let copy = self.closed_up(alloc)?;
+            drop(mem::replace(self, copy));
         }
         Ok(())
     }
@@ -187,7 +229,7 @@ impl IndexedTables {
         ensures room { self.new.room + 1 ≡ self.old.room }
     {
         let row = task.get();
-        let before = self.tables.task_place(&row.job, &row.id);
+        let before = place_of_row(&self.tables, row);
         let place = before.unwrap_or(self.tables.task_place_count());
         self.tables.places_known();
         self.tables.keys_known();

@@ -13,7 +13,8 @@ use std::test::Fail;
 
 /// A keeper of empty tables, of which the calls of these numbers fail.
 fn keeper(alloc: Global, fails: &[u64]) -> Result<MemoryKeeper, AllocError> {
-    Ok(MemoryKeeper::new(Tables::empty(alloc), Vec::from_slice(alloc, fails)?))
+    let fails = Vec::from_slice(alloc, fails)?;
+    Ok(MemoryKeeper::new(Tables::empty(alloc), fails))
 }
 
 fn words_of(alloc: Global, words: &[&str]) -> Result<Vec<Word>, AllocError> {
@@ -46,18 +47,62 @@ pub fn sure<'a>(words: &'a [&'a str], input: &'a [u8]) -> Run<'a> {
     }
 }
 
-/// The status, the output and the keeper that comes back, of a run over this keeper.
-pub fn run_over(
+/// The words of a run, and its streams.
+#[derive(Drop)]
+pub struct Streams {
+    words: Vec<Word>,
+    source: MemorySource,
+    sink: MemorySink,
+}
+
+/// Those of this run, before it.
+pub fn streams_of(alloc: Global, run: Run) -> Result<Streams, AllocError> {
+    let words = words_of(alloc, run.words)?;
+    let bytes = Vec::from_slice(alloc, run.input)?;
+    let source_fails = Vec::from_slice(alloc, run.source_fails)?;
+    let sink_fails = Vec::from_slice(alloc, run.sink_fails)?;
+    Ok(Streams {
+        words,
+        source: MemorySource::new(bytes, source_fails),
+        sink: MemorySink::new(alloc, sink_fails),
+    })
+}
+
+/// The status, the output and the keeper that comes back, of a run over these streams and this keeper. A keeper, which has tables, is let
+/// go of by a call, not at an exit: the proof is a hundred times shorter.
+pub fn run_with<K: Keeper + Drop>(
+    alloc: Global,
+    streams: Streams,
+    keeper: K,
+) -> Result<(Status, Vec<u8>, K), AllocError> {
+    let Streams {
+        words,
+        mut source,
+        mut sink,
+    } = streams;
+    let (status, keeper) = run_words(alloc, words.as_slice(), &mut source, &mut sink, keeper);
+    match sink.into_bytes() {
+        Some(output) => Ok((status, output, keeper)),
+        None => {
+            drop(keeper);
+            Err(AllocError)
+        }
+    }
+}
+
+/// The same of a run over this keeper.
+fn run_over(
     alloc: Global,
     run: Run,
     keeper: MemoryKeeper,
 ) -> Result<(Status, Vec<u8>, MemoryKeeper), AllocError> {
-    let words = words_of(alloc, run.words)?;
-    let bytes = Vec::from_slice(alloc, run.input)?;
-    let mut source = MemorySource::new(bytes, Vec::from_slice(alloc, run.source_fails)?);
-    let mut sink = MemorySink::new(alloc, Vec::from_slice(alloc, run.sink_fails)?);
-    let (status, keeper) = run_words(alloc, words.as_slice(), &mut source, &mut sink, keeper);
-    Ok((status, sink.into_bytes().ok_or(AllocError)?, keeper))
+    match streams_of(alloc, run) {
+        Ok(streams) => run_with(alloc, streams, keeper),
+        Err(error) => {
+            drop(keeper);
+            Err(error)
+        }
+    }
 }
 
 /// The same, over a keeper of empty tables.
@@ -67,12 +112,13 @@ pub fn run_anew(alloc: Global, run: Run) -> Result<(Status, Vec<u8>, MemoryKeepe
 
 /// Whether a run over a keeper of empty tables has this status and output.
 pub fn gives(alloc: Global, run: Run, status: Status, output: &str) -> Result<bool, AllocError> {
-    let (ended, written, _keeper) = run_anew(alloc, run)?;
+    let (ended, written, keeper) = run_anew(alloc, run)?;
+    drop(keeper);
     Ok(ended == status && written.as_slice() == output.as_bytes())
 }
 
 /// The tables that the keeper keeps. A load that is to fail is made once more.
-fn kept(alloc: Global, keeper: &mut MemoryKeeper) -> Option<Tables>
+fn kept<K: Keeper>(alloc: Global, keeper: &mut K) -> Option<Tables>
     ensures { IfSome result (λ tables. IsWellFormed tables.state) }
 {
     match keeper.load(alloc) {
@@ -82,16 +128,10 @@ fn kept(alloc: Global, keeper: &mut MemoryKeeper) -> Option<Tables>
 }
 
 /// A keeper of the same tables, of which the calls of these numbers fail.
-fn with_faults(
-    alloc: Global,
-    mut keeper: MemoryKeeper,
-    fails: &[u64],
-) -> Result<MemoryKeeper, AllocError> {
-    let fails = Vec::from_slice(alloc, fails)?;
-    match kept(alloc, &mut keeper) {
-        Some(tables) => Ok(MemoryKeeper::new(tables, fails)),
-        None => Err(AllocError),
-    }
+fn with_faults(alloc: Global, mut keeper: MemoryKeeper, fails: Vec<u64>) -> Option<MemoryKeeper> {
+    let tables = kept(alloc, &mut keeper);
+    drop(keeper);
+    Some(MemoryKeeper::new(tables?, fails))
 }
 
 /// What a run gave: its status, its output, and the text of the tables that its keeper keeps after it.
@@ -110,9 +150,13 @@ impl Outcome {
 }
 
 /// The text of the tables that the keeper keeps.
-fn kept_text(alloc: Global, mut keeper: MemoryKeeper) -> Option<Text> {
-    let tables = kept(alloc, &mut keeper)?;
-    write_tables(alloc, &tables).ok()
+pub fn kept_text<K: Keeper + Drop>(alloc: Global, mut keeper: K) -> Option<Text> {
+    let tables = kept(alloc, &mut keeper);
+    drop(keeper);
+    let tables = tables?;
+    let text = write_tables(alloc, &tables).ok();
+    drop(tables);
+    text
 }
 
 /// What a run over a keeper of empty tables gave.
@@ -128,8 +172,9 @@ pub fn outcome_anew(alloc: Global, run: Run) -> Result<Outcome, AllocError> {
 
 /// What a run gave over the tables that this script left.
 pub fn outcome_after(alloc: Global, script: &str, run: Run) -> Result<Outcome, AllocError> {
+    let fails = Vec::from_slice(alloc, run.keeper_fails)?;
     let (_status, _output, left) = run_anew(alloc, sure(&["replay"], script.as_bytes()))?;
-    let keeper = with_faults(alloc, left, run.keeper_fails)?;
+    let keeper = with_faults(alloc, left, fails).ok_or(AllocError)?;
     let (status, output, keeper) = run_over(alloc, run, keeper)?;
     let kept = kept_text(alloc, keeper).ok_or(AllocError)?;
     Ok(Outcome {

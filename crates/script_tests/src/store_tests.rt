@@ -1,11 +1,7 @@
 //! Scripts over a store of which each call fails in turn: the status, what is shown, and the tables that the store then contains.
 //! Expected texts are written by hand.
-use crate::run_tests::{ENDED, TAKEN};
-use batch_cli::{Status, run_words};
-use batch_keeper::Keeper;
-use batch_wire::write_tables;
-use bt_base::{Text, Word};
-use byte_streams::{MemorySink, MemorySource};
+use crate::run_tests::{ENDED, TAKEN, kept_text, run_with, streams_of, sure};
+use batch_cli::Status;
 use keeper_store::{MemoryStore, Store, Stored};
 use std::alloc::{AllocError, Global};
 use std::test::Fail;
@@ -121,45 +117,47 @@ const LATER_SHOWN: [Shown; 9] = [
     (PLACED_LINES, "2 409 RunWithdrawn\n", LATER_TABLES),
 ];
 
-/// The status and output of a script over a store of this content, of which this call fails, and the store that comes back.
+/// A store of this content, of which this call fails.
+fn store_of(alloc: Global, stored: Stored, call: u64) -> Result<MemoryStore, AllocError> {
+    match vec![in alloc; call] {
+        Ok(fails) => Ok(MemoryStore::new(stored, fails)),
+        Err(_) => {
+            drop(stored);
+            Err(AllocError)
+        }
+    }
+}
+
+/// The status and output of a script over this store, and the store that comes back.
 fn run_over(
     alloc: Global,
     script: &str,
-    stored: Stored,
-    call: u64,
+    store: MemoryStore,
 ) -> Result<(Status, Vec<u8>, MemoryStore), AllocError> {
-    let words = vec![in alloc; Word::new(Vec::from_slice(alloc, b"replay")?)]?;
-    let bytes = Vec::from_slice(alloc, script.as_bytes())?;
-    let mut source = MemorySource::new(bytes, Vec::new(alloc));
-    let mut sink = MemorySink::new(alloc, Vec::new(alloc));
-    let keeper = StoreKeeper::new(MemoryStore::new(stored, vec![in alloc; call]?));
-    let (status, keeper) = run_words(alloc, words.as_slice(), &mut source, &mut sink, keeper);
-    Ok((
-        status,
-        sink.into_bytes().ok_or(AllocError)?,
-        keeper.into_store(),
-    ))
+    match streams_of(alloc, sure(&["replay"], script.as_bytes())) {
+        Ok(streams) => {
+            let (status, output, keeper) = run_with(alloc, streams, StoreKeeper::new(store))?;
+            Ok((status, output, keeper.into_store()))
+        }
+        Err(error) => {
+            drop(store);
+            Err(error)
+        }
+    }
 }
 
 /// What a store contains after this script, of which no call fails.
 fn content_after(alloc: Global, script: &str) -> Result<Stored, AllocError> {
-    let (_status, _output, mut store) = run_over(alloc, script, Stored::empty(alloc), 0)?;
-    store.read(alloc).map_err(|_| AllocError)
-}
-
-/// The text of the tables that the store contains. A load that is to fail is made once more.
-fn tables_in(alloc: Global, store: MemoryStore) -> Option<Text> {
-    let mut keeper = StoreKeeper::new(store);
-    let tables = match keeper.load(alloc) {
-        Ok(tables) => tables,
-        Err(_) => keeper.load(alloc).ok()?,
-    };
-    write_tables(alloc, &tables).ok()
+    let store = store_of(alloc, Stored::empty(alloc), 0)?;
+    let (_status, _output, mut store) = run_over(alloc, script, store)?;
+    let content = store.read(alloc);
+    drop(store);
+    content.map_err(|_| AllocError)
 }
 
 /// Whether the store contains the tables of this text.
 fn has_tables(alloc: Global, store: MemoryStore, text: &str) -> bool {
-    match tables_in(alloc, store) {
+    match kept_text(alloc, StoreKeeper::new(store)) {
         Some(found) => found.as_str() == text,
         None => false,
     }
@@ -174,19 +172,18 @@ fn output_of(alloc: Global, (first, rest, tables): Shown) -> Result<String, Allo
     }
 }
 
-/// Whether the script has this status and output over a store of which this call fails, and leaves it these tables.
+/// Whether the script has this status and output over this store, and leaves it these tables.
 fn gives(
     alloc: Global,
     script: &str,
-    stored: Stored,
-    call: u64,
+    store: MemoryStore,
     status: Status,
-    shown: Shown,
+    wanted: &str,
+    tables: &str,
 ) -> Result<bool, AllocError> {
-    let wanted = output_of(alloc, shown)?;
-    let (ended, output, store) = run_over(alloc, script, stored, call)?;
+    let (ended, output, store) = run_over(alloc, script, store)?;
     let is_shown = output.as_slice() == wanted.as_bytes();
-    let has_tables = has_tables(alloc, store, shown.2);
+    let has_tables = has_tables(alloc, store, tables);
     Ok((ended == status) & is_shown & has_tables)
 }
 
@@ -204,8 +201,9 @@ fn first_other(
         } else {
             Status::KeeperFault
         };
-        let stored = content_after(alloc, earlier)?;
-        if !gives(alloc, script, stored, call as u64, status, *each)? {
+        let wanted = output_of(alloc, *each)?;
+        let store = store_of(alloc, content_after(alloc, earlier)?, call as u64)?;
+        if !gives(alloc, script, store, status, wanted.as_str(), each.2)? {
             return Ok(Some(call));
         }
     }

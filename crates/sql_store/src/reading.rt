@@ -133,6 +133,17 @@ fn read_metas<S: Alter>(
     Ok(metas)
 }
 
+/// Adds all that the file contains.
+fn read_into<S: Alter>(
+    connection: &mut Connection<S>,
+    statements: &Statements,
+    stored: &mut Stored,
+) -> Result<(), KeepError> {
+    read_rows(connection, &statements.rows, stored)?;
+    stored.metas = read_metas(connection, &statements.metas)?;
+    Ok(())
+}
+
 /// Reads all that the file contains.
 pub fn read_all<S: Alter>(
     alloc: Global,
@@ -140,7 +151,11 @@ pub fn read_all<S: Alter>(
     statements: &Statements,
 ) -> Result<Stored, KeepError> {
     let mut stored = Stored::empty(alloc);
-    read_rows(connection, &statements.rows, &mut stored)?;
-    stored.metas = read_metas(connection, &statements.metas)?;
-    Ok(stored)
+    match read_into(connection, statements, &mut stored) {
+        Ok(()) => Ok(stored),
+        Err(error) => {
+            drop(stored);
+            Err(error)
+        }
+    }
 }

@@ -8,7 +8,7 @@ use crate::statements::{Statements, make_tables, prepare_all};
 use crate::writing::write_all;
 use batch_keeper::KeepError;
 use keeper_store::{Edit, Store, Stored};
-use sqlite::{Connection, File, FileStore};
+use sqlite::{Alter, Connection, File, FileStore};
 use std::alloc::Global;
 use std::marker::Model;
 
@@ -36,6 +36,19 @@ fn connect(rt: &HostRuntime, path: &str) -> Result<Connection<FileStore<File>>, 
     }
 }
 
+/// Makes the tables, if they are not there, prepares the statements, and finds the next place.
+fn prepare<S: Alter>(connection: &mut Connection<S>) -> Result<(Statements, u64), KeepError> {
+    make_tables(connection)?;
+    let statements = prepare_all(connection)?;
+    match read_place(connection, &statements.metas) {
+        Ok(place) => Ok((statements, place)),
+        Err(error) => {
+            drop(statements);
+            Err(error)
+        }
+    }
+}
+
 impl SqlStore {
     /// Opens the file, or makes it with its tables. `Failed` comes if the file cannot be read or written, another process has it
     /// open, or it has other tables of these names. What the tables contain is not tested here but by `read`.
@@ -43,15 +56,18 @@ impl SqlStore {
         ensures { IfOk result (λ store. store ≡ 0) }
     {
         let mut connection = connect(rt, path)?;
-        make_tables(&mut connection)?;
-        let statements = prepare_all(&mut connection)?;
-        let place = read_place(&mut connection, &statements.metas)?;
-        Ok(SqlStore {
-            connection,
-            statements,
-            place,
-            faults: 0,
-        })
+        match prepare(&mut connection) {
+            Ok((statements, place)) => Ok(SqlStore {
+                connection,
+                statements,
+                place,
+                faults: 0,
+            }),
+            Err(error) => {
+                drop(connection);
+                Err(error.into())
+            }
+        }
     }
 
     /// Copies the log into the file and closes both. The file alone then has all that was written; the log stays beside it, with no

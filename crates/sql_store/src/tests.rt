@@ -6,7 +6,7 @@ use batch_keeper::KeepError;
 use bt_base::{NoMemory, Text};
 use keeper_store::{Edit, Entry, MetaName, Store, Stored};
 use row_texts::RowKind;
-use sqlite::Connection;
+use sqlite::{Alter, Connection};
 use std::alloc::Global;
 use std::fs::remove_file;
 use std::process::Abort;
@@ -31,8 +31,7 @@ fn remove(rt: &HostRuntime, path: &str, log: &str) {
 }
 
 /// Three jobs, of which the first is put again and the second dropped, a pool, and two numbers.
-fn first_edits(alloc: Global) -> Result<Vec<Edit>, NoMemory> {
-    let mut edits = Vec::new(alloc);
+fn push_first(alloc: Global, edits: &mut Vec<Edit>) -> Result<(), NoMemory> {
     edits.push(put(alloc, RowKind::Job, "night", "one")?)?;
     edits.push(put(alloc, RowKind::Job, "day", "two")?)?;
     edits.push(put(alloc, RowKind::Pool, "pool", "[\"it's\"]")?)?;
@@ -41,23 +40,37 @@ fn first_edits(alloc: Global) -> Result<Vec<Edit>, NoMemory> {
     edits.push(Edit::Drop(RowKind::Job, text(alloc, "day")?))?;
     edits.push(Edit::Meta(MetaName::NextRun, 7))?;
     edits.push(Edit::Meta(MetaName::Moment, 1_700_000_000_000))?;
-    Ok(edits)
+    Ok(())
 }
 
 /// A job whose key was dropped, a number that was set, and one that was not.
-fn second_edits(alloc: Global) -> Result<Vec<Edit>, NoMemory> {
-    let mut edits = Vec::new(alloc);
+fn push_second(alloc: Global, edits: &mut Vec<Edit>) -> Result<(), NoMemory> {
     edits.push(put(alloc, RowKind::Job, "day", "five")?)?;
     edits.push(Edit::Meta(MetaName::NextRun, 8))?;
     edits.push(Edit::Meta(MetaName::NextNode, 3))?;
-    Ok(edits)
+    Ok(())
 }
 
-fn write(store: &mut SqlStore, alloc: Global, edits: &[Edit]) -> Result<(), &'static str> {
-    store.write(alloc, edits).map_err(|_| "written")
+/// Writes the first edits, or the second ones.
+fn write(store: &mut SqlStore, alloc: Global, is_first: bool) -> Result<(), &'static str> {
+    let mut edits = Vec::new(alloc);
+    let pushed = if is_first {
+        push_first(alloc, &mut edits)
+    } else {
+        push_second(alloc, &mut edits)
+    };
+    let written = store.write(alloc, edits.as_slice());
+    drop(edits);
+    if pushed.is_ok() & written.is_ok() {
+        Ok(())
+    } else {
+        Err("written")
+    }
 }
 
-fn read(store: &mut SqlStore, alloc: Global) -> Result<Stored, &'static str> {
+/// What the store contains once the second edits are written.
+fn write_and_read(store: &mut SqlStore, alloc: Global) -> Result<Stored, &'static str> {
+    write(store, alloc, false)?;
     store.read(alloc).map_err(|_| "read")
 }
 
@@ -69,10 +82,9 @@ fn assert_entry(rt: &impl Abort, entry: &Entry, key: &str, row: &str) {
 fn write_first(rt: &HostRuntime, path: &str) -> Result<(), Fail> {
     let alloc = rt.alloc();
     let mut store = SqlStore::open(rt, path).map_err(|_| "made")?;
-    let edits = first_edits(alloc)?;
-    write(&mut store, alloc, edits.as_slice())?;
+    let written = write(&mut store, alloc, true);
     store.close().map_err(|_| "closed")?;
-    Ok(())
+    Ok(written?)
 }
 
 #[test]
@@ -83,11 +95,11 @@ fn a_file_keeps_its_content(rt: HostRuntime) -> Result<(), Fail> {
     // the file alone has all that was written
     let _ = remove_file(&rt, "kept.db-wal");
     let mut store = SqlStore::open(&rt, "kept.db").map_err(|_| "opened")?;
-    let edits = second_edits(alloc)?;
-    write(&mut store, alloc, edits.as_slice())?;
-    let stored = read(&mut store, alloc)?;
-    store.close().map_err(|_| "closed")?;
+    let read = write_and_read(&mut store, alloc);
+    let is_closed = store.close().is_ok();
     remove(&rt, "kept.db", "kept.db-wal");
+    let stored = read?;
+    assert!(rt; is_closed);
     let jobs = stored.jobs.as_slice();
     assert_eq!(rt; jobs.len(), 3);
     assert_entry(&rt, &jobs[0], "night", "four");
@@ -97,24 +109,44 @@ fn a_file_keeps_its_content(rt: HostRuntime) -> Result<(), Fail> {
     assert_eq!(rt; pools.len(), 1);
     assert_entry(&rt, &pools[0], "pool", "[\"it's\"]");
     assert_eq!(rt; stored.tasks.as_slice().len(), 0);
-    assert_eq!(rt; stored.metas.next_node, Some(3));
-    assert_eq!(rt; stored.metas.next_run, Some(8));
-    assert_eq!(rt; stored.metas.moment, Some(1_700_000_000_000));
-    assert_eq!(rt; stored.metas.version, None);
+    let metas = stored.metas;
+    drop(stored);
+    assert_eq!(rt; metas.next_node, Some(3));
+    assert_eq!(rt; metas.next_run, Some(8));
+    assert_eq!(rt; metas.moment, Some(1_700_000_000_000));
+    assert_eq!(rt; metas.version, None);
     Ok(())
 }
 
-/// Whether tables in memory can be read after this statement.
+/// Whether new tables can be read after this statement.
+fn read_after<S: Alter>(
+    alloc: Global,
+    connection: &mut Connection<S>,
+    sql: &str,
+) -> Result<bool, &'static str> {
+    make_tables(connection).map_err(|_| "made")?;
+    let statements = prepare_all(connection).map_err(|_| "prepared")?;
+    let executed = connection.execute_batch(sql);
+    let read = read_all(alloc, connection, &statements);
+    drop(statements);
+    let is_read = match read {
+        Ok(stored) => {
+            drop(stored);
+            true
+        }
+        Err(KeepError::Failed) => false,
+        Err(KeepError::Memory) => return Err("out of memory"),
+    };
+    executed.map_err(|_| "executed")?;
+    Ok(is_read)
+}
+
+/// The same of tables in memory.
 fn is_read_after(alloc: Global, sql: &str) -> Result<bool, Fail> {
     let mut connection = Connection::open_in_memory(alloc)?;
-    make_tables(&mut connection).map_err(|_| "made")?;
-    let statements = prepare_all(&mut connection).map_err(|_| "prepared")?;
-    connection.execute_batch(sql).map_err(|_| "executed")?;
-    match read_all(alloc, &mut connection, &statements) {
-        Ok(_) => Ok(true),
-        Err(KeepError::Failed) => Ok(false),
-        Err(KeepError::Memory) => Err("out of memory")?,
-    }
+    let is_read = read_after(alloc, &mut connection, sql);
+    drop(connection);
+    Ok(is_read?)
 }
 
 #[test]

@@ -1,9 +1,9 @@
 //! The tables that a store contains.
 ghost use Rattle.std.specs.Prelude.{◌≡◌, ◌+◌, ◌&&◌, true, false, length, nat_eq, IfOk, OnOk};
-ghost use Rattle.bt_rows.specs.State.{empty_state};
+ghost use Rattle.bt_rows.specs.State.{State, empty_state};
 ghost use Rattle.store_keeper.specs.Reading.{has_known_version};
 ghost use Rattle.store_keeper.specs.Filling.{filled, numbered, are_rows, has_all};
-ghost use Rattle.store_keeper.specs.Found.{IsFound};
+ghost use Rattle.store_keeper.specs.Found.{IsContentOf, IsFound};
 
 use crate::reading::put_all;
 use bt_base::{List, NoMemory};
@@ -80,16 +80,28 @@ fn has_all(tables: &Tables, stored: &Stored) -> bool
     ((pools & nodes) & (jobs & tasks)) & ((runs & preps) & (samples & scales))
 }
 
-/// The tables with all rows and numbers of the store; whether each entry is a row, with a key of its own.
-fn fill(alloc: Global, stored: &Stored) -> Result<(Tables, bool), NoMemory>
-    ensures state { IfOk result (λ found. found.0.state ≡ numbered stored.now.metas (filled stored.now empty_state)) }
-    ensures rows { IfOk result (λ found. found.1 ≡ (are_rows stored.now && has_all found.0.state stored.now)) }
+/// Puts all rows and numbers of the store into tables without rows; whether each entry is a row, with a key of its own.
+fn fill(alloc: Global, stored: &Stored, tables: &mut Tables) -> Result<bool, NoMemory>
+    requires { tables.old.state ≡ empty_state }
+    ensures state { OnOk result (tables.new.state ≡ numbered stored.now.metas (filled stored.now empty_state)) }
+    ensures rows { IfOk result (λ found. found ≡ (are_rows stored.now && has_all tables.new.state stored.now)) }
 {
-    let mut tables = Tables::empty(alloc);
-    let are_rows = put_all(alloc, stored, &mut tables)?;
-    set_numbers(alloc, stored.metas, &mut tables)?;
-    let has_all = has_all(&tables, stored);
-    Ok((tables, are_rows & has_all))
+    let are_rows = put_all(alloc, stored, tables)?;
+    set_numbers(alloc, stored.metas, tables)?;
+    let has_all = has_all(tables, stored);
+    Ok(are_rows & has_all)
+}
+
+/// The same; whether the tables are then what the store contains, and well formed. If not, no well-formed tables are.
+fn fill_well_formed(alloc: Global, stored: &Stored, tables: &mut Tables) -> Result<bool, NoMemory>
+    requires version { has_known_version stored.now.metas ≡ true }
+    requires empty { tables.old.state ≡ empty_state }
+    ensures yes { IfOk result (λ found. found ≡ true → IsContentOf stored.now tables.new.state) }
+    ensures no { IfOk result (λ found. found ≡ false → (other : State) → IsContentOf stored.now other → ⊥) }
+{
+    let is_whole = fill(alloc, stored, tables)?;
+    let formed = well_formed(alloc, tables)?;
+    Ok(is_whole & formed)
 }
 
 /// The tables that the store contains, whose rows are of a known form. None exactly if its content is not that of well-formed tables.
@@ -97,10 +109,18 @@ fn tables_of(alloc: Global, stored: &Stored) -> Result<Option<Tables>, NoMemory>
     requires { has_known_version stored.now.metas ≡ true }
     ensures { IfOk result (λ found. IsFound stored.now found) }
 {
-    let found = fill(alloc, stored)?;
-    let formed = well_formed(alloc, &found.0)?;
-    let passes = found.1 & formed;
-    if passes { Ok(Some(found.0)) } else { Ok(None) }
+    let mut tables = Tables::empty(alloc);
+    match fill_well_formed(alloc, stored, &mut tables) {
+        Ok(true) => Ok(Some(tables)),
+        Ok(false) => {
+            drop(tables);
+            Ok(None)
+        }
+        Err(error) => {
+            drop(tables);
+            Err(error)
+        }
+    }
 }
 
 /// The tables that the store contains. None exactly if its content is not that of well-formed tables.

@@ -19,42 +19,64 @@ fn put(alloc: Global, key: &str, row: &str) -> Result<Edit, NoMemory> {
 }
 
 /// Edits that add the jobs a and b, change a, drop a pool that is not there, and set a number.
-fn edits(alloc: Global) -> Result<Vec<Edit>, NoMemory> {
-    let mut edits = Vec::new(alloc);
+fn push_edits(alloc: Global, edits: &mut Vec<Edit>) -> Result<(), NoMemory> {
     edits.push(put(alloc, "a", "one")?)?;
     edits.push(put(alloc, "b", "two")?)?;
     edits.push(put(alloc, "a", "three")?)?;
     edits.push(Edit::Drop(RowKind::Pool, text(alloc, "b")?))?;
     edits.push(Edit::Meta(MetaName::NextRun, 7))?;
-    Ok(edits)
+    Ok(())
+}
+
+/// Writes them.
+fn write_edits(alloc: Global, store: &mut impl Store) -> Result<(), KeepError> {
+    let mut edits = Vec::new(alloc);
+    let pushed = push_edits(alloc, &mut edits);
+    let written = store.write(alloc, edits.as_slice());
+    drop(edits);
+    pushed?;
+    written
+}
+
+/// How many jobs the store has.
+fn job_count(alloc: Global, store: &mut MemoryStore) -> Result<usize, KeepError> {
+    let stored = store.read(alloc)?;
+    let count = stored.jobs.as_slice().len();
+    drop(stored);
+    Ok(count)
 }
 
 #[test]
 fn a_put_keeps_its_place(rt: HostRuntime) -> Result<(), Fail> {
     let alloc = rt.alloc();
     let mut store = SureStore::new(Stored::empty(alloc));
-    let edits = edits(alloc)?;
-    store.write(alloc, edits.as_slice()).map_err(|_| "written")?;
-    let stored = store.read(alloc).map_err(|_| "read")?;
+    let written = write_edits(alloc, &mut store);
+    let stored = store.read(alloc);
+    drop(store);
+    assert!(rt; written.is_ok());
+    let stored = stored.map_err(|_| "read")?;
     let jobs = stored.jobs.as_slice();
     assert_eq!(rt; jobs.len(), 2);
     assert_eq!(rt; jobs[0].text.as_str(), "three");
     assert_eq!(rt; jobs[1].key.as_str(), "b");
-    assert_eq!(rt; stored.metas.next_run, Some(7));
-    assert_eq!(rt; stored.metas.version, None);
+    let metas = stored.metas;
+    drop(stored);
+    assert_eq!(rt; metas.next_run, Some(7));
+    assert_eq!(rt; metas.version, None);
     Ok(())
 }
 
 #[test]
 fn the_listed_calls_fail(rt: HostRuntime) -> Result<(), Fail> {
     let alloc = rt.alloc();
-    let mut store = MemoryStore::new(Stored::empty(alloc), vec![in alloc; 1, 3]?);
-    let edits = edits(alloc)?;
-    let first = store.write(alloc, edits.as_slice());
+    let fails = vec![in alloc; 1, 3]?;
+    let mut store = MemoryStore::new(Stored::empty(alloc), fails);
+    let first = write_edits(alloc, &mut store);
+    let second = job_count(alloc, &mut store);
+    let third = job_count(alloc, &mut store);
+    drop(store);
     assert!(rt; matches!(first, Err(KeepError::Failed)));
-    let second = store.read(alloc).map_err(|_| "read")?;
-    assert_eq!(rt; second.jobs.as_slice().len(), 0);
-    let third = store.read(alloc);
+    assert!(rt; matches!(second, Ok(0)));
     assert!(rt; matches!(third, Err(KeepError::Failed)));
     Ok(())
 }

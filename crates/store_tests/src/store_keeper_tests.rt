@@ -3,7 +3,7 @@ use batch_keeper::{KeepError, Keeper};
 use bt_base::{Fail as Failure, Id, IdFault, NoMemory, Text};
 use bt_rows::tables::Change;
 use bt_rows::task::TaskKey;
-use keeper_store::{Edit, MemoryStore, Store, Stored};
+use keeper_store::{Edit, Entries, MemoryStore, Store, Stored};
 use row_fields::RowFault;
 use row_texts::{Row, RowKind, row_of};
 use std::alloc::Global;
@@ -132,13 +132,9 @@ fn loaded(alloc: Global, keeper: &mut StoreKeeper<HiddenStore>) -> Result<Seen, 
     let has_pool = tables.pools().next().is_some();
     let has_task = tables.tasks().next().is_some();
     let has_run = tables.runs().next().is_some();
-    Ok((
-        has_pool,
-        has_task,
-        has_run,
-        tables.next_run(),
-        tables.moment(),
-    ))
+    let (next_run, moment) = (tables.next_run(), tables.moment());
+    drop(tables);
+    Ok((has_pool, has_task, has_run, next_run, moment))
 }
 
 /// Saves, and once more after a load if that fails; what is then seen of the tables before the save.
@@ -162,31 +158,64 @@ fn save_again(
 /// Whether the tables are seen as expected if the call of this number fails: a load, three saves and a load.
 fn leaves_tables(
     alloc: Global,
-    mut keeper: StoreKeeper<HiddenStore>,
+    keeper: &mut StoreKeeper<HiddenStore>,
     number: u64,
     saves: [&[Change]; 3],
 ) -> Result<bool, KeepError> {
     let expected = expected();
-    let first = loaded(alloc, &mut keeper);
+    let first = loaded(alloc, keeper);
     let mut is_expected = matches!(first, Err(KeepError::Failed)) == (number == 1);
     for i in 0..3usize {
-        let seen = save_again(alloc, &mut keeper, saves[i], expected[i])?;
+        let seen = save_again(alloc, keeper, saves[i], expected[i])?;
         is_expected = is_expected & (seen == expected[i]);
     }
-    let last = loaded(alloc, &mut keeper);
+    let last = loaded(alloc, keeper);
     is_expected = is_expected & (matches!(last, Err(KeepError::Failed)) == (number == 5));
-    let seen = loaded(alloc, &mut keeper)?;
+    let seen = loaded(alloc, keeper)?;
     Ok(is_expected & (seen == expected[3]))
+}
+
+/// The first call whose fault leaves other tables than are expected.
+fn first_other(alloc: Global, saves: [&[Change]; 3]) -> Result<Option<u64>, Fail> {
+    for number in 1..6u64 {
+        let mut keeper = keeper(alloc, vec![in alloc; number]?);
+        let leaves = leaves_tables(alloc, &mut keeper, number, saves);
+        drop(keeper);
+        if !leaves.map_err(|_| "kept")? {
+            return Ok(Some(number));
+        }
+    }
+    Ok(None)
+}
+
+/// What a store contains after these changes were saved in it.
+fn stored_after(alloc: Global, changes: &[Change]) -> Result<Stored, KeepError> {
+    let mut keeper = keeper(alloc, Vec::new(alloc));
+    let saved = keeper.save(alloc, changes);
+    let mut store = keeper.into_store();
+    let stored = match saved {
+        Ok(()) => store.read(alloc),
+        Err(error) => Err(error),
+    };
+    drop(store);
+    stored
+}
+
+/// Whether the first of these entries has this text and this key.
+fn has_first(entries: &Entries, text: &str, key: &str) -> bool {
+    match entries.as_slice().first() {
+        Some(entry) => entry.text.as_str() == text && entry.key.as_str() == key,
+        None => false,
+    }
 }
 
 #[test]
 fn rows_are_stored_under_their_keys(rt: HostRuntime) -> Result<(), Fail> {
     let alloc = rt.alloc();
     let changes = puts(alloc, &[1, 2, 3, 4, 5, 6, 7, 8], (2, 2, 9))?;
-    let mut keeper = keeper(alloc, Vec::new(alloc));
-    keeper.save(alloc, changes.as_slice()).map_err(|_| "saved")?;
-    let mut store = keeper.into_store();
-    let stored = store.read(alloc).map_err(|_| "read")?;
+    let stored = stored_after(alloc, changes.as_slice());
+    drop(changes);
+    let stored = stored.map_err(|_| "stored")?;
     let entries = [
         &stored.pools,
         &stored.nodes,
@@ -199,14 +228,14 @@ fn rows_are_stored_under_their_keys(rt: HostRuntime) -> Result<(), Fail> {
     ];
     let rows = rows();
     for i in 0..8usize {
-        let entry = entries[i].as_slice().first().ok_or("an entry")?;
-        assert_eq!(rt; entry.text.as_str(), rows[i].1);
-        assert_eq!(rt; entry.key.as_str(), rows[i].2);
+        assert!(rt; has_first(entries[i], rows[i].1, rows[i].2), "{i}");
     }
-    assert_eq!(rt; stored.metas.next_node, Some(2));
-    assert_eq!(rt; stored.metas.next_run, Some(2));
-    assert_eq!(rt; stored.metas.moment, Some(9));
-    assert_eq!(rt; stored.metas.version, None);
+    let metas = stored.metas;
+    drop(stored);
+    assert_eq!(rt; metas.next_node, Some(2));
+    assert_eq!(rt; metas.next_run, Some(2));
+    assert_eq!(rt; metas.moment, Some(9));
+    assert_eq!(rt; metas.version, None);
     Ok(())
 }
 
@@ -217,12 +246,27 @@ fn a_failed_call_leaves_the_tables(rt: HostRuntime) -> Result<(), Fail> {
     let second = puts(alloc, &[3, 4, 5], (2, 2, 9))?;
     let third = drops(alloc)?;
     let saves = [first.as_slice(), second.as_slice(), third.as_slice()];
-    for number in 1..6u64 {
-        let keeper = keeper(alloc, vec![in alloc; number]?);
-        let leaves = leaves_tables(alloc, keeper, number, saves).map_err(|_| "kept")?;
-        assert!(rt; leaves, "{number}");
-    }
+    let other = first_other(alloc, saves);
+    drop(first);
+    drop(second);
+    drop(third);
+    assert_eq!(rt; other?, None);
     Ok(())
+}
+
+/// Drops the task from the store.
+fn drop_task(alloc: Global, store: &mut HiddenStore) -> Result<(), KeepError> {
+    let text = String::from_str(alloc, "j/t").map_err(|_| KeepError::Memory)?;
+    let key = Text::of_string(text)?;
+    let mut edits = Vec::new(alloc);
+    let is_pushed = edits.push(Edit::Drop(RowKind::Task, key)).is_ok();
+    let written = store.write(alloc, edits.as_slice());
+    drop(edits);
+    if is_pushed {
+        written
+    } else {
+        Err(KeepError::Memory)
+    }
 }
 
 #[test]
@@ -230,13 +274,16 @@ fn a_run_without_its_task_is_not_loaded(rt: HostRuntime) -> Result<(), Fail> {
     let alloc = rt.alloc();
     let changes = puts(alloc, &[1, 2, 3, 4, 5], (2, 2, 9))?;
     let mut first = keeper(alloc, Vec::new(alloc));
-    first.save(alloc, changes.as_slice()).map_err(|_| "saved")?;
+    let saved = first.save(alloc, changes.as_slice());
+    drop(changes);
     let mut store = first.into_store();
-    let key = Text::of_string(String::from_str(alloc, "j/t")?)?;
-    let edits = vec![in alloc; Edit::Drop(RowKind::Task, key)]?;
-    store.write(alloc, edits.as_slice()).map_err(|_| "written")?;
+    let written = drop_task(alloc, &mut store);
     let mut second = StoreKeeper::new(store);
-    assert!(rt; matches!(second.load(alloc), Err(KeepError::Failed)));
-    assert!(rt; matches!(second.save(alloc, &[]), Err(KeepError::Failed)));
+    let seen = loaded(alloc, &mut second);
+    let saved_again = second.save(alloc, &[]);
+    drop(second);
+    assert!(rt; saved.is_ok() & written.is_ok());
+    assert!(rt; matches!(seen, Err(KeepError::Failed)));
+    assert!(rt; matches!(saved_again, Err(KeepError::Failed)));
     Ok(())
 }

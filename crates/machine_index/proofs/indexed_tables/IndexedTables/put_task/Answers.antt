@@ -14,26 +14,26 @@ use Rattle.machine_index.proofs.indexed_tables.IndexedTables.put_task.Goals as g
 pub put-requires-clause-place : goal.put-requires-clause-place
 put-requires-clause-place c =
     let s = c.self.inside in
-    within_active (task_has_ids c.get-row.result.now.job c.get-row.result.now.id) c.task_place-before.result s.tables.task_slots s.active c.task_place-before.ensures c.self.invariant.0.active
+    within_active (task_has_ids c.get-row.result.now.job c.get-row.result.now.id) c.place_of_row-before.result s.tables.task_slots s.active c.place_of_row-before.ensures c.self.invariant.0.active
 
 pub put-requires-2-clause-place : goal.put-requires-2-clause-place
 put-requires-2-clause-place c =
     let s = c.self.inside in
-    within_over (task_has_ids c.get-row.result.now.job c.get-row.result.now.id) c.task_place-before.result s.tables.task_slots s.over.items c.task_place-before.ensures c.self.invariant.0.over.long
+    within_over (task_has_ids c.get-row.result.now.job c.get-row.result.now.id) c.place_of_row-before.result s.tables.task_slots s.over.items c.place_of_row-before.ensures c.self.invariant.0.over.long
 
 pub put-requires-3-clause-place : goal.put-requires-3-clause-place
 put-requires-3-clause-place c =
     let s = c.self.inside in
-    within_timed (task_has_ids c.get-row.result.now.job c.get-row.result.now.id) c.task_place-before.result s.tables.task_slots s.timed.items c.task_place-before.ensures c.self.invariant.0.timed
+    within_timed (task_has_ids c.get-row.result.now.job c.get-row.result.now.id) c.place_of_row-before.result s.tables.task_slots s.timed.items c.place_of_row-before.ensures c.self.invariant.0.timed
 
 pub hold_task-requires-clause-held : goal.hold_task-requires-clause-held
 hold_task-requires-clause-held c =
     let t = c.self.inside.tables in
-    let before = c.task_place-before.result in
+    let before = c.place_of_row-before.result in
     let new = c.apply_one.new.self in
     let place : c.unwrap_or-place.result ≡ unwrap_or before (length t.task_slots) = c.unwrap_or-place.ensures ∙ ap (unwrap_or before) c.task_place_count.ensures in
     let found : before ≡ place_of (task_has_ids c.args.task.job c.args.task.id) t.task_slots =
-    c.task_place-before.ensures ∙ ap (λ (row : TaskRow). place_of (task_has_ids row.job row.id) t.task_slots) c.get-row.ensures in
+    c.place_of_row-before.ensures ∙ ap (λ (row : TaskRow). place_of (task_has_ids row.job row.id) t.task_slots) c.get-row.ensures in
     let placed : new.task_slots ≡ put_at before c.args.task t.task_slots =
     c.apply_one.ensures.tasks ∙ sym (ap (λ (p : Option ℕ). put_at p c.args.task t.task_slots) found) in
     held_beside c.release_task.new.self before t.task_slots new.task_slots t.run_slots new.run_slots c.unwrap_or-place.result c.args.task placed c.apply_one.ensures.runs place
@@ -44,13 +44,13 @@ invariant_of-self c =
     let s = c.self.inside in
     let t = s.tables in
     let old = c.self.invariant.0 in
-    let before = c.task_place-before.result in
+    let before = c.place_of_row-before.result in
     let new = c.apply_one.new.self in
     let task = c.get-row.result.now in
     let all : List (Option TaskRow) = put_at before task t.task_slots in
     let place : c.unwrap_or-place.result ≡ unwrap_or before (length t.task_slots) = c.unwrap_or-place.ensures ∙ ap (unwrap_or before) c.task_place_count.ensures in
     let found : before ≡ place_of (task_has_ids c.args.task.job c.args.task.id) t.task_slots =
-    c.task_place-before.ensures ∙ ap (λ (row : TaskRow). place_of (task_has_ids row.job row.id) t.task_slots) c.get-row.ensures in
+    c.place_of_row-before.ensures ∙ ap (λ (row : TaskRow). place_of (task_has_ids row.job row.id) t.task_slots) c.get-row.ensures in
     let placed : new.task_slots ≡ all =
     c.apply_one.ensures.tasks ∙ sym (ap (λ (p : Option ℕ). put_at p c.args.task t.task_slots) found)
     ∙ ap (λ (row : TaskRow). put_at before row t.task_slots) (sym c.get-row.ensures) in
@@ -62,7 +62,7 @@ invariant_of-self c =
     (subst (λ (ts : List (Option TaskRow)). HasHeld c.hold_task.new.self (rows ts) new.run_slots) placed c.hold_task.ensures.held) in (
       indexed_at all new.task_slots t.run_slots new.run_slots s.runs c.put.new.self c.put-2.new.self c.hold_task.new.self c.put-3.new.self s.queued s.asked
           c.put-4.new.self placed c.apply_one.ensures.runs old.runs
-          (c.put.ensures.items t.task_slots c.task_place-before.ensures old.active) over held
+          (c.put.ensures.items t.task_slots c.place_of_row-before.ensures old.active) over held
           (c.put-3.ensures.ranks t.task_slots old.timed) old.queued old.asked (c.put-4.ensures.tasks t.task_slots before place old.numbered),
       search rules,
     )

@@ -2,11 +2,11 @@ use Rattle.std.proofs.Common.{List, sym, subst}
 use Rattle.batch_model.specs.Variants.{TaskRow, RunRow}
 use Rattle.run_index.specs.Held.{HasHeld}
 use Rattle.task_index.specs.Over.{AreOver}
-use Rattle.machine_index.proofs.indexed_tables.IndexedTables.of_tables.Goals as goal
+use Rattle.machine_index.proofs.indexed_tables.parts_of.Goals as goal
 
-pub of_parts-requires : goal.of_parts-requires
-of_parts-requires c =
-    let t = c.args.tables in
+pub returns : goal.returns
+returns c =
+    let t = c.args.tables.now in
     let runs = c.in_ok-runs in
     let tasks = c.in_ok-tasks in
     record {
