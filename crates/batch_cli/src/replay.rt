@@ -70,21 +70,23 @@ fn do_lines<K: Keeper + Drop, W: Sink>(
 pub fn do_script<K: Keeper + Drop, W: Sink>(
     alloc: Global,
     desk: &mut Desk<K>,
-    script: &[u8],
+    script: Vec<u8>,
     sink: &mut W,
 ) -> Result<Tally, Stopped>
-    requires few { length script.now ≤ script_limit }
+    requires few { length script.items ≤ script_limit }
     requires in_order { IsInOrder K.told K.faults desk.old }
     requires begins { Begins desk.old desk.old.seats desk.old.limit }
-    ensures ok { OnOk result (Whole K.faults desk.old desk.new (lines script.now) (W.taken sink.old) (W.taken sink.new)) }
-    ensures err { OnErr result (Part K.faults desk.old desk.new (lines script.now) (W.taken sink.old) (W.taken sink.new)) }
+    ensures ok { OnOk result (Whole K.faults desk.old desk.new (lines script.items) (W.taken sink.old) (W.taken sink.new)) }
+    ensures err { OnErr result (Part K.faults desk.old desk.new (lines script.items) (W.taken sink.old) (W.taken sink.new)) }
     ensures settled { IsErrOf result Stopped.SinkFault → memory_stops desk.new.entries ≡ 0 }
-    ensures counts { IfOk result (CountsAll (lines script.now)) }
+    ensures counts { IfOk result (CountsAll (lines script.items)) }
     ensures in_order { IsInOrder K.told K.faults desk.new }
     ensures keeper_later { K.faults desk.old.keeper ≤ K.faults desk.new.keeper }
     ensures fault { IsErrOf result Stopped.SinkFault → Rose (W.faults sink.old) (W.faults sink.new) }
 {
-    let tally = do_lines(alloc, desk, script, sink)?;
+    let tally = do_lines(alloc, desk, &script, sink)?;
+    // The text of the tables takes memory, so that of the script is freed first.
+    drop(script);
     finish(alloc, desk.tables(), sink)?;
     Ok(tally)
 }

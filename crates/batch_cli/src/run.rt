@@ -63,7 +63,7 @@ fn run_desk<R: Source, W: Sink, K: Keeper + Drop>(
         Err(ReadFault::Memory) => Status::Memory,
         Err(ReadFault::Failed) => Status::SourceFault,
         Err(ReadFault::TooLong) => Status::ScriptTooLong,
-        Ok(script) => match do_script(alloc, desk, &script, sink) {
+        Ok(script) => match do_script(alloc, desk, script, sink) {
             Err(Stopped::Memory) => Status::Memory,
             Err(Stopped::SinkFault) => Status::SinkFault,
             Ok(tally) => ending(desk.has_faults(), desk.limit(), tally),

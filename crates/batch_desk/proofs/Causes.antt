@@ -1,6 +1,5 @@
 -- The cause of a failure is that of another call that passes on the same error.
-use Rattle.std.proofs.Common.{◌≡◌, ◌≤◌, ℕ, Result, Ok, Err, IsErr, refl, ap, sym, ◌∙◌, arith}
-use Rattle.std.specs.Result.{IsErrAnd}
+use Rattle.std.proofs.Common.{◌≡◌, ◌≤◌, ℕ, Result, Ok, Err, refl, ap, arith}
 use Rattle.bt_base.specs.Causes.{Rose}
 use Rattle.batch_keeper.specs.Told.{FailsWithCause}
 use Rattle.batch_keeper.specs.declared.error.KeepError.{KeepError}
@@ -17,12 +16,8 @@ rose_before : (before middle now : ℕ) → before ≤ middle → Rose middle no
 rose_before before middle now h r = omega arith
 
 -- the count of faults was no higher before an earlier call
-pub passed_on : {T U : Type 0} (before middle now : ℕ) (e : KeepError) (result : Result U KeepError) → IsErr result × IsErrAnd result (λ x. x ≡ e) → before ≤ middle
-    → FailsWithCause {T = T} middle now (Err e) → FailsWithCause before now result
-passed_on before middle now e (Ok value) is h cause = absurd (cc)
-passed_on before middle now e (Err x) is h cause =
+pub failed_after : {T U : Type 0} (before middle now : ℕ) (e : KeepError) → before ≤ middle → FailsWithCause {T = T} middle now (Err e)
+    → FailsWithCause {T = U} before now (Err e)
+failed_after before middle now e h cause =
     let l : middle ≤ now = cause.later in
-    record {
-      later = omega arith;
-      failed = λ f. rose_before before middle now h (cause.failed (ap Err (sym is.1 ∙ error_of x Failed (Err x) refl f)));
-    }
+    record { later = omega arith; failed = λ f. rose_before before middle now h (cause.failed (ap Err (error_of e Failed (Err e) refl f))) }

@@ -7,3 +7,4 @@ pub mod LawsHold
 pub mod MadeOnce
 pub mod Opened
 pub mod Saved
+pub mod Stored

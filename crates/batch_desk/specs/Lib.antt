@@ -1,5 +1,6 @@
 pub mod Answers
 pub mod Calls
+pub mod Entries
 pub mod History
 pub mod Kept
 pub mod Laws

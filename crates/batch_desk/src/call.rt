@@ -1,10 +1,11 @@
 //! A call, made and entered.
-ghost use Rattle.std.specs.Prelude.{◌≡◌, ◌≤◌, ◌<◌, vec_len, vec_capacity};
+ghost use Rattle.std.specs.Prelude.{◌≡◌, ◌≤◌, ◌<◌};
 ghost use Rattle.batch_desk.specs.Kept.{Tells};
 ghost use Rattle.batch_desk.specs.History.{IsAskable, refusal_of};
 ghost use Rattle.batch_desk.specs.Calls.{Finishes, IsFailed, IsCalled, IsCalledWithin};
 
 use crate::answer::Answer;
+use crate::entries::Entries;
 use crate::entry::{Entry, Mark, Stop};
 use crate::saved_machine::SavedMachine;
 use batch_keeper::{KeepError, Keeper};
@@ -37,19 +38,19 @@ fn refusal_of(reply: &Reply) -> Option<Refusal>
 fn finish<K: Keeper + Drop>(
     alloc: Global,
     saved: &mut SavedMachine<K>,
-    entries: &mut Vec<Entry>,
+    entries: &mut Entries,
     moment: Moment,
     event: Event,
     reply: &Reply,
 ) -> (List<Due>, Stop)
-    requires { vec_len entries.old < vec_capacity entries.old }
+    requires { 0 < entries.old.room }
     ensures finished { Finishes K.faults saved.old saved.new entries.old.items entries.new.items moment event reply.now result.0 result.1 }
     ensures seats { saved.new.seats ≡ saved.old.seats }
     ensures kept { Tells (K.told saved.new.keeper) saved.new.state }
     ensures later { K.faults saved.old.keeper ≤ K.faults saved.new.keeper }
 {
     let (dues, stop) = saved.due_steps(alloc);
-    entries.push_reserved(Entry {
+    entries.push(Entry {
         moment,
         event,
         mark: Mark::Done(refusal_of(reply)),
@@ -60,14 +61,14 @@ fn finish<K: Keeper + Drop>(
 }
 
 /// Enters a call that was left undone because of a keeper fault, and answers it. A call for which memory ran out has no entry.
-fn enter_failed(entries: &mut Vec<Entry>, moment: Moment, event: Event, error: KeepError) -> Answer
-    requires { vec_len entries.old < vec_capacity entries.old }
+fn enter_failed(entries: &mut Entries, moment: Moment, event: Event, error: KeepError) -> Answer
+    requires { 0 < entries.old.room }
     ensures { IsFailed error result moment event entries.old.items entries.new.items }
 {
     match error {
         KeepError::Memory => Answer::Memory,
         KeepError::Failed => {
-            entries.push_reserved(Entry {
+            entries.push(Entry {
                 moment,
                 event,
                 mark: Mark::KeeperFault,
@@ -84,11 +85,11 @@ fn enter_failed(entries: &mut Vec<Entry>, moment: Moment, event: Event, error: K
 fn make_call<K: Keeper + Drop>(
     alloc: Global,
     saved: &mut SavedMachine<K>,
-    entries: &mut Vec<Entry>,
+    entries: &mut Entries,
     moment: Moment,
     event: Event,
 ) -> Answer
-    requires { vec_len entries.old < vec_capacity entries.old }
+    requires { 0 < entries.old.room }
     ensures called { IsCalled K.faults saved.old saved.new entries.old.items entries.new.items moment event result }
     ensures seats { saved.new.seats ≡ saved.old.seats }
     ensures kept { Tells (K.told saved.new.keeper) saved.new.state }
@@ -109,7 +110,7 @@ pub fn call_within<K: Keeper + Drop>(
     alloc: Global,
     limit: u32,
     saved: &mut SavedMachine<K>,
-    entries: &mut Vec<Entry>,
+    entries: &mut Entries,
     moment: Moment,
     event: Event,
 ) -> Answer
@@ -123,7 +124,7 @@ pub fn call_within<K: Keeper + Drop>(
         drop(event);
         return Answer::JournalFull;
     }
-    if entries.reserve(1).is_err() {
+    if entries.reserve().is_err() {
         drop(event);
         return Answer::Memory;
     }

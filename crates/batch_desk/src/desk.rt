@@ -10,12 +10,13 @@ ghost use Rattle.batch_keeper.specs.Told.{FailsWithCause};
 ghost use Rattle.table_reads.specs.Reads.{read_reply};
 ghost use Rattle.batch_desk.specs.Kept.{Tells};
 ghost use Rattle.batch_desk.specs.Laws.{KeepsLaws};
-ghost use Rattle.batch_desk.specs.History.{IsLegal, after_all, fault_count, faults_of};
+ghost use Rattle.batch_desk.specs.History.{IsLegal, after_all, fault_count};
 ghost use Rattle.batch_desk.specs.Answers.{AnswersCall, IsInOrder, HasSameOpening, FailsToOpen, Begins};
 
 use crate::answer::Answer;
 use crate::call::{call_within, know_ranges};
-use crate::entry::{Entry, Stop};
+use crate::entries::Entries;
+use crate::job_ids::with_shared_job_id;
 use crate::journal::Journal;
 use crate::saved_machine::SavedMachine;
 use crate::saving::save;
@@ -36,7 +37,7 @@ pub struct Desk<K: Keeper + Drop> {
     saved: SavedMachine<K>,
     opened: Tables,
     limit: u32,
-    entries: Vec<Entry>,
+    entries: Entries,
 }
 
 impl<K: Keeper + Drop> Model for Desk<K> {
@@ -64,28 +65,6 @@ impl<K: Keeper + Drop> Model for Desk<K> {
     }) };
 }
 
-/// Whether the entry records a keeper fault.
-fn is_fault(entry: &Entry) -> bool
-    ensures { result ≡ nat_lt 0 (faults_of entry.now) }
-{
-    match entry.stop {
-        Stop::KeeperFault => true,
-        Stop::Rest | Stop::Memory => false,
-    }
-}
-
-/// Whether any entry records a keeper fault.
-fn any_fault(entries: &[Entry]) -> bool
-    ensures { result ≡ nat_lt 0 (fault_count entries.now) }
-{
-    for entry in entries {
-        if is_fault(entry) {
-            return true;
-        }
-    }
-    false
-}
-
 /// Saves the changes of the opening, if there are any, and returns a copy of the opened tables, which is made before the save.
 fn save_opening<K: Keeper>(
     alloc: Global,
@@ -101,8 +80,13 @@ fn save_opening<K: Keeper>(
     ensures cause { FailsWithCause (K.faults keeper.old) (K.faults keeper.new) result }
 {
     let opened = machine.tables().copy()?;
-    save(alloc, keeper, changes)?;
-    Ok(opened)
+    match save(alloc, keeper, changes) {
+        Ok(()) => Ok(opened),
+        Err(error) => {
+            drop(opened);
+            Err(error)
+        }
+    }
 }
 
 /// The machine over the tables that the keeper loads, and the changes of the opening, which are not saved yet.
@@ -137,8 +121,15 @@ fn open_machine<K: Keeper>(
     ensures cause { FailsWithCause (K.faults keeper.old) (K.faults keeper.new) result }
 {
     let (machine, changes) = load_machine(alloc, keeper, seats)?;
-    let opened = save_opening(alloc, keeper, &machine, changes.as_slice())?;
-    Ok((machine, opened))
+    let opened = save_opening(alloc, keeper, &machine, changes.as_slice());
+    drop(changes);
+    match opened {
+        Ok(opened) => Ok((machine, opened)),
+        Err(error) => {
+            drop(machine);
+            Err(error)
+        }
+    }
 }
 
 impl<K: Keeper + Drop> Desk<K> {
@@ -164,7 +155,7 @@ impl<K: Keeper + Drop> Desk<K> {
                 saved: SavedMachine::new(keeper, machine, seats),
                 opened,
                 limit,
-                entries: Vec::new(alloc),
+                entries: Entries::new(alloc),
             }),
             Err(error) => Err((keeper, error)),
         }
@@ -229,7 +220,7 @@ impl<K: Keeper + Drop> Desk<K> {
     pub fn has_faults(&self) -> bool
         ensures { result ≡ nat_lt 0 (fault_count self.now.entries) }
     {
-        any_fault(&self.entries)
+        self.entries.has_faults()
     }
 
     /// Returns the keeper and the journal. The journal is a legal history, the keeper tells the tables after it, and
@@ -259,7 +250,7 @@ impl<K: Keeper + Drop> Desk<K> {
             opened,
             seats,
             limit,
-            entries: List::of_vec(entries),
+            entries,
         };
         (saved.into_keeper(), journal)
     }
@@ -280,6 +271,7 @@ impl<K: Keeper + Drop> Desk<K> {
         ensures laws { KeepsLaws self.new.seats self.new.opened self.new.entries }
         ensures later { K.faults self.old.keeper ≤ K.faults self.new.keeper }
     {
+        let event = with_shared_job_id(self.saved.tables(), event);
         know_ranges(moment, &event);
         call_within(
             alloc,

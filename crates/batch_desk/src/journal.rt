@@ -1,10 +1,10 @@
 //! The journal of a desk.
 
-use crate::entry::Entry;
-use bt_base::List;
+use crate::entries::Entries;
 use bt_rows::tables::Tables;
+use std::marker::Model;
 
-/// The calls of a desk, and what it was opened with.
+/// The calls of a desk, and what it was opened with. Contracts see the entries as a list.
 #[derive(Drop)]
 pub struct Journal {
     /// The opened tables, before the first call.
@@ -14,5 +14,18 @@ pub struct Journal {
     /// The most entries that the journal takes; 0 if it takes none.
     pub limit: u32,
     /// The calls, oldest first.
-    pub entries: List<Entry>,
+    pub entries: Entries,
+}
+
+impl Model for Journal {
+    ghost use Rattle.batch_desk.specs.Kept.{JournalFields};
+
+    ghost Value = { JournalFields };
+
+    ghost view = { λ j. record {
+      opened = j.opened;
+      seats = j.seats;
+      limit = j.limit;
+      entries = j.entries.items;
+    } };
 }

@@ -4,12 +4,15 @@
 mod answer;
 mod call;
 mod desk;
+mod entries;
 mod entry;
+mod job_ids;
 mod journal;
 mod saved_machine;
 mod saving;
 
 pub use answer::Answer;
 pub use desk::Desk;
+pub use entries::{Entries, EntryRef};
 pub use entry::{Entry, Mark, Stop};
 pub use journal::Journal;

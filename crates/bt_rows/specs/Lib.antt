@@ -8,3 +8,4 @@ pub mod Choice
 pub mod Room
 pub mod Names
 pub mod Ranges
+pub mod Tasks

@@ -5,8 +5,8 @@ ghost use Rattle.bt_rows.specs.Ranges.{is_event_in_range};
 use crate::job::ReleaseTask;
 use crate::pool::{Dealloc, Fill, StartTask};
 use crate::run::Ending;
-use crate::task::{Given, Multi};
-use bt_base::{CommandLine, Id, List, Num, Shared, SharedList, Text};
+use crate::settings::Settings;
+use bt_base::{CommandLine, Id, List, Num, Shared, Text};
 use std::marker::Model;
 
 /// How a pool is to scale automatically.
@@ -127,8 +127,8 @@ pub enum DisableTasks {
     Wait,
 }
 
-/// The body of `add-task` (Azure: BatchTaskCreateContent).
-/// Its small fields stand together, so that it has no gaps.
+/// The body of `add-task` (Azure: BatchTaskCreateContent). Contracts see it as the record of all its fields, those of the settings among
+/// them.
 #[derive(Drop)]
 pub struct TaskSpec {
     /// The id (Azure: id).
@@ -137,34 +137,35 @@ pub struct TaskSpec {
     pub line: CommandLine,
     /// The slots that it holds of its node, 1 to 8 (Azure: requiredSlots).
     pub slots: u8,
-    /// Exit options for a command line that could not be started (Azure: exitConditions.preProcessingError).
-    pub launch: Option<Given>,
-    /// Exit options for every other ending that is not code 0 (Azure: exitConditions.default).
-    pub other: Option<Given>,
-    /// How often it is tried again after a failure: 0 to 1,000,000, or -1 for no limit; None for the job's number (Azure:
-    /// constraints.maxTaskRetryCount).
-    pub retries: Option<i32>,
-    /// The longest time from the start of an attempt to its end, in milliseconds, 0 to 3,153,600,000,000; None for no limit
-    /// (Azure: constraints.maxWallClockTime).
-    pub wall: Option<u64>,
-    /// How long its files are kept after it ended, in milliseconds, 0 to 3,153,600,000,000; None for without end (Azure:
-    /// constraints.retentionTime).
-    pub retention: Option<u64>,
-    /// Exit options for single exit codes (Azure: exitConditions.exitCodes).
-    pub codes: SharedList<(i32, Given)>,
-    /// Exit options for ranges of exit codes, with the first and the last code of each (Azure: exitConditions.exitCodeRanges).
-    pub ranges: SharedList<(i32, i32, Given)>,
-    /// The ids of tasks of the job that it depends on (Azure: dependsOn.taskIds).
-    pub needs: SharedList<Id>,
-    /// Ranges of numbers of tasks of the job that it depends on, with the first and the last number of each, at most 64
-    /// (Azure: dependsOn.taskIdRanges).
-    pub spans: SharedList<(u32, u32)>,
-    /// How it runs on several nodes; None if it runs on one (Azure: multiInstanceSettings).
-    pub multi: Option<Multi>,
+    /// What it states beside its id, its command line and its slots.
+    pub settings: Settings,
+}
+
+impl Model for TaskSpec {
+    ghost use Rattle.bt_rows.specs.Tasks.{SpecFields};
+
+    ghost Value = { SpecFields };
+
+    ghost view = { λ t. record {
+      id = t.id;
+      line = t.line;
+      slots = t.slots;
+      retries = t.settings.retries;
+      wall = t.settings.wall;
+      retention = t.settings.retention;
+      codes = t.settings.codes;
+      ranges = t.settings.ranges;
+      launch = t.settings.launch;
+      other = t.settings.other;
+      needs = t.settings.needs;
+      spans = t.settings.spans;
+      multi = t.settings.multi;
+    } };
 }
 
 /// What reaches the service from outside, by its kind. Names are those of the operations of the Azure Batch REST reference
-/// where it has them.
+/// where it has them. Bodies, and the reason of a termination, stand in shared blocks, so that an event is small: a journal has one for
+/// each of its entries.
 #[derive(Drop)]
 pub enum EventKind {
     /// A pool is added (Azure: Create Pool).
@@ -190,7 +191,7 @@ pub enum EventKind {
     /// The job with this id is enabled (Azure: Enable Job).
     EnableJob(Id),
     /// The job with this id is terminated, for a reason of 1 to 256 bytes if one is stated (Azure: Terminate Job).
-    TerminateJob(Id, Option<Text>),
+    TerminateJob(Id, Shared<Option<Text>>),
     /// The job with this id is deleted (Azure: Delete Job).
     DeleteJob(Id),
     /// A task is added to the job with this id (Azure: Create Task).
@@ -246,5 +247,14 @@ impl Event {
         ensures ranges { is_event_in_range self.now ≡ true }
     {
         &self.kind
+    }
+
+    /// Its kind, taken out of the event. It does not allocate.
+    pub fn into_kind(self) -> EventKind
+        ensures kind { result ≡ self }
+        ensures ranges { is_event_in_range self ≡ true }
+    {
+        let Event { kind } = self;
+        kind
     }
 }

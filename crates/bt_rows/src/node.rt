@@ -21,7 +21,7 @@ pub enum NodeStage {
 }
 
 /// A node of a pool, on a seat of the machine. Its key is its number.
-#[derive(Clone, Drop)]
+#[derive(Drop)]
 pub struct NodeRow {
     /// The number, 1 to 10^15, in order of adding; it is never used again (in place of Azure's id of a compute node).
     pub number: u64,
@@ -37,7 +37,14 @@ pub struct NodeRow {
 
 impl Duplicate for NodeRow {
     fn copy(&self) -> Result<NodeRow, NoMemory> {
-        Ok(self.clone()?)
+        let pool = self.pool.copy()?;
+        Ok(NodeRow {
+            number: self.number,
+            pool,
+            seat: self.seat,
+            stage: self.stage,
+            tries: self.tries,
+        })
     }
 }
 

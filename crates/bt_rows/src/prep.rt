@@ -28,7 +28,7 @@ pub enum ReleaseState {
 }
 
 /// A job's preparation on a node (Azure: the status of job preparation and release tasks). Its key is the job and the node.
-#[derive(Clone, Drop)]
+#[derive(Drop)]
 pub struct PrepRow {
     /// The id of the job (Azure: jobId).
     pub job: Id,
@@ -45,7 +45,7 @@ pub struct PrepRow {
 }
 
 /// The key of a preparation.
-#[derive(Clone, Drop)]
+#[derive(Drop)]
 pub struct PrepKey {
     /// The id of the job.
     pub job: Id,
@@ -55,13 +55,25 @@ pub struct PrepKey {
 
 impl Duplicate for PrepRow {
     fn copy(&self) -> Result<PrepRow, NoMemory> {
-        Ok(self.clone()?)
+        let job = self.job.copy()?;
+        Ok(PrepRow {
+            job,
+            node: self.node,
+            state: self.state,
+            tries: self.tries,
+            ran: self.ran,
+            release: self.release,
+        })
     }
 }
 
 impl Duplicate for PrepKey {
     fn copy(&self) -> Result<PrepKey, NoMemory> {
-        Ok(self.clone()?)
+        let job = self.job.copy()?;
+        Ok(PrepKey {
+            job,
+            node: self.node,
+        })
     }
 }
 

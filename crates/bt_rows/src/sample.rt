@@ -9,7 +9,7 @@ use bt_base::{Duplicate, Id, NoMemory, Num};
 use kept_table::{KeyText, Keyed};
 
 /// A sample of a pool's metric (Azure: what `GetSample` of autoscale formulas reads). Its key is pool, metric and label.
-#[derive(Clone, Drop)]
+#[derive(Drop)]
 pub struct SampleRow {
     /// The id of the pool.
     pub pool: Id,
@@ -22,7 +22,7 @@ pub struct SampleRow {
 }
 
 /// The key of a sample.
-#[derive(Clone, Drop)]
+#[derive(Drop)]
 pub struct SampleKey {
     /// The id of the pool.
     pub pool: Id,
@@ -34,13 +34,24 @@ pub struct SampleKey {
 
 impl Duplicate for SampleRow {
     fn copy(&self) -> Result<SampleRow, NoMemory> {
-        Ok(self.clone()?)
+        let pool = self.pool.copy()?;
+        Ok(SampleRow {
+            pool,
+            metric: self.metric,
+            label: self.label,
+            value: self.value,
+        })
     }
 }
 
 impl Duplicate for SampleKey {
     fn copy(&self) -> Result<SampleKey, NoMemory> {
-        Ok(self.clone()?)
+        let pool = self.pool.copy()?;
+        Ok(SampleKey {
+            pool,
+            metric: self.metric,
+            label: self.label,
+        })
     }
 }
 

@@ -7,7 +7,7 @@ use bt_base::{Duplicate, Id, NoMemory, Text};
 use kept_table::{KeyText, Keyed};
 
 /// How a pool scales automatically. Its key is the pool.
-#[derive(Clone, Drop)]
+#[derive(Drop)]
 pub struct ScaleRow {
     /// The id of the pool.
     pub pool: Id,
@@ -23,7 +23,16 @@ pub struct ScaleRow {
 
 impl Duplicate for ScaleRow {
     fn copy(&self) -> Result<ScaleRow, NoMemory> {
-        Ok(self.clone()?)
+        let pool = self.pool.copy()?;
+        let formula = self.formula.copy()?;
+        let last = self.last.clone()?;
+        Ok(ScaleRow {
+            pool,
+            formula,
+            interval: self.interval,
+            next: self.next,
+            last,
+        })
     }
 }
 

@@ -1,5 +1,6 @@
 //! The tables, and changes of them. Rows are found by their keys in `lookup`.
 ghost use Rattle.std.specs.Prelude.{◌≡◌, ◌≤◌, ◌+◌, length, OnOk, OnErr, IfOk};
+ghost use Rattle.kept_table.specs.Slots.{rows};
 ghost use Rattle.bt_rows.specs.State.{State, empty_state};
 ghost use Rattle.bt_rows.specs.Changes.{apply_change, apply_changes, tasks_placed, runs_placed};
 
@@ -12,7 +13,7 @@ use crate::sample::{SampleKey, SampleRow};
 use crate::scale::ScaleRow;
 use crate::task::{TaskKey, TaskRow};
 use bt_base::{Id, List, NoMemory, Shared};
-use kept_table::{Rows, Table};
+use kept_table::{Keyed, Rows, Table};
 use std::alloc::Global;
 use std::marker::Model;
 
@@ -94,6 +95,22 @@ pub enum Change {
     Counters(u64, u64),
     /// Sets the last moment, in milliseconds since 1970.
     Now(u64),
+}
+
+/// Two tables.
+type Both<A, B> = (Table<Shared<A>>, Table<Shared<B>>);
+
+/// Copies of two tables, without room. It fails only when out of memory.
+fn copy_both<A: Keyed + Drop, B: Keyed + Drop>(
+    first: &Table<Shared<A>>,
+    second: &Table<Shared<B>>,
+) -> Result<Both<A, B>, NoMemory>
+    ensures first { IfOk result (λ copies. rows copies.0.slots ≡ rows first.now.slots) }
+    ensures second { IfOk result (λ copies. rows copies.1.slots ≡ rows second.now.slots) }
+{
+    let first = first.copy()?;
+    let second = second.copy()?;
+    Ok((first, second))
 }
 
 impl Tables {
@@ -194,19 +211,45 @@ impl Tables {
         self.next_run
     }
 
+    /// Copies of the tables of pools and nodes, and of those of jobs and tasks. It fails only when out of memory.
+    fn copy_jobs(&self) -> Result<(Both<PoolRow, NodeRow>, Both<JobRow, TaskRow>), NoMemory>
+        ensures pools { IfOk result (λ copies. rows copies.0.0.slots ≡ self.now.state.pools) }
+        ensures nodes { IfOk result (λ copies. rows copies.0.1.slots ≡ self.now.state.nodes) }
+        ensures jobs { IfOk result (λ copies. rows copies.1.0.slots ≡ self.now.state.jobs) }
+        ensures tasks { IfOk result (λ copies. rows copies.1.1.slots ≡ self.now.state.tasks) }
+    {
+        let nodes = copy_both(&self.pools, &self.nodes)?;
+        let tasks = copy_both(&self.jobs, &self.tasks)?;
+        Ok((nodes, tasks))
+    }
+
+    /// Copies of the tables of runs and preparations, and of those of samples and scalings. It fails only when out of memory.
+    fn copy_runs(&self) -> Result<(Both<RunRow, PrepRow>, Both<SampleRow, ScaleRow>), NoMemory>
+        ensures runs { IfOk result (λ copies. rows copies.0.0.slots ≡ self.now.state.runs) }
+        ensures preps { IfOk result (λ copies. rows copies.0.1.slots ≡ self.now.state.preps) }
+        ensures samples { IfOk result (λ copies. rows copies.1.0.slots ≡ self.now.state.samples) }
+        ensures scales { IfOk result (λ copies. rows copies.1.1.slots ≡ self.now.state.scales) }
+    {
+        let preps = copy_both(&self.runs, &self.preps)?;
+        let scales = copy_both(&self.samples, &self.scales)?;
+        Ok((preps, scales))
+    }
+
     /// A copy of the tables, without room. It fails only when out of memory.
     pub fn copy(&self) -> Result<Tables, NoMemory>
         ensures { IfOk result (λ copy. copy.state ≡ self.now.state) }
     {
+        let ((pools, nodes), (jobs, tasks)) = self.copy_jobs()?;
+        let ((runs, preps), (samples, scales)) = self.copy_runs()?;
         Ok(Tables {
-            pools: self.pools.copy()?,
-            nodes: self.nodes.copy()?,
-            jobs: self.jobs.copy()?,
-            tasks: self.tasks.copy()?,
-            runs: self.runs.copy()?,
-            preps: self.preps.copy()?,
-            samples: self.samples.copy()?,
-            scales: self.scales.copy()?,
+            pools,
+            nodes,
+            jobs,
+            tasks,
+            runs,
+            preps,
+            samples,
+            scales,
             next_node: self.next_node,
             next_run: self.next_run,
             moment: self.moment,

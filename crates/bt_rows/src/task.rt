@@ -3,8 +3,10 @@ ghost use Rattle.bt_rows.specs.Keys.{task_has_key, same_task};
 ghost use Rattle.bt_rows.specs.Texts.{task_text, task_key_text, task_by_text, same_task_by_text};
 
 use crate::run::Ending;
-use bt_base::{CommandLine, Duplicate, Id, NoMemory, SharedList};
+use crate::settings::Settings;
+use bt_base::{CommandLine, Duplicate, Id, NoMemory};
 use kept_table::{KeyText, Keyed};
+use std::marker::Model;
 
 /// What a task's ending does to its job (Azure: jobAction).
 #[derive(Clone, Copy, Debug, PartialEq, Eq)]
@@ -92,8 +94,8 @@ pub struct Closed {
     pub at: u64,
 }
 
-/// A task of a job. Its key is the job and its id.
-/// Its small fields stand together, so that it has no gaps.
+/// A task of a job. Its key is the job and its id. Contracts see it as the record of all its fields, those of the settings among them. Its
+/// small fields stand together, so that it has few gaps.
 #[derive(Drop)]
 pub struct TaskRow {
     /// The id of the job, as the job spells it.
@@ -108,33 +110,10 @@ pub struct TaskRow {
     pub stage: TaskStage,
     /// How it is to be ended from outside its command line; None if it is not (this project's own).
     pub wanted: Option<Want>,
-    /// Exit options for a command line that could not be started (Azure: exitConditions.preProcessingError).
-    pub launch: Option<Given>,
-    /// Exit options for every other ending that is not code 0 (Azure: exitConditions.default).
-    pub other: Option<Given>,
-    /// How often it is tried again after a failure: 0 to 1,000,000, or -1 for no limit; None for the job's number (Azure:
-    /// constraints.maxTaskRetryCount).
-    pub retries: Option<i32>,
     /// The ending with which a coordination failed in the present attempt; None if none did (this project's own).
     pub fail: Option<Ending>,
-    /// The longest time from the start of an attempt to its end, in milliseconds, 0 to 3,153,600,000,000; None for no limit
-    /// (Azure: constraints.maxWallClockTime).
-    pub wall: Option<u64>,
-    /// How long its files are kept after it ended, in milliseconds, 0 to 3,153,600,000,000; None for without end (Azure:
-    /// constraints.retentionTime).
-    pub retention: Option<u64>,
-    /// Exit options for single exit codes, of which the first with the code counts (Azure: exitConditions.exitCodes).
-    pub codes: SharedList<(i32, Given)>,
-    /// Exit options for ranges of exit codes, with the first and the last code of each, of which the first that holds the code
-    /// counts, after `codes` (Azure: exitConditions.exitCodeRanges).
-    pub ranges: SharedList<(i32, i32, Given)>,
-    /// The ids of tasks of the job that it depends on, at most 64,000 characters together (Azure: dependsOn.taskIds).
-    pub needs: SharedList<Id>,
-    /// Ranges of numbers of tasks of the job that it depends on, with the first and the last number of each, at most 64
-    /// (Azure: dependsOn.taskIdRanges).
-    pub spans: SharedList<(u32, u32)>,
-    /// How it runs on several nodes; None if it runs on one (Azure: multiInstanceSettings).
-    pub multi: Option<Multi>,
+    /// What it states beside its id, its command line and its slots.
+    pub settings: Settings,
     /// The number of its present attempt, which is how often it was placed.
     pub attempt: u64,
     /// How many of its attempts failed since it was added or reactivated (Azure: executionInfo.retryCount).
@@ -146,36 +125,53 @@ pub struct TaskRow {
     pub closed: Option<Closed>,
 }
 
+impl Model for TaskRow {
+    ghost use Rattle.bt_rows.specs.Tasks.{TaskFields};
+
+    ghost Value = { TaskFields };
+
+    ghost view = { λ t. record {
+      job = t.job;
+      id = t.id;
+      line = t.line;
+      slots = t.slots;
+      retries = t.settings.retries;
+      wall = t.settings.wall;
+      retention = t.settings.retention;
+      codes = t.settings.codes;
+      ranges = t.settings.ranges;
+      launch = t.settings.launch;
+      other = t.settings.other;
+      needs = t.settings.needs;
+      spans = t.settings.spans;
+      multi = t.settings.multi;
+      stage = t.stage;
+      attempt = t.attempt;
+      failures = t.failures;
+      wanted = t.wanted;
+      fail = t.fail;
+      started = t.started;
+      closed = t.closed;
+    } };
+}
+
 impl Duplicate for TaskRow {
     fn copy(&self) -> Result<TaskRow, NoMemory> {
         let job = self.job.copy()?;
         let id = self.id.copy()?;
         let line = self.line.copy()?;
-        let needs = self.needs.copy()?;
-        let codes = self.codes.copy()?;
-        let ranges = self.ranges.copy()?;
-        let spans = self.spans.copy()?;
-        let multi = self.multi.clone()?;
+        let settings = self.settings.copy()?;
         Ok(TaskRow {
             job,
             id,
             line,
             slots: self.slots,
-            retries: self.retries,
-            wall: self.wall,
-            retention: self.retention,
-            codes,
-            ranges,
-            launch: self.launch,
-            other: self.other,
-            needs,
-            spans,
-            multi,
             stage: self.stage,
-            attempt: self.attempt,
-            failures: self.failures,
             wanted: self.wanted,
             fail: self.fail,
+            settings,
+            attempt: self.attempt,
+            failures: self.failures,
             started: self.started,
             closed: self.closed,
         })
@@ -183,7 +179,7 @@ impl Duplicate for TaskRow {
 }
 
 /// The key of a task.
-#[derive(Clone, Drop)]
+#[derive(Drop)]
 pub struct TaskKey {
     /// The id of the job.
     pub job: Id,
@@ -193,7 +189,9 @@ pub struct TaskKey {
 
 impl Duplicate for TaskKey {
     fn copy(&self) -> Result<TaskKey, NoMemory> {
-        Ok(self.clone()?)
+        let job = self.job.copy()?;
+        let id = self.id.copy()?;
+        Ok(TaskKey { job, id })
     }
 }
 

@@ -83,8 +83,8 @@ pub(crate) fn is_unblocked(lives: &[Live], live: &Live) -> bool
     ensures { result ≡ is_unblocked_in lives.now live.now }
 {
     let task = &live.task;
-    are_ids_satisfied(lives, &task.job, task.needs.as_slice())
-        && are_spans_satisfied(lives, &task.job, task.spans.as_slice())
+    are_ids_satisfied(lives, &task.job, task.settings.needs())
+        && are_spans_satisfied(lives, &task.job, task.settings.spans())
 }
 
 /// How many of the ids are not satisfied.
@@ -127,7 +127,7 @@ pub(crate) fn waiting_count(lives: &[Live], task: &TaskRow) -> u64
     requires { has_few_ranges task.now ≡ true }
     ensures { result ≡ waiting_count (state_of lives.now) task.now }
 {
-    let ids = waiting_ids(lives, &task.job, task.needs.as_slice());
-    let numbers = waiting_spans(lives, &task.job, task.spans.as_slice());
+    let ids = waiting_ids(lives, &task.job, task.settings.needs());
+    let numbers = waiting_spans(lives, &task.job, task.settings.spans());
     ids as u64 + numbers
 }

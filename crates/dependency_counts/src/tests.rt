@@ -8,6 +8,7 @@ use crate::steps::Steps;
 use bt_base::{CommandLine, Id, List, SharedList};
 use bt_rows::limits::DEPENDENCY_RANGE_LIMIT;
 use bt_rows::run::Ending;
+use bt_rows::settings::{Settings, TaskSettings};
 use bt_rows::task::{Given, JobAction, Options, TaskRow, TaskStage};
 use std::alloc::Global;
 use std::marker::Brand;
@@ -21,21 +22,12 @@ fn plain_task(alloc: Global, id: &str) -> Result<TaskRow, Fail> {
         id: Id::read(alloc, id)?,
         line: CommandLine::read(alloc, "true")?.ok_or("a command line")?,
         slots: 1,
-        retries: None,
-        wall: None,
-        retention: None,
-        codes: SharedList::empty(),
-        ranges: SharedList::empty(),
-        launch: None,
-        other: None,
-        needs: SharedList::empty(),
-        spans: SharedList::empty(),
-        multi: None,
         stage: TaskStage::Active,
-        attempt: 0,
-        failures: 0,
         wanted: None,
         fail: None,
+        settings: Settings::of(alloc, TaskSettings::plain())?,
+        attempt: 0,
+        failures: 0,
         started: None,
         closed: None,
     })
@@ -53,10 +45,12 @@ fn stating_task(alloc: Global) -> Result<TaskRow, Fail> {
     let satisfying = given(None, Some(true));
     let codes = vec![in alloc; (3, disabling), (3, going_on)]?;
     let ranges = vec![in alloc; (1, 5, going_on), (-2, 9, satisfying)]?;
+    let mut settings = TaskSettings::plain();
+    settings.codes = SharedList::of_list(alloc, List::of_vec(codes))?;
+    settings.ranges = SharedList::of_list(alloc, List::of_vec(ranges))?;
+    settings.launch = Some(given(Some(JobAction::Disable), Some(false)));
     let mut task = plain_task(alloc, "a")?;
-    task.codes = SharedList::of_list(alloc, List::of_vec(codes))?;
-    task.ranges = SharedList::of_list(alloc, List::of_vec(ranges))?;
-    task.launch = Some(given(Some(JobAction::Disable), Some(false)));
+    task.settings = Settings::of(alloc, settings)?;
     Ok(task)
 }
 
@@ -94,8 +88,10 @@ fn the_first_stated_options_count(rt: HostRuntime) -> Result<(), Fail> {
 
 #[test]
 fn other_endings_have_the_default(rt: HostRuntime) -> Result<(), Fail> {
+    let mut settings = TaskSettings::plain();
+    settings.other = Some(given(Some(JobAction::Disable), Some(true)));
     let mut task = plain_task(rt.alloc(), "a")?;
-    task.other = Some(given(Some(JobAction::Disable), Some(true)));
+    task.settings = Settings::of(rt.alloc(), settings)?;
     let table = [
         (Ending::Code(0), JobAction::Nothing, true),
         (Ending::Code(-1), JobAction::Disable, true),
@@ -116,7 +112,7 @@ fn add(counts: &mut Counts, task: &TaskRow) -> Result<CountKey, Fail> {
     if counts.has_id(&task.id) {
         return Err(Fail::new("a task with the id of another"));
     }
-    if task.spans.as_slice().len() > DEPENDENCY_RANGE_LIMIT {
+    if task.settings.spans().len() > DEPENDENCY_RANGE_LIMIT {
         return Err(Fail::new("a task with too many ranges"));
     }
     Ok(counts.add_task(task)?)
@@ -189,10 +185,12 @@ fn add_dependent(
     need: &str,
     spans: SharedList<(u32, u32)>,
 ) -> Result<CountKey, Fail> {
-    let mut task = plain_task(alloc, id)?;
     let needs = vec![in alloc; Id::read(alloc, need)?]?;
-    task.needs = SharedList::of_list(alloc, List::of_vec(needs))?;
-    task.spans = spans;
+    let mut settings = TaskSettings::plain();
+    settings.needs = SharedList::of_list(alloc, List::of_vec(needs))?;
+    settings.spans = spans;
+    let mut task = plain_task(alloc, id)?;
+    task.settings = Settings::of(alloc, settings)?;
     add(counts, &task)
 }
 

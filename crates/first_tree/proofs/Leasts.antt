@@ -40,16 +40,16 @@ reaches nodes size tree (suc k) i first one place fits =
     record { leaf = r.leaf; within = r.within; is = omega arith })
     (cases_lt (get_or nodes (2 * i) 0) (get_or nodes (2 * i + 1) 0))
 
-least_most : (xs : List ℕ) → least_rank xs ≤ no_rank
+pub least_most : (xs : List ℕ) → least_rank xs ≤ no_rank
 least_most [] = omega arith
 least_most (x ∷ xs) = let rest = least_most xs in omega arith
 
-least_below : (xs : List ℕ) (i : ℕ) → i < length xs → least_rank xs ≤ get_or xs i 0
+pub least_below : (xs : List ℕ) (i : ℕ) → i < length xs → least_rank xs ≤ get_or xs i 0
 least_below [] i l = absurd (omega arith)
 least_below (x ∷ xs) zero l = omega arith
 least_below (x ∷ xs) (suc i) l = let rest = least_below xs i (omega arith) in omega arith
 
-least_above : (bound : ℕ) (xs : List ℕ) → bound ≤ no_rank → ((i : ℕ) → i < length xs → bound ≤ get_or xs i 0) → bound ≤ least_rank xs
+pub least_above : (bound : ℕ) (xs : List ℕ) → bound ≤ no_rank → ((i : ℕ) → i < length xs → bound ≤ get_or xs i 0) → bound ≤ least_rank xs
 least_above bound [] most h = most
 least_above bound (x ∷ xs) most h =
     let here : bound ≤ x = h 0 (omega arith) in

@@ -1,81 +1,48 @@
-//! The tree over a list of ranks.
-ghost use Rattle.std.specs.Prelude.{◌≡◌, ◌+◌, ◌*◌, ◌<◌, ◌≤◌, ◌-◌, ◌^◌, length, drop, take, set, replicate, [], ◌∷◌, ◌++◌, slice_index, OnOk, IfOk, IfSome};
-ghost use Rattle.first_tree.specs.Nodes.{IsTree, IsPower, IsSizeFor};
-ghost use Rattle.first_tree.specs.Ranks.{Ranks, no_rank, first_within, first_within_from, least_rank, IsWhole};
+//! A list of ranks in blocks, with a tree over the least rank of each block.
+ghost use Rattle.std.specs.Prelude.{◌≡◌, ◌+◌, ◌*◌, ◌<◌, ◌≤◌, ◌^◌, length, set, [], ◌∷◌, ◌++◌, slice_index, OnOk, IfOk, IfSome};
+ghost use Rattle.first_tree.specs.Blocks.{IsInBlocks, IsFirstIn};
+ghost use Rattle.first_tree.specs.Ranks.{Ranks, no_rank, first_within, first_within_from, least_rank};
 
-use crate::nodes;
+use crate::blocks::{BLOCK, block_end, first_in, first_in_block, least_in_block};
+use crate::min_tree::MinTree;
 use bt_base::NoMemory;
 use std::alloc::Global;
 use std::marker::Model;
 
-/// The rank that no bound reaches: that of a place whose item is not to be found.
-pub const NO_RANK: u64 = u64::MAX;
-
 /// A list of ranks, from 0 to `NO_RANK`, each at its place; places are counted from 0.
+///
+/// A tree has the least rank of each block of 16 ranks, so that in a long list it takes about one to two bytes for each rank.
 ///
 /// Contracts see the list, and beside it the room: how many more ranks can be pushed without allocating.
 #[derive(Debug, Drop)]
 pub struct FirstTree {
-    nodes: Vec<u64>,
-    size: usize,
-    len: usize,
+    ranks: Vec<u64>,
+    /// The least rank of each block.
+    blocks: MinTree,
+    room: usize,
 }
 
 impl Model for FirstTree {
-    ghost use Rattle.std.specs.Prelude.{◌-◌, take, drop};
-    ghost use Rattle.first_tree.specs.Ranks.{Ranks, IsWhole};
+    ghost use Rattle.first_tree.specs.Ranks.{Ranks};
+    ghost use Rattle.first_tree.specs.Blocks.{IsInBlocks, HasRoom};
 
     ghost Value = { Ranks };
 
-    ghost view = { λ t. record { items = take t.len (drop t.size t.nodes.items); room = t.size - t.len } };
+    ghost view = { λ t. record { items = t.ranks.items; room = t.room } };
 
-    ghost invariant = { λ t. IsWhole t.nodes.items t.size t.len };
+    ghost invariant = { λ t. IsInBlocks t.ranks.items t.blocks.items × HasRoom t.ranks t.blocks t.room };
 }
 
-/// Sets a leaf, and the nodes above it.
-fn set_leaf(nodes: &mut [u64], size: usize, leaf: usize, rank: u64)
-    requires length { length nodes.old ≡ size + size }
-    requires tree { IsTree nodes.old size }
-    requires leaf { leaf < size }
-    ensures length { length nodes.new ≡ size + size }
-    ensures tree { IsTree nodes.new size }
-    ensures leaves { drop size nodes.new ≡ set (drop size nodes.old) leaf rank }
+/// The place of the first rank in this block or a later one that is at most the bound.
+fn first_in_later(ranks: &[u64], blocks: &MinTree, block: usize, bound: u64) -> Option<usize>
+    requires bound { bound < no_rank }
+    requires blocks { IsInBlocks ranks.now blocks.now.items }
+    ensures { IsFirstIn ranks.now (16 * block) (length ranks.now) bound result }
 {
-    nodes[size + leaf] = rank;
-    nodes::repair_path(nodes, size, (size + leaf) / 2);
-}
-
-/// The nodes of a tree of the given size over these first leaves, with no rank after them.
-fn nodes_over(alloc: Global, size: usize, leaves: &[u64]) -> Result<Vec<u64>, NoMemory>
-    requires few { length leaves.now ≤ size }
-    requires small { size + size < 2 ^ 64 }
-    ensures length { IfOk result (λ nodes. length nodes.items ≡ size + size) }
-    ensures tree { IfOk result (λ nodes. IsTree nodes.items size) }
-    ensures leaves { IfOk result (λ nodes. drop size nodes.items ≡ leaves.now ++ replicate (size - length leaves.now) no_rank) }
-{
-    let mut nodes: Vec<u64> = Vec::new(alloc);
-    nodes.resize(size, 0)?;
-    nodes.extend_from_slice(leaves)?;
-    nodes.resize(2 * size, NO_RANK)?;
-    nodes::rebuild(&mut nodes, size);
-    Ok(nodes)
-}
-
-/// The size, doubled until it is at least what is wanted. None if the nodes would be too many.
-fn size_for(mut size: usize, wanted: usize) -> Option<usize>
-    requires { IsPower size }
-    ensures { IsSizeFor wanted result }
-{
-    while size < wanted {
-        if size > usize::MAX / 4 {
-            return None;
-        }
-        size *= 2;
+    match blocks.first_from(block, bound) {
+        None => None,
+        Some(later) => first_in_block(ranks, later, bound),
     }
-    if size > usize::MAX / 4 {
-        return None;
-    }
-    Some(size)
 }
 
 impl FirstTree {
@@ -83,11 +50,11 @@ impl FirstTree {
     pub fn new(alloc: Global) -> Result<FirstTree, NoMemory>
         ensures { IfOk result (λ tree. tree.items ≡ []) }
     {
-        let nodes = nodes_over(alloc, 1, &[])?;
+        let blocks = MinTree::new(alloc)?;
         Ok(FirstTree {
-            nodes,
-            size: 1,
-            len: 0,
+            ranks: Vec::new(alloc),
+            blocks,
+            room: 0,
         })
     }
 
@@ -95,7 +62,7 @@ impl FirstTree {
     pub fn len(&self) -> usize
         ensures { result ≡ length self.now.items }
     {
-        self.len
+        self.ranks.len()
     }
 
     /// The rank at this place.
@@ -103,7 +70,7 @@ impl FirstTree {
         requires { at < length self.now.items }
         ensures { result ≡ slice_index self.now.items at }
     {
-        self.nodes[self.size + at]
+        self.ranks[at]
     }
 
     /// Sets the rank at this place. It does not allocate.
@@ -111,7 +78,10 @@ impl FirstTree {
         requires { at < length self.old.items }
         ensures { self.new ≡ record self.old { items = set self.old.items at rank } }
     {
-        set_leaf(&mut self.nodes, self.size, at, rank);
+        self.ranks[at] = rank;
+        let block = at / BLOCK;
+        let least = least_in_block(&self.ranks, block);
+        self.blocks.set(block, least);
     }
 
     /// Adds a rank at the end. It does not allocate.
@@ -120,8 +90,15 @@ impl FirstTree {
         ensures items { self.new.items ≡ self.old.items ++ rank ∷ [] }
         ensures room { self.new.room + 1 ≡ self.old.room }
     {
-        set_leaf(&mut self.nodes, self.size, self.len, rank);
-        self.len += 1;
+        let block = self.ranks.len() / BLOCK;
+        self.ranks.push_reserved(rank);
+        self.room -= 1;
+        if block < self.blocks.len() {
+            let least = self.blocks.get(block).min(rank);
+            self.blocks.set(block, least);
+        } else {
+            self.blocks.push(rank);
+        }
     }
 
     /// Makes room for this many more ranks. The only error is out of memory, and then the ranks and the room are as before.
@@ -130,19 +107,12 @@ impl FirstTree {
         ensures room { OnOk result (additional ≤ self.new.room) }
         ensures kept { self.old.room ≤ self.new.room }
     {
-        if additional <= self.size - self.len {
+        if additional <= self.room {
             return Ok(());
         }
-        let Some(wanted) = self.len.checked_add(additional) else {
-            return Err(NoMemory);
-        };
-        let Some(size) = size_for(self.size, wanted) else {
-            return Err(NoMemory);
-        };
-        let alloc = *self.nodes.allocator();
-        let nodes = nodes_over(alloc, size, &self.nodes[self.size..self.size + self.len])?;
-        self.nodes = nodes;
-        self.size = size;
+        self.ranks.reserve(additional)?;
+        self.blocks.reserve(additional / BLOCK + 1)?;
+        self.room = additional;
         Ok(())
     }
 
@@ -150,7 +120,7 @@ impl FirstTree {
     pub fn least(&self) -> u64
         ensures { result ≡ least_rank self.now.items }
     {
-        self.nodes[1]
+        self.blocks.least()
     }
 
     /// The place of the first rank that is at most the bound, which is below `NO_RANK`. None if all ranks are above it.
@@ -159,10 +129,10 @@ impl FirstTree {
         requires { bound < no_rank }
         ensures { result ≡ first_within bound self.now.items }
     {
-        if self.nodes[1] > bound {
-            return None;
+        match self.blocks.first(bound) {
+            None => None,
+            Some(block) => first_in_block(&self.ranks, block, bound),
         }
-        Some(nodes::first_leaf(&self.nodes, self.size, bound))
     }
 
     /// The place of the first rank at or after this place that is at most the bound, which is below `NO_RANK`. None if all of these are
@@ -172,6 +142,13 @@ impl FirstTree {
         ensures found { result ≡ first_within_from from bound self.now.items }
         ensures next { IfSome result (λ place. place + 1 < 2 ^ 64) }
     {
-        nodes::first_from(&self.nodes, self.size, 1, 0, self.size, from, bound)
+        if from >= self.ranks.len() {
+            return None;
+        }
+        let end = block_end(from / BLOCK, self.ranks.len());
+        match first_in(&self.ranks, from, end, bound) {
+            Some(place) => Some(place),
+            None => first_in_later(&self.ranks, &self.blocks, from / BLOCK + 1, bound),
+        }
     }
 }

@@ -10,6 +10,9 @@ use std::marker::Model;
 
 /// The most places: the number of each is stored in 32 bits.
 const MOST_PLACES: usize = 4_294_967_295;
+/// The most places to a bucket, on average. The buckets are widened to twice as many as this asks for, so that there are about half as many
+/// places to each then.
+const PLACES_PER_BUCKET: usize = 4;
 
 /// Places by their hashes.
 ///
@@ -80,7 +83,8 @@ impl HashIndex {
         let wanted = self.hashes.len() + additional;
         self.hashes.reserve(additional)?;
         self.nexts.reserve(additional)?;
-        widen(&self.hashes, &mut self.nexts, &mut self.heads, wanted)?;
+        let buckets = wanted / PLACES_PER_BUCKET + 1;
+        widen(&self.hashes, &mut self.nexts, &mut self.heads, buckets)?;
         self.room = additional;
         Ok(())
     }

@@ -99,7 +99,8 @@ fn terminate_job(alloc: Global, path: &str, body: &[u8]) -> Result<EventKind, Fa
     ensures kept { IfOk result (λ kind. is_event_in_range kind ≡ true) }
 {
     let job = first_id(alloc, path)?;
-    Ok(EventKind::TerminateJob(job, reason_if(alloc, body)?))
+    let reason = reason_if(alloc, body)?;
+    Ok(EventKind::TerminateJob(job, Shared::new(alloc, reason)?))
 }
 
 #[tactic(auto, unfolding(crate::specs::Events::add_task))]

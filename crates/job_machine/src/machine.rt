@@ -60,7 +60,7 @@ pub fn plan_event(alloc: Global, view: &View, event: &Event) -> Result<Plan, Fai
         }
         EventKind::EnableJob(id) => enable_job(alloc, view.tables, view.now, id),
         EventKind::TerminateJob(id, reason) => {
-            terminate_job(alloc, view.tables, view.now, id, reason.as_ref())
+            terminate_job(alloc, view.tables, view.now, id, reason.get().as_ref())
         }
         EventKind::DeleteJob(id) => delete_job(alloc, view.tables, view.now, id),
         EventKind::AddTask(job, spec) => add_task(alloc, view.tables, view.now, job, spec.get()),

@@ -3,7 +3,7 @@
 //! attempt ended, or active again with one failure more while its failures are below the limit of its retries. A completion by an ending
 //! or by the wall time may disable or terminate the task's job.
 ghost use Rattle.std.specs.Prelude.{◌≡◌, Some, IfOk};
-ghost use Rattle.std.specs.Option.{option_map};
+ghost use Rattle.std.specs.Option.{option_copied, option_map};
 ghost use Rattle.bt_rows.specs.declared.due.Due.TheVariants.{TaskSettled};
 ghost use Rattle.batch_model.specs.Dues.{settle_first};
 ghost use Rattle.batch_model.specs.Finding.{Each, is_below};
@@ -55,7 +55,7 @@ fn attempt_ending(indexed: &IndexedTables, task: &TaskRow) -> Option<Ending>
 fn retry_limit(job: &JobRow, task: &TaskRow) -> i32
     ensures { result ≡ retry_limit job.now task.now }
 {
-    task.retries.unwrap_or(job.retries)
+    task.settings.retries().unwrap_or(job.retries)
 }
 
 /// Whether the number of failures is below the limit; -1 is no limit.
@@ -296,12 +296,19 @@ fn settle_by(
     }
 }
 
+/// The job of the task. None if there is none.
+fn job_of_task<'a>(tables: &'a Tables, task: &TaskRow) -> Option<&'a JobRow>
+    ensures { option_copied result ≡ job_of tables.now.state task.now.job }
+{
+    tables.find_job(&task.job)
+}
+
 /// The plan that settles the task.
 fn settle(alloc: Global, indexed: &IndexedTables, task: &TaskRow) -> Result<Option<Plan>, NoMemory>
     requires { IsFirstOver indexed.now.state task.now }
     ensures { IfOk result (IsRule (settle indexed.now.state task.now) indexed.now.state) }
 {
-    match indexed.tables().find_job(&task.job) {
+    match job_of_task(indexed.tables(), task) {
         None => Ok(None),
         Some(job) => settle_by(alloc, indexed, job, task),
     }

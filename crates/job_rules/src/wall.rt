@@ -62,7 +62,7 @@ fn is_out_of_time(now: u64, task: &TaskRow) -> bool
 {
     match task.started {
         None => false,
-        Some(from) => has_passed(from, task.wall, now),
+        Some(from) => has_passed(from, task.settings.wall(), now),
     }
 }
 

@@ -6,10 +6,10 @@ use Rattle.std.proofs.lemmas.Slice.Eq.{bytes_eq-Decides}
 use Rattle.std.proofs.lemmas.Bool.{cases_Bool, cases_eq, cases_lt, cond-true, cond-false, true≢false}
 use Rattle.std.proofs.lemmas.List.{get_or_append_left, get_or_push, get_or-set_same, get_or-set_other, get_or-map}
 use Rattle.std.proofs.lemmas.List.{map_push, length-map, length_push, length-set}
-use Rattle.ranked_groups.specs.declared.entry.Entry.{Entry}
 use Rattle.ranked_groups.specs.Items.{Item, is_of, set_rank}
 use Rattle.ranked_groups.specs.Groups.{
   GroupView,
+  RankedEntry,
   ranks_of,
   places_from,
   count_before,
@@ -54,7 +54,7 @@ numbers_apart name other names n k h g e same =
 
 -- a group without items for one more name
 
-items_grown : (names : List (List ℕ)) (entries : List Entry) (name : List ℕ)
+items_grown : (names : List (List ℕ)) (entries : List RankedEntry) (name : List ℕ)
     → ((place : ℕ) → place < length entries → (get_or entries place no_entry).group < length names)
     → items_of (names ++ name ∷ []) entries ≡ items_of names entries
 items_grown names [] name h = refl
@@ -64,13 +64,13 @@ items_grown names (entry ∷ entries) name h =
     ap (λ (group : List ℕ). record { group = group; rank = entry.rank } ∷ items_of (names ++ name ∷ []) entries) here
     ∙ ap (λ (items : List Item). item_of names entry ∷ items) (items_grown names entries name (λ place l. h (suc place) (omega arith)))
 
-pub items_same : (names : List (List ℕ)) (groups : List GroupView) (entries : List Entry) (name : List ℕ) → IsGrouped names groups entries
+pub items_same : (names : List (List ℕ)) (groups : List GroupView) (entries : List RankedEntry) (name : List ℕ) → IsGrouped names groups entries
     → items_of (names ++ name ∷ []) entries ≡ items_of names entries
 items_same names groups entries name g =
     items_grown names entries name
     (λ place l. (found (get_or names (get_or entries place no_entry).group []) names (get_or entries place no_entry).group (g.homes place l).number).within)
 
-pub grown : (names : List (List ℕ)) (groups : List GroupView) (entries : List Entry) (name : List ℕ) (group : GroupView)
+pub grown : (names : List (List ℕ)) (groups : List GroupView) (entries : List RankedEntry) (name : List ℕ) (group : GroupView)
     → number_in name names ≡ None → IsEmpty group → IsGrouped names groups entries → IsGrouped (names ++ name ∷ []) (groups ++ group ∷ []) entries
 grown names groups entries name group new empty g =
     let items = items_of names entries in
@@ -143,19 +143,19 @@ other_pushed name items item group e g =
           ∙ cond-false (is_of name item) (places_from name 0 items ++ end ∷ []) (places_from name 0 items) e);
     }
 
-pub items_push : (names : List (List ℕ)) (entries : List Entry) (name : List ℕ) (number at rank : ℕ) → number_in name names ≡ Some number
+pub items_push : (names : List (List ℕ)) (entries : List RankedEntry) (name : List ℕ) (number at rank : ℕ) → number_in name names ≡ Some number
     → items_of names (entries ++ record { group = number; at = at; rank = rank } ∷ []) ≡ items_of names entries ++ record { group = name; rank = rank } ∷ []
 items_push names entries name number at rank h =
-    let entry : Entry = record { group = number; at = at; rank = rank } in
+    let entry : RankedEntry = record { group = number; at = at; rank = rank } in
     map_push (item_of names) entries entry
     ∙ ap (λ (t : List ℕ). items_of names entries ++ record { group = t; rank = rank } ∷ []) (found name names number h).is
 
-pub pushed : (names : List (List ℕ)) (groups : List GroupView) (entries : List Entry) (name : List ℕ) (number at rank end : ℕ) (group : GroupView)
+pub pushed : (names : List (List ℕ)) (groups : List GroupView) (entries : List RankedEntry) (name : List ℕ) (number at rank end : ℕ) (group : GroupView)
     → number_in name names ≡ Some number → at ≡ length (get_or groups number no_group).ranks → end ≡ length entries
     → group.ranks ≡ (get_or groups number no_group).ranks ++ rank ∷ [] → group.places ≡ (get_or groups number no_group).places ++ end ∷ []
     → IsGrouped names groups entries → IsGrouped names (set groups number group) (entries ++ record { group = number; at = at; rank = rank } ∷ [])
 pushed names groups entries name number at rank end group is count last ranks places g =
-    let entry : Entry = record { group = number; at = at; rank = rank } in
+    let entry : RankedEntry = record { group = number; at = at; rank = rank } in
     let item : Item = record { group = name; rank = rank } in
     let items = items_of names entries in
     let same = items_push names entries name number at rank is in
@@ -195,7 +195,7 @@ pushed names groups entries name number at rank end group is count last ranks pl
           let here : get_or (entries ++ entry ∷ []) place no_entry ≡ get_or entries place no_entry =
           get_or_append_left entries (entry ∷ []) no_entry place low in
           let home = g.homes place low in
-          subst (λ (x : Entry). IsHome names (items ++ item ∷ []) place x) (sym here)
+          subst (λ (x : RankedEntry). IsHome names (items ++ item ∷ []) place x) (sym here)
           (record {
             number = home.number;
             at = home.at ∙ sym (count_push (get_or names (get_or entries place no_entry).group []) items item place (omega arith));
@@ -205,7 +205,7 @@ pushed names groups entries name number at rank end group is count last ranks pl
           let here : get_or (entries ++ entry ∷ []) place no_entry ≡ entry = get_or_push entries entry no_entry place (omega arith) in
           let spot : place ≡ length items = omega arith in
           let old = g.each name number is in
-          subst (λ (x : Entry). IsHome names (items ++ item ∷ []) place x) (sym here)
+          subst (λ (x : RankedEntry). IsHome names (items ++ item ∷ []) place x) (sym here)
           (record {
             number = ap (λ (t : List ℕ). number_in t names) mine.is ∙ is;
             at =
@@ -219,7 +219,7 @@ pushed names groups entries name number at rank end group is count last ranks pl
 
 -- another rank for an item
 
-ranked_items : (names : List (List ℕ)) (entries : List Entry) (place rank : ℕ)
+ranked_items : (names : List (List ℕ)) (entries : List RankedEntry) (place rank : ℕ)
     → items_of names (set entries place (record {
       group = (get_or entries place no_entry).group;
       at = (get_or entries place no_entry).at;
@@ -229,18 +229,18 @@ ranked_items names [] place rank = refl
 ranked_items names (entry ∷ entries) zero rank = refl
 ranked_items names (entry ∷ entries) (suc place) rank = ap (λ (items : List Item). item_of names entry ∷ items) (ranked_items names entries place rank)
 
-pub items_ranked : (names : List (List ℕ)) (entries : List Entry) (place rank : ℕ) (entry : Entry) → entry ≡ get_or entries place no_entry
+pub items_ranked : (names : List (List ℕ)) (entries : List RankedEntry) (place rank : ℕ) (entry : RankedEntry) → entry ≡ get_or entries place no_entry
     → items_of names (set entries place (record { group = entry.group; at = entry.at; rank = rank })) ≡ set_rank (items_of names entries) place rank
 items_ranked names entries place rank entry is =
-    ap (λ (x : Entry). items_of names (set entries place (record { group = x.group; at = x.at; rank = rank }))) is
+    ap (λ (x : RankedEntry). items_of names (set entries place (record { group = x.group; at = x.at; rank = rank }))) is
     ∙ ranked_items names entries place rank
 
-item_at : (names : List (List ℕ)) (entries : List Entry) (place : ℕ) → place < length entries
+pub item_at : (names : List (List ℕ)) (entries : List RankedEntry) (place : ℕ) → place < length entries
     → get_or (items_of names entries) place no_item ≡ item_of names (get_or entries place no_entry)
 item_at names entries place l = get_or-map (item_of names) entries place no_entry no_item l
 
 -- an entry's number within its group is one of the group's
-pub home_within : (names : List (List ℕ)) (groups : List GroupView) (entries : List Entry) (place : ℕ) → place < length entries
+pub home_within : (names : List (List ℕ)) (groups : List GroupView) (entries : List RankedEntry) (place : ℕ) → place < length entries
     → IsGrouped names groups entries
     → ((get_or entries place no_entry).group < length groups)
     × ((get_or entries place no_entry).at < length (get_or groups (get_or entries place no_entry).group no_group).ranks)
@@ -259,21 +259,21 @@ home_within names groups entries place l g =
     let at = home.at in
     (omega arith, omega arith)
 
-pub ranked : (names : List (List ℕ)) (groups : List GroupView) (entries : List Entry) (place rank : ℕ) (entry : Entry) (group : GroupView)
+pub ranked : (names : List (List ℕ)) (groups : List GroupView) (entries : List RankedEntry) (place rank : ℕ) (entry : RankedEntry) (group : GroupView)
     → place < length entries → entry ≡ get_or entries place no_entry → group.ranks ≡ set (get_or groups entry.group no_group).ranks entry.at rank
     → group.places ≡ (get_or groups entry.group no_group).places → IsGrouped names groups entries
     → IsGrouped names (set groups entry.group group) (set entries place (record { group = entry.group; at = entry.at; rank = rank }))
 ranked names groups entries place rank entry group l read ranks places g =
-    let new : Entry = record { group = entry.group; at = entry.at; rank = rank } in
+    let new : RankedEntry = record { group = entry.group; at = entry.at; rank = rank } in
     let items = items_of names entries in
     let changed = set_rank items place rank in
     let same = items_ranked names entries place rank entry read in
     let long : length items ≡ length entries = length-map entries (item_of names) in
-    let home : IsHome names items place entry = subst (λ (x : Entry). IsHome names items place x) (sym read) (g.homes place l) in
+    let home : IsHome names items place entry = subst (λ (x : RankedEntry). IsHome names items place x) (sym read) (g.homes place l) in
     let text = get_or names entry.group [] in
     let item : get_or items place no_item ≡ item_of names entry = item_at names entries place l ∙ ap (item_of names) (sym read) in
     let within : entry.group < length groups =
-    subst (λ (x : Entry). x.group < length groups) (sym read) (home_within names groups entries place l g).0 in
+    subst (λ (x : RankedEntry). x.group < length groups) (sym read) (home_within names groups entries place l g).0 in
     record {
       count = length-set groups entry.group group ∙ g.count;
       each = λ other k h.
@@ -326,20 +326,20 @@ ranked names groups entries place rank entry group l read ranks places g =
           let here : get_or (set entries place new) i no_entry ≡ new =
           ap (λ (j : ℕ). get_or (set entries place new) j no_entry) e ∙ get_or-set_same entries place new no_entry l in
           let found_here = subst (λ (j : ℕ). IsHome names changed i (get_or entries j no_entry)) e kept in
-          let at_place = subst (λ (x : Entry). IsHome names changed i x) (sym read) found_here in
-          subst (λ (x : Entry). IsHome names changed i x) (sym here) (record { number = at_place.number; at = at_place.at }))
+          let at_place = subst (λ (x : RankedEntry). IsHome names changed i x) (sym read) found_here in
+          subst (λ (x : RankedEntry). IsHome names changed i x) (sym here) (record { number = at_place.number; at = at_place.at }))
           (λ (e : i ≢ place).
-          subst (λ (x : Entry). IsHome names changed i x) (sym (get_or-set_other entries place i new no_entry e)) kept)
+          subst (λ (x : RankedEntry). IsHome names changed i x) (sym (get_or-set_other entries place i new no_entry e)) kept)
           (cases_eq i place));
     }
 
 -- the same groups with other room
 
-pub roomier : (names names' : List (List ℕ)) (groups old new : List GroupView) (entries entries' : List Entry) → names' ≡ names → old ≡ groups
+pub roomier : (names names' : List (List ℕ)) (groups old new : List GroupView) (entries entries' : List RankedEntry) → names' ≡ names → old ≡ groups
     → AreSame old new → entries' ≡ entries → IsGrouped names groups entries → IsGrouped names' new entries'
 roomier names names' groups old new entries entries' same_names same_groups same same_entries g =
     subst (λ (ns : List (List ℕ)). IsGrouped ns new entries') (sym same_names)
-    (subst (λ (es : List Entry). IsGrouped names new es) (sym same_entries)
+    (subst (λ (es : List RankedEntry). IsGrouped names new es) (sym same_entries)
     (let was : IsGrouped names old entries = subst (λ (gs : List GroupView). IsGrouped names gs entries) (sym same_groups) g in
     record {
       count = same.length ∙ was.count;

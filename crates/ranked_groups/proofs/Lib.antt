@@ -1,4 +1,5 @@
 pub mod Members
 pub mod Numbers
 pub mod Grouped
+pub mod WithRanks
 pub mod NameRows

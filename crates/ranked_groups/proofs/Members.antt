@@ -74,6 +74,31 @@ count_within group (item ∷ items) zero l e = within_here (is_of group item) it
 count_within group (item ∷ items) (suc place) l e =
     within_later (is_of group item) item.rank (count_before group items place) (ranks_of group items) (count_within group items place (omega arith) e)
 
+-- the rank of an item is among its group's the one at the count before it
+rank_here : (a : Bool) (y : ℕ) (ys : List ℕ) → a ≡ true → get_or (cond a (y ∷ ys) ys) 0 0 ≡ y
+rank_here true y ys e = refl
+rank_here false y ys e = absurd (cc)
+
+rank_later : (a : Bool) (y n : ℕ) (ys : List ℕ) → get_or (cond a (y ∷ ys) ys) (cond a (suc n) n) 0 ≡ get_or ys n 0
+rank_later true y n ys = refl
+rank_later false y n ys = refl
+
+pub rank_at : (group : List ℕ) (items : List Item) (place : ℕ) → place < length items → is_of group (get_or items place no_item) ≡ true
+    → get_or (ranks_of group items) (count_before group items place) 0 ≡ (get_or items place no_item).rank
+rank_at group [] place l e = absurd (omega arith)
+rank_at group (item ∷ items) zero l e = rank_here (is_of group item) item.rank (ranks_of group items) e
+rank_at group (item ∷ items) (suc place) l e =
+    rank_later (is_of group item) item.rank (count_before group items place) (ranks_of group items) ∙ rank_at group items place (omega arith) e
+
+-- a group has no more items than there are
+fewer_by : (a : Bool) (y n : ℕ) (ys : List ℕ) → length ys ≤ n → length (cond a (y ∷ ys) ys) ≤ suc n
+fewer_by true y n ys l = omega arith
+fewer_by false y n ys l = omega arith
+
+pub ranks_fewer : (group : List ℕ) (items : List Item) → length (ranks_of group items) ≤ length items
+ranks_fewer group [] = omega arith
+ranks_fewer group (item ∷ items) = fewer_by (is_of group item) item.rank (length items) (ranks_of group items) (ranks_fewer group items)
+
 -- another rank for an item of the group
 own_here : (a : Bool) (x y : ℕ) (ys : List ℕ) → a ≡ true → cond a (x ∷ ys) ys ≡ set (cond a (y ∷ ys) ys) 0 x
 own_here true x y ys e = refl

@@ -47,32 +47,45 @@ abbrev pub number_in : List ℕ → List (List ℕ) → Option ℕ
 number_in name [] = None
 number_in name (old ∷ names) = if bytes_eq old name then Some 0 else option_map suc (number_in name names)
 
+-- an entry beside the rank of its item
+pub record RankedEntry : Type 0 where
+  pub group : ℕ
+  pub at : ℕ
+  pub rank : ℕ
+
 -- what an entry says of its item
-abbrev pub item_of : List (List ℕ) → Entry → Item
+abbrev pub item_of : List (List ℕ) → RankedEntry → Item
 item_of names entry = record { group = get_or names entry.group []; rank = entry.rank }
 
-abbrev pub items_of : List (List ℕ) → List Entry → List Item
+abbrev pub items_of : List (List ℕ) → List RankedEntry → List Item
 items_of names entries = map (item_of names) entries
 
 -- no items
 abbrev pub no_group : GroupView
 no_group = record { ranks = []; places = []; room = 0 }
 
+-- the rank of an entry's item is the one at the entry's number in its group
+abbrev pub with_rank : List GroupView → Entry → RankedEntry
+with_rank groups entry = record { group = entry.group; at = entry.at; rank = get_or (get_or groups entry.group no_group).ranks entry.at 0 }
+
+abbrev pub with_ranks : List GroupView → List Entry → List RankedEntry
+with_ranks groups entries = map (with_rank groups) entries
+
 -- the group has the ranks and the places of the items with its name
 pub record IsGroup (name : List ℕ) (items : List Item) (group : GroupView) : Type 0 where
   pub ranks : group.ranks ≡ ranks_of name items
   pub places : group.places ≡ places_from name 0 items
 
-abbrev pub no_entry : Entry
+abbrev pub no_entry : RankedEntry
 no_entry = record { group = 0; at = 0; rank = 0 }
 
 -- the entry of the item at this place has its group's number, and its number within the group
-pub record IsHome (names : List (List ℕ)) (items : List Item) (place : ℕ) (entry : Entry) : Type 0 where
+pub record IsHome (names : List (List ℕ)) (items : List Item) (place : ℕ) (entry : RankedEntry) : Type 0 where
   pub number : number_in (get_or names entry.group []) names ≡ Some entry.group
   pub at : entry.at ≡ count_before (get_or names entry.group []) items place
 
 -- the groups are those of the items
-pub record IsGrouped (names : List (List ℕ)) (groups : List GroupView) (entries : List Entry) : Type 0 where
+pub record IsGrouped (names : List (List ℕ)) (groups : List GroupView) (entries : List RankedEntry) : Type 0 where
   pub count : length groups ≡ length names
   pub each : (name : List ℕ) (number : ℕ) → number_in name names ≡ Some number → IsGroup name (items_of names entries) (get_or groups number no_group)
   pub absent : (name : List ℕ) → number_in name names ≡ None → IsGroup name (items_of names entries) no_group
@@ -80,8 +93,11 @@ pub record IsGrouped (names : List (List ℕ)) (groups : List GroupView) (entrie
 
 -- with more names and groups the entries have the same items
 pub record AreKept (names : List (List ℕ)) (groups : List GroupView) (more_names : List (List ℕ)) (more_groups : List GroupView) : Type 0 where
-  pub grouped : (entries : List Entry) → IsGrouped names groups entries → IsGrouped more_names more_groups entries
-  pub items : (entries : List Entry) → IsGrouped names groups entries → items_of more_names entries ≡ items_of names entries
+  pub grouped : (entries : List Entry)
+      → IsGrouped names groups (with_ranks groups entries) → IsGrouped more_names more_groups (with_ranks more_groups entries)
+  pub items : (entries : List Entry)
+      → IsGrouped names groups (with_ranks groups entries)
+      → items_of more_names (with_ranks more_groups entries) ≡ items_of names (with_ranks groups entries)
 
 -- the group has no items
 pub record IsEmpty (group : GroupView) : Type 0 where
@@ -98,7 +114,7 @@ pub record AreSame (old new : List GroupView) : Type 0 where
   pub ranks : (number : ℕ) → (get_or new number no_group).ranks ≡ (get_or old number no_group).ranks
   pub places : (number : ℕ) → (get_or new number no_group).places ≡ (get_or old number no_group).places
 
--- `room` more items can be pushed without allocating, to whatever groups
+-- `room` more items can be pushed without allocating, to whatever groups; a place and the number of a group fit into 32 bits
 pub record HasRoom {Y Z W : Type 0} (names : NamesView) (groups : Vec GroupView Y) (spares : Vec GroupView Z) (entries : Vec Entry W) (room : ℕ) : Type 0 where
   pub name_room : room ≤ names.room
   pub group_room : vec_len groups + room ≤ vec_capacity groups
@@ -107,3 +123,5 @@ pub record HasRoom {Y Z W : Type 0} (names : NamesView) (groups : Vec GroupView 
   pub empty : All IsEmpty spares.items
   pub wide : All (Takes room) spares.items
   pub entry_room : vec_len entries + room ≤ vec_capacity entries
+  pub few : vec_len entries + room ≤ 4294967295
+  pub few_groups : vec_len groups ≤ vec_len entries

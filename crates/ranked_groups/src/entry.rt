@@ -1,9 +1,8 @@
 //! Where an item is kept.
 
-/// An item's group, its number within the group, and its rank.
+/// An item's group, and its number within the group. The group has the item's rank at this number.
 #[derive(Clone, Copy)]
 pub struct Entry {
-    pub group: usize,
-    pub at: usize,
-    pub rank: u64,
+    pub group: u32,
+    pub at: u32,
 }

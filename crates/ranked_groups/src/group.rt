@@ -14,7 +14,7 @@ use std::marker::Model;
 #[derive(Drop)]
 pub struct Group {
     tree: FirstTree,
-    places: Vec<usize>,
+    places: Vec<u32>,
 }
 
 impl Model for Group {
@@ -48,7 +48,7 @@ impl Group {
     }
 
     /// Adds an item at the end. It does not allocate.
-    pub fn push(&mut self, rank: u64, place: usize)
+    pub fn push(&mut self, rank: u64, place: u32)
         requires { 0 < self.old.room }
         ensures ranks { self.new.ranks ≡ self.old.ranks ++ rank ∷ [] }
         ensures places { self.new.places ≡ self.old.places ++ place ∷ [] }
@@ -73,7 +73,7 @@ impl Group {
     {
         match self.tree.first(bound) {
             None => None,
-            Some(at) => Some(self.places[at]),
+            Some(at) => Some(self.places[at] as usize),
         }
     }
 

@@ -12,6 +12,9 @@ use bt_base::NoMemory;
 use std::alloc::Global;
 use std::marker::Model;
 
+/// The most items: a group and a place are each stored in 32 bits.
+const MOST_ITEMS: usize = 4_294_967_295;
+
 /// Items in the order of adding, each with a group and a rank. A group is known by its name, a text of at most 129 bytes, and a
 /// rank is from 0 to `first_tree::NO_RANK`, which no bound reaches.
 ///
@@ -28,13 +31,13 @@ pub struct RankedGroups {
 
 impl Model for RankedGroups {
     ghost use Rattle.ranked_groups.specs.Items.{GroupsView};
-    ghost use Rattle.ranked_groups.specs.Groups.{items_of, IsGrouped, HasRoom};
+    ghost use Rattle.ranked_groups.specs.Groups.{items_of, with_ranks, IsGrouped, HasRoom};
 
     ghost Value = { GroupsView };
 
-    ghost view = { λ t. record { items = items_of t.names.names t.entries.items; room = t.room } };
+    ghost view = { λ t. record { items = items_of t.names.names (with_ranks t.groups.items t.entries.items); room = t.room } };
 
-    ghost invariant = { λ t. IsGrouped t.names.names t.groups.items t.entries.items × HasRoom t.names t.groups t.spares t.entries t.room };
+    ghost invariant = { λ t. IsGrouped t.names.names t.groups.items (with_ranks t.groups.items t.entries.items) × HasRoom t.names t.groups t.spares t.entries t.room };
 }
 
 /// The number of the group with this name, which is added if there is none. It does not allocate.
@@ -53,6 +56,7 @@ fn group_for(
     ensures number { number_in name.now names.new.names ≡ Some result }
     ensures kept { AreKept names.old.names groups.old.items names.new.names groups.new.items }
     ensures names { names.old.room ≤ names.new.room + 1 }
+    ensures count { vec_len groups.new ≤ vec_len groups.old + 1 }
     ensures groups { vec_capacity groups.old + vec_len groups.new ≤ vec_capacity groups.new + vec_len groups.old + 1 }
     ensures each { (room : ℕ) → All (Takes room) groups.old.items → All (Takes room) spares.old.items → All (Takes room) groups.new.items }
     ensures spares { vec_len spares.old ≤ vec_len spares.new + 1 }
@@ -132,11 +136,10 @@ impl RankedGroups {
     {
         let number = group_for(&mut self.names, &mut self.groups, &mut self.spares, group);
         let at = self.groups[number].len();
-        self.groups[number].push(rank, self.entries.len());
+        self.groups[number].push(rank, self.entries.len() as u32);
         self.entries.push_reserved(Entry {
-            group: number,
-            at,
-            rank,
+            group: number as u32,
+            at: at as u32,
         });
         self.room -= 1;
     }
@@ -147,8 +150,7 @@ impl RankedGroups {
         ensures { self.new ≡ record self.old { items = set_rank self.old.items place rank } }
     {
         let entry = self.entries[place];
-        self.groups[entry.group].set(entry.at, rank);
-        self.entries[place] = Entry { rank, ..entry };
+        self.groups[entry.group as usize].set(entry.at as usize, rank);
     }
 
     /// The place of the first item of the group whose rank is at most the bound, which is below `first_tree::NO_RANK`. None if
@@ -165,12 +167,15 @@ impl RankedGroups {
     }
 
     /// Makes room for this many more items, of any groups. It makes room for all of them in each group, and in that many groups
-    /// without items, so the memory that it takes grows with the square of `additional`. The only error is out of memory, and
-    /// then the items are as before, and there may be no room.
+    /// without items, so the memory that it takes grows with the square of `additional`. The only error is out of memory, also
+    /// where there would be more than 4,294,967,295 items, and then the items are as before, and there may be no room.
     pub fn reserve(&mut self, additional: usize) -> Result<(), NoMemory>
         ensures items { self.new.items ≡ self.old.items }
         ensures room { OnOk result (additional ≤ self.new.room) }
     {
+        if additional > MOST_ITEMS - self.entries.len() {
+            return Err(NoMemory);
+        }
         let alloc = *self.entries.allocator();
         self.room = 0;
         self.names.reserve(additional)?;

@@ -1,7 +1,7 @@
 -- What is written of a row reads back, if each of its fields does.
-use Rattle.std.proofs.Common.{◌≡◌, Ok, refl, ap, ◌∙◌}
-use Rattle.serde_json.specs.Data.{Data, Items, boolean, string}
-use Rattle.row_fields.specs.Fields.{option_in, option_data, list_in, list_data, with_item}
+use Rattle.std.proofs.Common.{◌≡◌, Ok, refl}
+use Rattle.serde_json.specs.Data.{boolean, string}
+use Rattle.row_fields.specs.Fields.{option_in, option_data, list_in, list_data}
 use Rattle.row_fields.specs.Scalars.{count_data, count_in, u8_in, u32_in, whole_data, i32_in, flag_in, num_in}
 use Rattle.row_fields.specs.Texts.{text_in, id_in, command_in}
 use Rattle.row_fields.specs.Tuples.{pair_data, pair_in, triple_data, triple_in}
@@ -65,10 +65,6 @@ use Rattle.bt_rows.specs.declared.run.RunRow.{RunRow}
 use Rattle.bt_rows.specs.declared.prep.PrepRow.{PrepRow}
 use Rattle.bt_rows.specs.declared.sample.SampleRow.{SampleRow}
 use Rattle.bt_rows.specs.declared.scale.ScaleRow.{ScaleRow}
-
--- a value was added to these items
-pub added : {before after items : Items} (value : Data) → after ≡ with_item before value → before ≡ items → after ≡ with_item items value
-added value e h = e ∙ ap (λ i. with_item i value) h
 
 pub pool_back : (row : PoolRow) →
     id_in (string row.id) ≡ Ok row.id →

@@ -25,7 +25,7 @@ use Rattle.row_fields.specs.Parts.{
   closed_plain,
 }
 use Rattle.bt_rows.specs.declared.task.TaskRow.{TaskRow}
-use Rattle.row_texts.specs.declared.task.TaskSettings.{TaskSettings}
+use Rattle.bt_rows.specs.declared.settings.TaskSettings.{TaskSettings}
 use Rattle.row_texts.specs.declared.task.TaskProgress.{TaskProgress}
 
 -- the items, and these values after them

@@ -17,27 +17,13 @@ ghost use Rattle.row_texts.specs.Tasks.{
 };
 
 use crate::table_row::TableRow;
-use bt_base::{Fail, Id, NoMemory, SharedList};
+use bt_base::{Fail, NoMemory};
 use bt_rows::run::Ending;
-use bt_rows::task::{Closed, Given, Multi, TaskRow, TaskStage, Want};
+use bt_rows::settings::{Settings, TaskSettings};
+use bt_rows::task::{Closed, Multi, TaskRow, TaskStage, Want};
 use row_fields::{ArrayBuilder, RowFault, field_at, option_at, require_length, shared_list_at};
 use serde_json::Value;
 use std::alloc::Global;
-
-/// The fields of a task's row that may be absent or empty when it is added.
-#[derive(Drop)]
-struct TaskSettings {
-    retries: Option<i32>,
-    wall: Option<u64>,
-    retention: Option<u64>,
-    codes: SharedList<(i32, Given)>,
-    ranges: SharedList<(i32, i32, Given)>,
-    launch: Option<Given>,
-    other: Option<Given>,
-    needs: SharedList<Id>,
-    spans: SharedList<(u32, u32)>,
-    multi: Option<Multi>,
-}
 
 /// The fields of a task's row that say how far it has come.
 #[derive(Drop)]
@@ -51,22 +37,33 @@ struct TaskProgress {
     closed: Option<Closed>,
 }
 
+/// A copy of how the task runs on several nodes.
+fn multi_of(settings: &Settings) -> Result<Option<Multi>, NoMemory>
+    ensures { IfOk result (λ multi. multi ≡ settings.now.multi) }
+{
+    match settings.multi() {
+        None => Ok(None),
+        Some(multi) => Ok(Some(multi.clone()?)),
+    }
+}
+
 /// Adds the settings of the row to its array.
 fn add_settings(array: ArrayBuilder, row: &TaskRow) -> Result<ArrayBuilder, NoMemory>
     ensures written { IfOk result (λ after. items_built after ≡ with_items (items_built array) (task_settings_values row.now)) }
     ensures back { OnOk result (task_settings_in (task_data row.now) ≡ Ok (task_settings_of row.now)) }
 {
+    let multi = multi_of(&row.settings)?;
     let after = array
-        .option(&row.retries)?
-        .option(&row.wall)?
-        .option(&row.retention)?
-        .list(row.codes.as_slice())?
-        .list(row.ranges.as_slice())?
-        .option(&row.launch)?
-        .option(&row.other)?
-        .list(row.needs.as_slice())?
-        .list(row.spans.as_slice())?
-        .option(&row.multi)?;
+        .option(&row.settings.retries())?
+        .option(&row.settings.wall())?
+        .option(&row.settings.retention())?
+        .list(row.settings.codes())?
+        .list(row.settings.ranges())?
+        .option(&row.settings.launch())?
+        .option(&row.settings.other())?
+        .list(row.settings.needs())?
+        .list(row.settings.spans())?
+        .option(&multi)?;
     Ok(after)
 }
 
@@ -163,23 +160,14 @@ impl TableRow for TaskRow {
         let id = field_at(alloc, 1, value)?;
         let line = field_at(alloc, 2, value)?;
         let slots = field_at(alloc, 3, value)?;
-        let settings = task_settings_in(alloc, value)?;
+        let settings = Settings::of(alloc, task_settings_in(alloc, value)?)?;
         let progress = task_progress_in(alloc, value)?;
         Ok(TaskRow {
             job,
             id,
             line,
             slots,
-            retries: settings.retries,
-            wall: settings.wall,
-            retention: settings.retention,
-            codes: settings.codes,
-            ranges: settings.ranges,
-            launch: settings.launch,
-            other: settings.other,
-            needs: settings.needs,
-            spans: settings.spans,
-            multi: settings.multi,
+            settings,
             stage: progress.stage,
             attempt: progress.attempt,
             failures: progress.failures,

@@ -1,5 +1,6 @@
 //! Tasks.
 ghost use Rattle.std.specs.Prelude.{◌≡◌, ◌&&◌, nat_le, length};
+ghost use Rattle.std.specs.Option.{option_copied};
 ghost use Rattle.std.specs.List.{list_all};
 ghost use Rattle.bt_rows.specs.declared.limits.TheConstants.{DEPENDENCY_RANGE_LIMIT as SPAN_LIMIT};
 ghost use Rattle.bt_rows.specs.Ranges.{passes_if_some, is_slot_count, is_retry_limit, is_duration, is_multi_in_range, is_span_in_range};
@@ -13,8 +14,8 @@ use bt_rows::limits::{DEPENDENCY_ID_LIMIT, DEPENDENCY_RANGE_LIMIT, INSTANCE_LIMI
 use bt_rows::task::{Closed, Multi, TaskRow, TaskStage};
 
 /// Whether it is 1 to 32 instances, if the task has several.
-fn is_multi_in_range(multi: &Option<Multi>) -> bool
-    ensures { result ≡ passes_if_some is_multi_in_range multi.now }
+fn is_multi_in_range(multi: Option<&Multi>) -> bool
+    ensures { result ≡ passes_if_some is_multi_in_range (option_copied multi.entry) }
 {
     match multi {
         None => true,
@@ -63,10 +64,10 @@ fn has_limits_in_range(task: &TaskRow) -> bool
     ensures { result ≡ (is_slot_count task.now.slots && passes_if_some is_retry_limit task.now.retries && passes_if_some is_duration task.now.wall && passes_if_some is_duration task.now.retention && passes_if_some is_multi_in_range task.now.multi) }
 {
     is_slot_count(task.slots)
-        && is_retry_limit_if_some(task.retries)
-        && is_duration_if_some(task.wall)
-        && is_duration_if_some(task.retention)
-        && is_multi_in_range(&task.multi)
+        && is_retry_limit_if_some(task.settings.retries())
+        && is_duration_if_some(task.settings.wall())
+        && is_duration_if_some(task.settings.retention())
+        && is_multi_in_range(task.settings.multi())
 }
 
 /// Whether the task's values are in their ranges.
@@ -74,9 +75,9 @@ fn is_task_in_range(task: &TaskRow) -> bool
     ensures { result ≡ is_task_in_range task.now }
 {
     has_limits_in_range(task)
-        && are_needs_short(task.needs.as_slice())
-        && are_spans_few(task.spans.as_slice())
-        && are_spans_in_range(task.spans.as_slice())
+        && are_needs_short(task.settings.needs())
+        && are_spans_few(task.settings.spans())
+        && are_spans_in_range(task.settings.spans())
 }
 
 /// Whether the task was closed not after `now`, if it was closed.

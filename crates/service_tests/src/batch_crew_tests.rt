@@ -4,14 +4,15 @@ ghost use Rattle.std.specs.Prelude.{IfOk};
 ghost use Rattle.counted_lock.specs.Passes.{IsPassOf};
 
 use batch_crew::{LaneEnd, run_lane, run_timer};
-use batch_desk::{Answer, Desk, Entry, Journal};
+use batch_desk::{Answer, Desk, Entries, Journal};
 use batch_keeper::{Keeper, SureKeeper};
-use bt_base::{CommandLine, Id, Moment, Shared, SharedList, Word};
+use bt_base::{CommandLine, Id, Moment, Shared, Word};
 use bt_clock::ListClock;
 use bt_rows::event::{Event, EventKind, JobSpec, PoolSpec, TaskSpec};
 use bt_rows::pool::Fill;
 use bt_rows::reply::Reply;
 use bt_rows::run::Ending;
+use bt_rows::settings::{Settings, TaskSettings};
 use bt_rows::tables::Tables;
 use bt_rows::task::{How, TaskRow};
 use child_runs::{ChildEnding, ChildRun, Ran, SureSpawner, SureStopper};
@@ -65,20 +66,14 @@ fn job_added(alloc: Global) -> Result<Event, Fail> {
 
 /// Adds a task to the job with the first id, which is not tried again, and may run for one minute.
 fn task_event(alloc: Global, job: Id, id: Id, line: CommandLine) -> Result<Event, Fail> {
+    let mut settings = TaskSettings::plain();
+    settings.retries = Some(0);
+    settings.wall = Some(60_000);
     let spec = TaskSpec {
         id,
         line,
         slots: 1,
-        retries: Some(0),
-        wall: Some(60_000),
-        retention: None,
-        codes: SharedList::empty(),
-        ranges: SharedList::empty(),
-        launch: None,
-        other: None,
-        needs: SharedList::empty(),
-        spans: SharedList::empty(),
-        multi: None,
+        settings: Settings::of(alloc, settings)?,
     };
     Ok(Event::new(EventKind::AddTask(job, Shared::new(alloc, spec)?)))
 }
@@ -215,17 +210,25 @@ fn is_run(run: &ChildRun) -> bool {
         && words[0].is("w")
 }
 
-fn is_take(entry: &Entry) -> bool {
-    matches!(entry.event.kind(), EventKind::Take(1))
+/// Whether the call at this place takes the run 1.
+fn is_take(entries: &Entries, at: usize) -> bool {
+    match entries.get(at) {
+        Some(entry) => matches!(entry.event.kind(), EventKind::Take(1)),
+        None => false,
+    }
 }
 
-fn is_end(entry: &Entry) -> bool {
-    matches!(entry.event.kind(), EventKind::End(1, Ending::Code(4)))
+/// Whether the call at this place tells that the run 1 ended with code 4.
+fn is_end(entries: &Entries, at: usize) -> bool {
+    match entries.get(at) {
+        Some(entry) => matches!(entry.event.kind(), EventKind::End(1, Ending::Code(4))),
+        None => false,
+    }
 }
 
 /// Whether these are three calls, and then one take and one ending.
-fn takes_and_ends(entries: &[Entry]) -> bool {
-    entries.len() == 5 && is_take(&entries[3]) && is_end(&entries[4])
+fn takes_and_ends(entries: &Entries) -> bool {
+    entries.len() == 5 && is_take(entries, 3) && is_end(entries, 4)
 }
 
 /// Whether the task was completed by an ending with code 4, which is a failure.
@@ -266,7 +269,7 @@ fn shows_the_run(alloc: Global, desk: SharedDesk<SureKeeper>, pass: Pass) -> Res
     requires { IsPassOf desk pass }
 {
     let (keeper, journal) = close(alloc, desk, pass)?;
-    let told = takes_and_ends(journal.entries.as_slice());
+    let told = takes_and_ends(&journal.entries);
     drop(journal);
     Ok(keeps_failure(alloc, keeper) && told)
 }
@@ -286,9 +289,12 @@ fn a_lane_runs_a_child_and_tells_its_ending(rt: HostRuntime) -> Result<(), Fail>
     Ok(())
 }
 
-/// Whether it is a tick after which one due step was made.
-fn is_tick(entry: &Entry) -> bool {
-    matches!(entry.event.kind(), EventKind::Tick) && entry.dues == 1
+/// Whether the call at this place is a tick after which one due step was made.
+fn is_tick(entries: &Entries, at: usize) -> bool {
+    match entries.get(at) {
+        Some(entry) => matches!(entry.event.kind(), EventKind::Tick) && entry.dues == 1,
+        None => false,
+    }
 }
 
 /// Whether the journal of the desk has four calls, and then one tick.
@@ -297,8 +303,7 @@ fn shows_the_tick(alloc: Global, desk: SharedDesk<SureKeeper>, pass: Pass) -> Re
 {
     let (keeper, journal) = close(alloc, desk, pass)?;
     drop(keeper);
-    let entries = journal.entries.as_slice();
-    let ticks = entries.len() == 5 && is_tick(&entries[4]);
+    let ticks = journal.entries.len() == 5 && is_tick(&journal.entries, 4);
     drop(journal);
     Ok(ticks)
 }

@@ -1,9 +1,10 @@
 //! Tests of what no clause says: that each call which allocates succeeds while memory is ample. The expected words follow by hand from
 //! the rule for each name.
-use bt_base::{CommandLine, Id, NoMemory, SharedList, Text, Word, words};
+use bt_base::{CommandLine, Id, NoMemory, Text, Word, words};
 use bt_rows::node::{NodeRow, NodeStage};
 use bt_rows::reply::QueuedRun;
 use bt_rows::run::{RunKind, RunRow, RunState};
+use bt_rows::settings::{Settings, TaskSettings};
 use bt_rows::tables::{Change, Tables};
 use bt_rows::task::{Multi, TaskRow, TaskStage};
 use child_words::{Names, fill, with_words};
@@ -122,34 +123,32 @@ fn run(ids: (Id, Id, Id), line: CommandLine, number: u64, node: u64, state: RunS
 }
 
 /// A task with these ids, of job and task, which runs on two nodes.
-fn task(alloc: Global, ids: (Id, Id), line: CommandLine, first: CommandLine) -> TaskRow {
+fn task(
+    alloc: Global,
+    ids: (Id, Id),
+    line: CommandLine,
+    first: CommandLine,
+) -> Result<TaskRow, NoMemory> {
     let (job, id) = ids;
-    TaskRow {
+    let mut settings = TaskSettings::plain();
+    settings.multi = Some(Multi {
+        count: 2,
+        line: first,
+    });
+    Ok(TaskRow {
         job,
         id,
         line,
         slots: 1,
-        retries: None,
-        wall: None,
-        retention: None,
-        codes: SharedList::empty(),
-        ranges: SharedList::empty(),
-        launch: None,
-        other: None,
-        needs: SharedList::empty(),
-        spans: SharedList::empty(),
-        multi: Some(Multi {
-            count: 2,
-            line: first,
-        }),
         stage: TaskStage::Placed,
-        attempt: 1,
-        failures: 0,
         wanted: None,
         fail: None,
+        settings: Settings::of(alloc, settings)?,
+        attempt: 1,
+        failures: 0,
         started: None,
         closed: None,
-    }
+    })
 }
 
 /// Adds the task t of the job j.
@@ -160,7 +159,7 @@ fn put_task(alloc: Global, tables: &mut Tables) -> Result<(), Fail> {
     put(
         alloc,
         tables,
-        Change::put_task(alloc, task(alloc, ids, line, first))?,
+        Change::put_task(alloc, task(alloc, ids, line, first)?)?,
     )
 }
 

@@ -221,7 +221,7 @@ fn close_both(desk: SharedDesk<SureKeeper>, passes: Vec<Pass>, second: Pass) -> 
     match desk.close(passes) {
         Ok((keeper, journal)) => {
             drop(keeper);
-            let calls = journal.entries.as_slice().len();
+            let calls = journal.entries.len();
             drop(journal);
             Ok(calls)
         }

@@ -2,6 +2,7 @@
 ghost use Rattle.std.specs.Prelude.{◌≡◌, ◌+◌, ◌<◌, ◌≤◌, List, [], Option, Some, None, length, take, set, IfOk, IfSome, OnOk};
 ghost use Rattle.std.specs.List.{find};
 ghost use Rattle.std.specs.Option.{option_copied};
+ghost use Rattle.kept_table.specs.Keys.{id_text};
 ghost use Rattle.kept_table.specs.Slots.{place_of, put_at};
 ghost use Rattle.bt_rows.specs.Keys.{same_task};
 ghost use Rattle.batch_model.specs.Variants.{TaskRow};
@@ -36,7 +37,7 @@ impl Model for ActiveTasks {
 fn is_active_single(task: &TaskRow) -> bool
     ensures { result ≡ is_active_single task.now }
 {
-    task.stage == TaskStage::Active && task.multi.is_none()
+    task.stage == TaskStage::Active && task.settings.is_single()
 }
 
 /// The slots that such a task asks for, and no rank of another one.
@@ -48,6 +49,13 @@ fn active_rank(task: &TaskRow) -> u64
     } else {
         NO_RANK
     }
+}
+
+/// The group of the task: the text of its job's id.
+fn group_of(task: &TaskRow) -> KeyText
+    ensures { result ≡ id_text task.now.job }
+{
+    KeyText::of_id(&task.job)
 }
 
 impl ActiveTasks {
@@ -77,7 +85,7 @@ impl ActiveTasks {
     {
         match before {
             None => {
-                let group = KeyText::of_id(&task.job);
+                let group = group_of(task);
                 self.groups.push(group.as_slice(), active_rank(task));
             }
             Some(place) => self.groups.set(place, active_rank(task)),
@@ -93,7 +101,7 @@ impl ActiveTasks {
         match tables.task_at(place) {
             None => self.groups.push(&[], NO_RANK),
             Some(task) => {
-                let group = KeyText::of_id(&task.job);
+                let group = group_of(task);
                 self.groups.push(group.as_slice(), active_rank(task));
             }
         }

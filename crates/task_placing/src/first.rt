@@ -11,7 +11,7 @@ ghost use Rattle.task_placing.specs.Entries.{ledger_for, ledger_of};
 ghost use Rattle.task_placing.specs.Fitting.{IsPoolRow};
 
 use crate::entries::{has_unprepared, ledger_for, ledger_of};
-use crate::fitting::{chosen_node, first_fitting, has_free_slot, open_pool};
+use crate::fitting::{first_fitting, has_free_slot, node_for, open_pool};
 use crate::place::place;
 use crate::turns::next_job;
 use bt_base::NoMemory;
@@ -39,7 +39,7 @@ fn place_on_fitting(
     let Some(task) = first_fitting(indexed, ledger, job, pool) else {
         return Ok(None);
     };
-    let Some(node) = chosen_node(indexed, ledger, job, pool, task.slots) else {
+    let Some(node) = node_for(indexed, ledger, job, pool, task) else {
         return Ok(None);
     };
     Ok(Some(place(alloc, indexed.tables(), job, task, node)?))

@@ -52,7 +52,7 @@ pub fn open_pool<'a>(tables: &'a Tables, job: &JobRow) -> Option<&'a PoolRow>
 fn is_active_within(job: &Id, most: u8, task: &TaskRow) -> bool
     ensures { result ≡ is_active_within job.now most task.now }
 {
-    is_active(task.stage) && task.multi.is_none() && task.slots <= most && task.job.same(job)
+    is_active(task.stage) && task.settings.is_single() && task.slots <= most && task.job.same(job)
 }
 
 /// Whether the task is a ready one of the job, without instances, that asks for at most `most` slots.
@@ -104,7 +104,7 @@ pub fn first_fitting<'a>(
 }
 
 /// The node on which `need` slots are to be held for a task of the job.
-pub fn chosen_node<'a>(
+fn chosen_node<'a>(
     indexed: &'a IndexedTables,
     ledger: &Ledger,
     job: &JobRow,
@@ -120,4 +120,20 @@ pub fn chosen_node<'a>(
         None => None,
         Some(number) => indexed.tables().find_node(number),
     }
+}
+
+/// The node on which the slots of this task of the job are to be held.
+pub fn node_for<'a>(
+    indexed: &'a IndexedTables,
+    ledger: &Ledger,
+    job: &JobRow,
+    pool: &PoolRow,
+    task: &TaskRow,
+) -> Option<&'a NodeRow>
+    requires keys { KeysAreDistinct indexed.now.state }
+    requires ledger { ledger.now ≡ ledger_for indexed.now.state job.now }
+    requires pool { IsPoolRow indexed.now.state pool.now }
+    ensures { option_copied result ≡ choice indexed.now.state job.now pool.now task.now.slots }
+{
+    chosen_node(indexed, ledger, job, pool, task.slots)
 }

@@ -41,7 +41,7 @@ fn has_ids(tables: &Tables, task: &TaskRow) -> bool
     requires { KeysAreDistinct tables.now.state }
     ensures { result ≡ list_all (is_id_satisfied tables.now.state task.now.job) task.now.needs }
 {
-    let needs = task.needs.as_slice();
+    let needs = task.settings.needs();
     needs
         .iter()
         .all(|id| is_id_satisfied(tables, &task.job, id))
@@ -51,7 +51,7 @@ fn has_ids(tables: &Tables, task: &TaskRow) -> bool
 fn has_spans(indexed: &IndexedTables, task: &TaskRow) -> bool
     ensures { result ≡ list_all (is_span_satisfied indexed.now.state task.now.job) task.now.spans }
 {
-    let spans = task.spans.as_slice();
+    let spans = task.settings.spans();
     spans
         .iter()
         .all(|span| is_span_satisfied(indexed, &task.job, *span))

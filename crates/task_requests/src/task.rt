@@ -109,18 +109,18 @@ fn is_stated_for_range(stated: Stated, ranges: &[(i32, i32, Given)]) -> bool
 fn has_given(stated: Stated, spec: &TaskSpec) -> bool
     ensures { result ≡ has_given (is_stated stated) spec.now }
 {
-    is_stated_for_code(stated, spec.codes.as_slice())
-        || is_stated_for_range(stated, spec.ranges.as_slice())
-        || is_stated_if_given(stated, spec.launch)
-        || is_stated_if_given(stated, spec.other)
+    is_stated_for_code(stated, spec.settings.codes())
+        || is_stated_for_range(stated, spec.settings.ranges())
+        || is_stated_if_given(stated, spec.settings.launch())
+        || is_stated_if_given(stated, spec.settings.other())
 }
 
 /// Whether the task depends on others, or states whether those that depend on it may go on.
 fn uses_dependencies(spec: &TaskSpec) -> bool
     ensures { result ≡ uses_dependencies spec.now }
 {
-    !spec.needs.as_slice().is_empty()
-        || !spec.spans.as_slice().is_empty()
+    !spec.settings.needs().is_empty()
+        || !spec.settings.spans().is_empty()
         || has_given(Stated::DependencyAction, spec)
 }
 
@@ -171,7 +171,7 @@ fn are_long(needs: &[Id]) -> bool
 fn has_long_needs(spec: &TaskSpec) -> bool
     ensures { result ≡ has_long_needs spec.now }
 {
-    are_long(spec.needs.as_slice())
+    are_long(spec.settings.needs())
 }
 
 /// A task that is added to the job with this id.
@@ -181,26 +181,13 @@ pub fn new_task(job: &Id, spec: &TaskSpec) -> Result<TaskRow, NoMemory>
     let job = job.copy()?;
     let id = spec.id.copy()?;
     let line = spec.line.copy()?;
-    let needs = spec.needs.copy()?;
-    let codes = spec.codes.copy()?;
-    let ranges = spec.ranges.copy()?;
-    let spans = spec.spans.copy()?;
-    let multi = spec.multi.clone()?;
+    let settings = spec.settings.copy()?;
     Ok(TaskRow {
         job,
         id,
         line,
         slots: spec.slots,
-        retries: spec.retries,
-        wall: spec.wall,
-        retention: spec.retention,
-        codes,
-        ranges,
-        launch: spec.launch,
-        other: spec.other,
-        needs,
-        spans,
-        multi,
+        settings,
         stage: TaskStage::Active,
         attempt: 0,
         failures: 0,

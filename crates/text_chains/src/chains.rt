@@ -79,7 +79,8 @@ impl TextChains {
         self.room -= 1;
     }
 
-    /// Makes room for this many more places. The only error is out of memory, also where there would be 2^32 - 1 places or more.
+    /// Makes room for this many more places. The only error is out of memory, also where there would be more than
+    /// 4,294,967,295 places.
     pub fn reserve(&mut self, additional: usize) -> Result<(), NoMemory>
         ensures places { (text : List ℕ) → places_of self.new text ≡ places_of self.old text }
         ensures room { OnOk result (additional ≤ self.new.room) }

@@ -6,11 +6,16 @@ use Rattle.bt_rows.specs.declared.limits.TheConstants.{DEFAULT_RETENTION, RETRY_
 use Rattle.bt_rows.specs.declared.member.Member.TheVariants as names
 use Rattle.bt_rows.specs.declared.event.TaskSpec.{TaskSpec}
 use Rattle.bt_rows.specs.declared.refusal.Refusal.{Refusal}
+use Rattle.bt_rows.specs.declared.settings.TaskSettings.{TaskSettings}
 use Rattle.wire_members.specs.Body.{object_of}
 use Rattle.wire_members.specs.Durations.{duration_member}
 use Rattle.wire_members.specs.Members.{id_member, command_member, count_member, signed_if, object_member, unbuilt_member}
 use Rattle.wire_bodies.specs.ExitConditions.{conditions_in}
 use Rattle.wire_bodies.specs.Dependencies.{dependencies_in}
+
+-- the body with these values
+abbrev pub spec_of : List ℕ → List ℕ → ℕ → TaskSettings → TaskSpec
+spec_of id line slots s = record { id = id; line = line; slots = slots; retries = s.retries; wall = s.wall; retention = s.retention; codes = s.codes; ranges = s.ranges; launch = s.launch; other = s.other; needs = s.needs; spans = s.spans; multi = s.multi }
 
 -- the members in this order, with their defaults
 unfoldable pub task_in : Data → Result TaskSpec Refusal

@@ -1,12 +1,12 @@
 //! The items of a list member.
-ghost use Rattle.std.specs.Prelude.{◌≡◌, true, Bool, Result, length, IfOk};
+ghost use Rattle.std.specs.Prelude.{◌≡◌, true, Bool, Result, length, IfOk, IfErr, OnOk};
 ghost use Rattle.std.specs.List.{list_all};
 ghost use Rattle.serde_json.specs.Data.{Data};
 ghost use Rattle.serde_json.specs.View.{view, items_view};
-ghost use Rattle.bt_base.specs.Fails.{Gives};
+ghost use Rattle.bt_base.specs.Fails.{Fails, Gives};
 ghost use Rattle.bt_rows.specs.declared.member.Member.{Member};
 ghost use Rattle.bt_rows.specs.declared.refusal.Refusal.{Refusal};
-ghost use Rattle.wire_bodies.specs.Items.{items_in};
+ghost use Rattle.wire_bodies.specs.Items.{IsAdded, items_in};
 
 use bt_base::{Fail, List, SharedList};
 use bt_rows::member::Member;
@@ -28,6 +28,21 @@ pub trait ListItem: Drop {
         ensures kept { IfOk result (λ item. is_in_range item ≡ true) };
 }
 
+/// Adds the item that the value is, to those before it. It fails as `read` does, and with `Memory` when out of memory.
+fn push_item<T: ListItem>(
+    alloc: Global,
+    list: Member,
+    value: &Value,
+    items: &mut Vec<T>,
+) -> Result<(), Fail<Refusal>>
+    ensures added { OnOk result (IsAdded (T.item_in list (view value.now)) T.is_in_range items.old.items items.new.items) }
+    ensures fault { IfErr result (λ fault. Fails fault (T.item_in list (view value.now))) }
+{
+    let item = T::read(alloc, list, value)?;
+    items.push(item)?;
+    Ok(())
+}
+
 /// The items that the values of the list of that name are, in order. The first fault is returned; it fails with `Memory` when
 /// out of memory.
 pub fn read_items<T: ListItem>(
@@ -41,7 +56,7 @@ pub fn read_items<T: ListItem>(
 {
     let mut items = Vec::new(alloc);
     for value in values {
-        items.push(T::read(alloc, list, value)?)?;
+        push_item(alloc, list, value, &mut items)?;
     }
     Ok(List::of_vec(items))
 }

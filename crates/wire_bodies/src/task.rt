@@ -3,21 +3,42 @@ ghost use Rattle.std.specs.Prelude.{◌≡◌, true, IfOk};
 ghost use Rattle.serde_json.specs.View.{view};
 ghost use Rattle.bt_base.specs.Fails.{Gives};
 ghost use Rattle.bt_rows.specs.Ranges.{is_task_spec_in_range};
-ghost use Rattle.wire_bodies.specs.Tasks.{task_in, task_of};
+ghost use Rattle.wire_bodies.specs.Tasks.{spec_of, task_in, task_of};
 
 use crate::dependencies::dependencies_in;
 use crate::exit_conditions::conditions_in;
-use bt_base::Fail;
+use bt_base::{CommandLine, Fail, Id, NoMemory};
 use bt_rows::event::TaskSpec;
 use bt_rows::limits::{DEFAULT_RETENTION, RETRY_LIMIT, SLOT_LIMIT};
 use bt_rows::member::Member;
 use bt_rows::refusal::Refusal;
+use bt_rows::settings::{Settings, TaskSettings};
 use serde_json::Value;
 use std::alloc::Global;
 use wire_members::{
     command_member, count_member, duration_member, id_member, object_member, read_object,
     signed_if, unbuilt_member,
 };
+
+/// The body with these values, which are in their ranges.
+fn spec_of(
+    alloc: Global,
+    id: Id,
+    line: CommandLine,
+    slots: u8,
+    settings: TaskSettings,
+) -> Result<TaskSpec, NoMemory>
+    requires { is_task_spec_in_range (spec_of id line slots settings) ≡ true }
+    ensures value { IfOk result (λ spec. spec ≡ spec_of id line slots settings) }
+    ensures kept { IfOk result (λ spec. is_task_spec_in_range spec ≡ true) }
+{
+    Ok(TaskSpec {
+        id,
+        line,
+        slots,
+        settings: Settings::of(alloc, settings)?,
+    })
+}
 
 /// The task that the members of an object are.
 #[tactic(auto, unfolding(crate::specs::Tasks::task_in))]
@@ -41,10 +62,7 @@ pub fn task(alloc: Global, body: &Value) -> Result<TaskSpec, Fail<Refusal>>
     let exits = conditions_in(alloc, object_member(Some(body), Member::ExitConditions)?)?;
     let depends = dependencies_in(alloc, object_member(Some(body), Member::DependsOn)?)?;
     unbuilt_member(Some(body), Member::MultiInstanceSettings)?;
-    Ok(TaskSpec {
-        id,
-        line,
-        slots: slots as u8,
+    let settings = TaskSettings {
         retries,
         wall,
         retention: Some(DEFAULT_RETENTION),
@@ -55,7 +73,8 @@ pub fn task(alloc: Global, body: &Value) -> Result<TaskSpec, Fail<Refusal>>
         needs: depends.needs,
         spans: depends.spans,
         multi: None,
-    })
+    };
+    Ok(spec_of(alloc, id, line, slots as u8, settings)?)
 }
 
 /// The body of `add-task` (Azure: Create Task): `id`, `commandLine`, and the members below, with their defaults.

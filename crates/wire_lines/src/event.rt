@@ -109,11 +109,14 @@ pub fn terminate_job(alloc: Global, text: &[u8]) -> Result<EventKind, Fail<Refus
     ensures kept { IfOk result (λ kind. is_event_in_range kind ≡ true) }
 {
     match split_two(text) {
-        None => Ok(EventKind::TerminateJob(id_argument(alloc, text)?, None)),
+        None => {
+            let job = id_argument(alloc, text)?;
+            Ok(EventKind::TerminateJob(job, Shared::new(alloc, None)?))
+        }
         Some((job, body)) => {
             let job = id_argument(alloc, job)?;
             let reason = read_terminate_reason(alloc, body)?;
-            Ok(EventKind::TerminateJob(job, reason))
+            Ok(EventKind::TerminateJob(job, Shared::new(alloc, reason)?))
         }
     }
 }

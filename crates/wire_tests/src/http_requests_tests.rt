@@ -116,7 +116,10 @@ fn lists_jobs(
 /// Whether this is the call that terminates a job without a reason.
 fn is_termination(wanted: &Wanted) -> bool {
     match wanted {
-        Wanted::Call(event) => matches!(event.kind(), EventKind::TerminateJob(_, None)),
+        Wanted::Call(event) => match event.kind() {
+            EventKind::TerminateJob(_, reason) => reason.get().is_none(),
+            _ => false,
+        },
         _ => false,
     }
 }

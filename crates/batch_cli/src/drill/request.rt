@@ -9,9 +9,10 @@ ghost use Rattle.batch_cli.specs.Drill.{drill_id, drill_line, pool_spec, job_spe
 use crate::drill::limits::{DRILL_ID, DRILL_NODES, DRILL_SLOTS};
 use bt_base::{CommandLine, Fail, Id, List, NoMemory, Shared, SharedList};
 use bt_rows::event::{Event, EventKind, JobSpec, PoolSpec, TaskSpec};
-use bt_rows::limits::{DEFAULT_RESIZE_TIMEOUT, DEFAULT_RETENTION};
+use bt_rows::limits::DEFAULT_RESIZE_TIMEOUT;
 use bt_rows::pool::Fill;
 use bt_rows::run::Ending;
+use bt_rows::settings::{Settings, TaskSettings};
 use std::alloc::Global;
 
 /// The id that a text is known to be. It fails only when out of memory.
@@ -131,20 +132,16 @@ fn task_spec(alloc: Global, number: u32, first: u32, second: u32) -> Result<Task
     let line = drill_line(alloc)?;
     let needs = needs_of(alloc, number, second)?;
     let spans = spans_of(alloc, number, second)?;
+    let settings = TaskSettings {
+        needs,
+        spans,
+        ..TaskSettings::plain()
+    };
     Ok(TaskSpec {
         id,
         line,
         slots: (1 + first % 2) as u8,
-        retries: None,
-        wall: None,
-        retention: Some(DEFAULT_RETENTION),
-        codes: SharedList::empty(),
-        ranges: SharedList::empty(),
-        launch: None,
-        other: None,
-        needs,
-        spans,
-        multi: None,
+        settings: Settings::of(alloc, settings)?,
     })
 }
 

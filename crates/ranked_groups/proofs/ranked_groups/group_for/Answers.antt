@@ -1,9 +1,10 @@
 use Rattle.std.proofs.Common.{◌≡◌, ℕ, List, [], ◌∷◌, ◌++◌, length, Some, sym, ap, subst, ◌∙◌, arith}
 use Rattle.std.specs.List.{All}
 use Rattle.std.proofs.lemmas.List.Elements.{All-pop, All-push}
-use Rattle.ranked_groups.specs.Groups.{GroupView, number_in, items_of, IsEmpty, IsGrouped, Takes}
+use Rattle.ranked_groups.specs.declared.entry.Entry.{Entry}
+use Rattle.ranked_groups.specs.Groups.{GroupView, number_in, items_of, with_ranks, IsEmpty, IsGrouped, Takes}
 use Rattle.ranked_groups.proofs.Numbers.{number_new}
-use Rattle.ranked_groups.proofs.Grouped.{grown, items_same}
+use Rattle.ranked_groups.proofs.WithRanks.{IsTold, told_grown}
 use Rattle.ranked_groups.proofs.ranked_groups.group_for.Goals as goal
 
 pub returns-in-Some-pop-clause-number : goal.returns-in-Some-pop-clause-number
@@ -22,14 +23,14 @@ returns-in-Some-pop-clause-kept c =
     let group = c.in-Some-pop.group in
     let new = sym c.number_of.ensures ∙ c.in-None.is in
     let empty = (All-pop IsEmpty c.args.spares.now.items c.pop.new.self.items (Some group) c.in-Some-pop.ensures.items c.requires.empty).1 in
-    record {
-      grouped = λ entries g.
-          subst (λ (names : List (List ℕ)). IsGrouped names c.push_reserved.new.self.items entries) (sym c.push.ensures.names)
-          (subst (λ (groups : List GroupView). IsGrouped (names ++ name ∷ []) groups entries) (sym c.push_reserved.ensures.items)
-          (grown names groups entries name group new empty g));
-      items = λ entries g.
-          ap (λ (names : List (List ℕ)). items_of names entries) c.push.ensures.names ∙ items_same names groups entries name g;
-    }
+    let told : (entries : List Entry) → IsGrouped names groups (with_ranks groups entries)
+    → IsTold c.push.new.self.names c.push_reserved.new.self.items entries (items_of names (with_ranks groups entries)) =
+    λ entries g.
+    subst (λ (names' : List (List ℕ)). IsTold names' c.push_reserved.new.self.items entries (items_of names (with_ranks groups entries)))
+    (sym c.push.ensures.names)
+    (subst (λ (groups' : List GroupView). IsTold (names ++ name ∷ []) groups' entries (items_of names (with_ranks groups entries)))
+    (sym c.push_reserved.ensures.items) (told_grown names groups entries name group new empty g)) in
+    record { grouped = λ entries g. (told entries g).grouped; items = λ entries g. (told entries g).is }
 
 pub returns-in-Some-pop-clause-each : goal.returns-in-Some-pop-clause-each
 returns-in-Some-pop-clause-each c = λ room each wide.

@@ -11,5 +11,6 @@ returns-in-None c =
 
 pub returns-in-Some : goal.returns-in-Some
 returns-in-Some c =
-    sym (attempt_found c.args.job.now c.args.id.now c.args.attempt c.args.tables.now.state.tasks c.known_keys.ensures.tasks
+    ap (λ (task : TaskRow). nat_le c.args.attempt task.attempt) c.task.view_is
+    ∙ sym (attempt_found c.args.job.now c.args.id.now c.args.attempt c.args.tables.now.state.tasks c.known_keys.ensures.tasks
     ∙ ap (λ (o : Option TaskRow). option_map_or (λ (task : TaskRow). nat_le c.args.attempt task.attempt) o false) (sym c.in-Some.ensures))

@@ -1,21 +1,34 @@
-use Rattle.std.proofs.Common.{◌<◌, get_or, sym, arith}
-use Rattle.std.proofs.lemmas.List.{get_or_read}
-use Rattle.std.proofs.lemmas.Nat.{pow_pos}
-use Rattle.first_tree.proofs.Firsts.{root_none, root_some}
+use Rattle.std.proofs.Common.{◌≡◌, ℕ, ◌+◌, ◌*◌, min, List, None, length, ap, subst, ◌∙◌, arith}
+use Rattle.first_tree.specs.Blocks.{IsFirstIn}
+use Rattle.first_tree.specs.Ranks.{Ranks, first_within}
+use Rattle.first_tree.proofs.Searched.{none_before, none_of, first_of, is_first, blocks_none, blocks_some}
 use Rattle.first_tree.proofs.tree.FirstTree.first.Goals as goal
 
-pub returns-then-index-bound : goal.returns-then-index-bound
-returns-then-index-bound c =
+pub first_in_block-requires : goal.first_in_block-requires
+first_in_block-requires c =
     let t = c.self.inside in
-    let above : c.args.bound < get_or t.nodes.items 1 0 =
-    (let pos = pow_pos c.self.invariant.power.exponent in
-    let is = c.self.invariant.power.is in
-    let read = get_or_read t.nodes.items 1 c.index.result.now (omega (arith, c.self.invariant.length)) c.index.ensures 0 in
-    omega arith) in
-    rw (← c.self.view_is) (sym (root_none t.nodes.items t.size t.len c.args.bound c.self.invariant above))
+    let first = first_of c.args.bound c.in-Some.block t.blocks.items c.in-Some.ensures in
+    let blocks = c.self.invariant.0 in
+    let same : length c.deref.result.now ≡ length t.ranks.items = ap length c.deref.ensures.value in
+    omega (arith, first.high, blocks.few)
 
-pub returns : goal.returns
-returns c =
+pub returns-in-None : goal.returns-in-None
+returns-in-None c =
     let t = c.self.inside in
-    let is_first = rw c.deref.ensures.value at c.first_leaf.ensures in
-    rw (← c.self.view_is) (sym (root_some t.nodes.items t.size t.len c.args.bound c.first_leaf.result c.self.invariant c.requires is_first))
+    is_first c.args.bound t.ranks.items None
+    (blocks_none t.ranks.items t.blocks.items 0 0 c.args.bound c.self.invariant.0
+    (none_before t.ranks.items 0 (min 0 (length t.ranks.items)) c.args.bound (omega arith)) (none_of c.args.bound t.blocks.items c.in-None.ensures))
+    ∙ ap (λ (r : Ranks). first_within c.args.bound r.items) c.self.view_is
+
+pub returns-in-Some : goal.returns-in-Some
+returns-in-Some c =
+    let t = c.self.inside in
+    let block = c.in-Some.block in
+    let here : IsFirstIn t.ranks.items (16 * block) (min (16 * block + 16) (length t.ranks.items)) c.args.bound c.first_in_block.result =
+    subst (λ (xs : List ℕ). IsFirstIn xs (16 * block) (min (16 * block + 16) (length xs)) c.args.bound c.first_in_block.result)
+    c.deref.ensures.value c.first_in_block.ensures in
+    is_first c.args.bound t.ranks.items c.first_in_block.result
+    (blocks_some t.ranks.items t.blocks.items 0 0 c.args.bound block c.first_in_block.result c.self.invariant.0 (omega arith)
+    (none_before t.ranks.items 0 (min 0 (length t.ranks.items)) c.args.bound (omega arith)) (first_of c.args.bound block t.blocks.items c.in-Some.ensures)
+    here)
+    ∙ ap (λ (r : Ranks). first_within c.args.bound r.items) c.self.view_is

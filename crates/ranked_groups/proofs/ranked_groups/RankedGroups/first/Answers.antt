@@ -1,7 +1,7 @@
 use Rattle.std.proofs.Common.{ℕ, List, get_or, sym, ap, ◌∙◌, arith}
 use Rattle.std.proofs.lemmas.List.{get_or_read}
 use Rattle.ranked_groups.specs.Items.{GroupsView, first_of}
-use Rattle.ranked_groups.specs.Groups.{GroupView, items_of, place_within, places_from, ranks_of, no_group}
+use Rattle.ranked_groups.specs.Groups.{GroupView, items_of, with_ranks, place_within, places_from, ranks_of, no_group}
 use Rattle.ranked_groups.proofs.Members.{first_place}
 use Rattle.ranked_groups.proofs.Numbers.{found}
 use Rattle.ranked_groups.proofs.ranked_groups.RankedGroups.first.Goals as goal
@@ -18,7 +18,7 @@ returns-in-None c =
     let t = c.self.inside in
     let name = c.args.group.now in
     let bound = c.args.bound in
-    let items = items_of t.names.names t.entries.items in
+    let items = items_of t.names.names (with_ranks t.groups.items t.entries.items) in
     let none = c.self.invariant.0.absent name (sym c.number_of.ensures ∙ c.in-None.is) in
     ap (λ (ranks : List ℕ). place_within bound ranks (places_from name 0 items)) none.ranks
     ∙ (first_place name bound items ∙ ap (λ (v : GroupsView). first_of name bound v.items) c.self.view_is)
@@ -29,7 +29,7 @@ returns-in-Some c =
     let name = c.args.group.now in
     let bound = c.args.bound in
     let number = c.in-Some.number in
-    let items = items_of t.names.names t.entries.items in
+    let items = items_of t.names.names (with_ranks t.groups.items t.entries.items) in
     let is = sym c.number_of.ensures ∙ c.in-Some.is in
     let within = (found name t.names.names number is).within in
     let count = c.self.invariant.0.count in

@@ -27,7 +27,7 @@ returns-in-Some c = λ h.
     let items : c.push-in-Some.new.self.items ≡ old ++ active_item task ∷ [] =
     c.push-in-Some.ensures.items
     ∙ ap (λ (v : GroupsView). v.items ++ record { group = c.as_slice.result.now; rank = rank } ∷ []) c.self.view_is
-    ∙ ap (λ (g : List ℕ). old ++ record { group = g; rank = rank } ∷ []) (c.as_slice.ensures.bytes ∙ c.of_id-group.ensures)
+    ∙ ap (λ (g : List ℕ). old ++ record { group = g; rank = rank } ∷ []) (c.as_slice.ensures.bytes ∙ c.group_of-group.ensures)
     ∙ ap (λ (n : ℕ). old ++ record (active_item task) { rank = n } ∷ []) c.active_rank.ensures in
     at_next (λ (ss : List (Option TaskRow)). AreItemsOf ss c.push-in-Some.new.self.items) slots place (Some task) c.requires.place c.in-Some.ensures
     (subst (AreItemsOf (take place slots ++ Some task ∷ [])) (sym items) (items_push (take place slots) old task h))

@@ -13,7 +13,7 @@ returns-in-None-clause-items c = λ slots before h.
     let items : c.push.new.self.items ≡ old ++ active_item task ∷ [] =
     c.push.ensures.items
     ∙ ap (λ (v : GroupsView). v.items ++ record { group = c.as_slice.result.now; rank = rank } ∷ []) c.self.view_is
-    ∙ ap (λ (g : List ℕ). old ++ record { group = g; rank = rank } ∷ []) (c.as_slice.ensures.bytes ∙ c.of_id-group.ensures)
+    ∙ ap (λ (g : List ℕ). old ++ record { group = g; rank = rank } ∷ []) (c.as_slice.ensures.bytes ∙ c.group_of-group.ensures)
     ∙ ap (λ (n : ℕ). old ++ record (active_item task) { rank = n } ∷ []) c.active_rank.ensures in
     subst (λ (b : Option ℕ). AreItemsOf (put_at b task slots) c.push.new.self.items) (sym c.in-None.is)
     (subst (AreItemsOf (slots ++ Some task ∷ [])) (sym items) (items_put None slots old task (sym c.in-None.is ∙ before) h))
