@@ -41,6 +41,7 @@ head_on {front} {head} tail (h, at) = (
     target = span_on front tail head.len head.target at.target_within at.within ∙ at.target;
     framing = at.framing;
     last = at.last;
+    origin = at.origin;
   },
 )
 

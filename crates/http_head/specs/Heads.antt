@@ -8,7 +8,7 @@ use Rattle.http_head.specs.declared.heads.Parsed.{Parsed}
 use Rattle.http_head.specs.declared.heads.Parsed.TheVariants.{Whole, Partial, TooMany, Invalid}
 use Rattle.http_head.specs.declared.heads.HeadRead.{HeadRead}
 use Rattle.http_head.specs.declared.heads.HeadRead.TheVariants.{Found, More, Bad, TooLong}
-use Rattle.http_head.specs.Fields.{fields_of}
+use Rattle.http_head.specs.Fields.{fields_of, has_origin}
 use Rattle.http_head.specs.Framing.{framing_of, is_last}
 use Rattle.http_head.specs.Lines.{HasManyLines, lines_ended}
 
@@ -24,6 +24,7 @@ pub record IsHeadAt (bytes : List ℕ) (head : Head) (h : RequestHead) : Type 0 
   pub target : span_bytes bytes head.target ≡ h.target
   pub framing : head.framing ≡ framing_of h.minor (fields_of h)
   pub last : head.is_last ≡ is_last h.minor (fields_of h)
+  pub origin : head.has_origin ≡ has_origin (fields_of h)
 
 -- there is a head of the grammar of which this is kept
 abbrev pub IsHead : List ℕ → Head → Type 0

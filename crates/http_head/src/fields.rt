@@ -1,7 +1,7 @@
 //! Scans of a head's fields.
 ghost use Rattle.std.specs.Prelude.{◌≡◌, List, length, map, All, find, count_by, option_map, Some, None, IfSome};
 ghost use Rattle.httparse.specs.Spans.{IsHeaderWithin, IsWithin, header_bytes, span_bytes};
-ghost use Rattle.http_head.specs.Fields.{is_named, count_named, is_close, close_text};
+ghost use Rattle.http_head.specs.Fields.{is_named, count_named, has_origin, is_close, close_text};
 
 use crate::items::has_item;
 use crate::names::FieldName;
@@ -50,6 +50,14 @@ pub fn count_closing(buf: &[u8], fields: &[HeaderSpan]) -> usize
         }
     }
     count
+}
+
+/// Whether one field at least is an `Origin`, whatever its value.
+pub fn has_origin(buf: &[u8], fields: &[HeaderSpan]) -> bool
+    requires { All (IsHeaderWithin (length buf.now)) fields.now }
+    ensures { result ≡ has_origin (map (header_bytes buf.now) fields.now) }
+{
+    count_with(buf, fields, FieldName::Origin) > 0
 }
 
 /// The first field with this name.

@@ -1,10 +1,12 @@
 //! Heads at the front of a buffer.
 ghost use Rattle.std.specs.Prelude.{◌≡◌, ◌≤◌, length, map, All, take};
 ghost use Rattle.httparse.specs.Spans.{IsHeaderWithin, IsRequestWithin, IsRequestAt, IsRequestOf, header_bytes};
+ghost use Rattle.http_head.specs.Fields.{has_origin};
 ghost use Rattle.http_head.specs.Framing.{framing_of, is_last};
 ghost use Rattle.http_head.specs.Heads.{IsHead, IsParsed, IsHeadRead, StaysRead};
 ghost use Rattle.http_head.specs.Lines.{lines_ended};
 
+use crate::fields::has_origin;
 use crate::framing::{Framing, ends_after, frame};
 use httparse::spans::{EMPTY_HEADER_SPAN, HeaderSpan, RequestSpans, Span, parse_request};
 use httparse::{Error, Status};
@@ -28,6 +30,8 @@ pub struct Head {
     pub framing: Framing,
     /// Whether the request is the last one that is answered.
     pub is_last: bool,
+    /// Whether it has a field `Origin`, with any value (RFC 6454, section 7).
+    pub has_origin: bool,
 }
 
 /// What the parser returns.
@@ -64,6 +68,7 @@ fn head_of(buf: &[u8], spans: &RequestSpans, fields: &[HeaderSpan]) -> Head
     ensures target { result.target ≡ spans.now.path }
     ensures framing { result.framing ≡ framing_of spans.now.version (map (header_bytes buf.now) fields.now) }
     ensures last { result.is_last ≡ is_last spans.now.version (map (header_bytes buf.now) fields.now) }
+    ensures origin { result.has_origin ≡ has_origin (map (header_bytes buf.now) fields.now) }
 {
     Head {
         len: spans.len,
@@ -71,6 +76,7 @@ fn head_of(buf: &[u8], spans: &RequestSpans, fields: &[HeaderSpan]) -> Head
         target: spans.path,
         framing: frame(buf, fields, spans.version),
         is_last: ends_after(buf, fields, spans.version),
+        has_origin: has_origin(buf, fields),
     }
 }
 

@@ -13,6 +13,8 @@ pub enum FieldName {
     TransferEncoding,
     /// `Connection` (RFC 9110, section 7.6.1).
     Connection,
+    /// `Origin` (RFC 6454, section 7): a browser sends it with a request of a page. Its value is not looked at.
+    Origin,
 }
 
 impl FieldName {
@@ -26,6 +28,7 @@ impl FieldName {
             FieldName::ContentLength => b"content-length",
             FieldName::TransferEncoding => b"transfer-encoding",
             FieldName::Connection => b"connection",
+            FieldName::Origin => b"origin",
         }
     }
 }
