@@ -7,7 +7,7 @@ use Rattle.byte_streams.specs.Content.{Gains, GainsFront}
 use Rattle.byte_streams.proofs.Gaining.{gains_nothing, gains_more}
 use Rattle.http_serving.specs.declared.connection.TheConstants.{MESSAGE_LIMIT}
 use Rattle.http_serving.specs.declared.end.End.{End}
-use Rattle.http_serving.specs.declared.end.End.TheVariants.{Closed, Asked, Spent, Truncated, BadHead, BadFraming, HeadTooLong, BodyTooLong, LinkFault, Memory}
+use Rattle.http_serving.specs.declared.end.End.TheVariants.{Closed, Asked, Spent, Truncated, BadHead, BadFraming, OriginRefused, HeadTooLong, BodyTooLong, LinkFault, Memory}
 use Rattle.http_serving.specs.declared.response.Response.{Response}
 use Rattle.http_serving.specs.Services.{Request}
 use Rattle.http_serving.specs.Reading.{AllowsEnd, IsFault, unread}
@@ -45,6 +45,7 @@ written_more Spent a b c x y f g = gains_more a b c x y f g
 written_more Truncated a b c x y f g = gains_more a b c x y f g
 written_more BadHead a b c x y f g = gains_more a b c x y f g
 written_more BadFraming a b c x y f g = gains_more a b c x y f g
+written_more OriginRefused a b c x y f g = gains_more a b c x y f g
 written_more HeadTooLong a b c x y f g = gains_more a b c x y f g
 written_more BodyTooLong a b c x y f g = gains_more a b c x y f g
 
@@ -58,6 +59,7 @@ fault_end Spent p before took text h w = absurd h
 fault_end Truncated p before took text h w = absurd h
 fault_end BadHead p before took text h w = absurd h
 fault_end BadFraming p before took text h w = absurd h
+fault_end OriginRefused p before took text h w = absurd h
 fault_end HeadTooLong p before took text h w = absurd h
 fault_end BodyTooLong p before took text h w = absurd h
 
@@ -70,6 +72,7 @@ ends_here Spent answered service left less s = absurd s
 ends_here Truncated answered service left less s = (refl, less, s)
 ends_here BadHead answered service left less s = (refl, less, s)
 ends_here BadFraming answered service left less s = (refl, less, s)
+ends_here OriginRefused answered service left less s = (refl, less, s)
 ends_here HeadTooLong answered service left less s = (refl, less, s)
 ends_here BodyTooLong answered service left less s = (refl, less, s)
 

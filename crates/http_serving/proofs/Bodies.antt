@@ -1,5 +1,5 @@
 -- A message at the front of a buffer, by its head.
-use Rattle.std.proofs.Common.{◌≡◌, ◌+◌, ◌<◌, ◌≤◌, ℕ, true, false, cond, List, [], ◌++◌, length, drop, Option, None, Some, append_assoc, refl, sym, ap, ◌∙◌, subst, arith, inl, inr, length-drop, Result, Ok, Err, MatchResult}
+use Rattle.std.proofs.Common.{◌≡◌, ◌≢◌, ◌+◌, ◌<◌, ◌≤◌, ℕ, true, false, cond, List, [], ◌++◌, length, drop, Option, None, Some, append_assoc, refl, sym, ap, ◌∙◌, subst, arith, inl, inr, length-drop, Result, Ok, Err, MatchResult}
 use Rattle.std.proofs.lemmas.Bool.Decides.{leb_tells}
 use Rattle.httparse.specs.Grammar.{RequestHead}
 use Rattle.http_head.specs.declared.framing.Framing.{Framing}
@@ -11,9 +11,9 @@ use Rattle.http_head.specs.Fields.{fields_of}
 use Rattle.http_head.specs.Framing.{framing_of, framing_of_length, has_bad_fields, stated_length}
 use Rattle.http_head.specs.Heads.{IsHead, IsHeadAt}
 use Rattle.http_serving.specs.declared.end.End.{End}
-use Rattle.http_serving.specs.declared.end.End.TheVariants.{BadFraming, BodyTooLong}
+use Rattle.http_serving.specs.declared.end.End.TheVariants.{BadFraming, OriginRefused, BodyTooLong}
 use Rattle.http_serving.specs.declared.messages.Message.{Message}
-use Rattle.http_serving.specs.Reading.{Grows, Stops, AllowsEnd, BeginsWith, HasFraming, framing, EndsInside, FoundHead, FoundMessage, unread}
+use Rattle.http_serving.specs.Reading.{Grows, Stops, AllowsEnd, BeginsWith, HasHeadWith, IsRefused, IsLong, names_origin, end_of_origin, framing, EndsInside, FoundHead, FoundMessage, unread}
 use Rattle.http_serving.proofs.Buffers.{consumes_more, grows_more, stops_here}
 
 -- the bytes begin with this head, whatever follows
@@ -27,12 +27,19 @@ head_grows {a} {b} {old} {new} {head} g stays = subst (λ w. IsHead w head) (sym
 pub begins : {bytes : List ℕ} {head : Head} {h : RequestHead} → IsHeadAt bytes head h → head.len ≤ HEAD_LIMIT → BeginsWith bytes h (drop head.len bytes)
 begins {bytes} {head} {h} at short = record { reads = at.reads; short = omega (arith, at.len, short); few = at.few }
 
-pub ends_in_body : {bytes : List ℕ} {head : Head} (size : ℕ) → IsHead bytes head → head.len ≤ HEAD_LIMIT → head.framing ≡ Body size → length bytes < head.len + size → EndsInside bytes
-ends_in_body {bytes} {head} size (h, at) short framed less =
-    inr (h, drop head.len bytes, size, begins at short, sym at.framing ∙ framed, omega (arith, at.within, less, length-drop head.len bytes))
+pub ends_in_body : {bytes : List ℕ} {head : Head} (size : ℕ) → IsHead bytes head → head.len ≤ HEAD_LIMIT → head.framing ≡ Body size → head.has_origin ≡ false → length bytes < head.len + size → EndsInside bytes
+ends_in_body {bytes} {head} size (h, at) short framed no_origin less = inr (record {
+  h = h;
+  rest = drop head.len bytes;
+  begins = begins at short;
+  no_origin = sym at.origin ∙ no_origin;
+  size = size;
+  framed = sym at.framing ∙ framed;
+  short = omega (arith, at.within, less, length-drop head.len bytes);
+})
 
-pub found_here : {a b : Option (List ℕ)} {old new : List ℕ} {head : Head} (size : ℕ) → Grows a b old new → StaysHead old head → head.len ≤ HEAD_LIMIT → head.framing ≡ Body size → head.len + size ≤ length new → FoundMessage a b old new (record { head = head; len = head.len + size })
-found_here {a} {b} {old} {new} {head} size g stays short framed whole =
+pub found_here : {a b : Option (List ℕ)} {old new : List ℕ} {head : Head} (size : ℕ) → Grows a b old new → StaysHead old head → head.len ≤ HEAD_LIMIT → head.framing ≡ Body size → head.has_origin ≡ false → head.len + size ≤ length new → FoundMessage a b old new (record { head = head; len = head.len + size })
+found_here {a} {b} {old} {new} {head} size g stays short framed no_origin whole =
     let found = head_grows g stays in
     record {
       grows = g;
@@ -42,22 +49,45 @@ found_here {a} {b} {old} {new} {head} size g stays short framed whole =
         short = short;
         ordered = omega arith;
         whole = whole;
+        no_origin = sym found.1.origin ∙ no_origin;
         size = size;
         framed = sym found.1.framing ∙ framed;
         len = refl;
       };
     }
 
-has_framing : (bytes : List ℕ) {head : Head} (body : Framing) (tail : List ℕ) → StaysHead bytes head → head.len ≤ HEAD_LIMIT → head.framing ≡ body → HasFraming (bytes ++ tail) body
-has_framing bytes {head} body tail stays short framed =
+-- what the head of the grammar has by what is kept of it, the bytes have
+head_with : (P : RequestHead → Type 0) (bytes : List ℕ) {head : Head} (tail : List ℕ) → StaysHead bytes head → head.len ≤ HEAD_LIMIT → ((h : RequestHead) → head.framing ≡ framing h → head.has_origin ≡ names_origin h → P h) → HasHeadWith P (bytes ++ tail)
+head_with P bytes {head} tail stays short has =
     let on = stays tail in
-    (on.0, drop head.len (bytes ++ tail), begins on.1 short, sym on.1.framing ∙ framed)
+    (on.0, drop head.len (bytes ++ tail), begins on.1 short, has on.0 on.1.framing on.1.origin)
 
 pub stops_framing : {a b : Option (List ℕ)} {old new : List ℕ} {head : Head} → FoundHead a b old new head → head.framing ≡ Bad → Stops a b old BadFraming
-stops_framing {a} {b} {old} {new} {head} f e = stops_here BadFraming f.grows (has_framing new Bad (unread b) f.is_head f.short e)
+stops_framing {a} {b} {old} {new} {head} f e =
+    stops_here BadFraming f.grows (head_with (λ h. framing h ≡ Bad) new (unread b) f.is_head f.short (λ h same origin. sym same ∙ e))
 
-pub stops_long_body : {a b : Option (List ℕ)} {old new : List ℕ} {head : Head} → FoundHead a b old new head → head.framing ≡ TooLong → Stops a b old BodyTooLong
-stops_long_body {a} {b} {old} {new} {head} f e = stops_here BodyTooLong f.grows (has_framing new TooLong (unread b) f.is_head f.short e)
+stops_refused : {a b : Option (List ℕ)} {old new : List ℕ} {head : Head} → FoundHead a b old new head → head.has_origin ≡ true → head.framing ≢ Bad → Stops a b old OriginRefused
+stops_refused {a} {b} {old} {new} {head} f has e =
+    stops_here OriginRefused f.grows (head_with IsRefused new (unread b) f.is_head f.short (λ h same origin. record { origin = sym origin ∙ has; framed = λ bad. e (same ∙ bad) }))
+
+-- a number for each kind of framing
+kind_of : Framing → ℕ
+kind_of Bad = 0
+kind_of TooLong = 1
+kind_of (Body n) = 2
+
+stops_by : {a b : Option (List ℕ)} {old new : List ℕ} {head : Head} (body : Framing) → FoundHead a b old new head → head.has_origin ≡ true → head.framing ≡ body → Stops a b old (end_of_origin body)
+unfolding kind_of
+stops_by Bad f has e = stops_framing f e
+stops_by TooLong f has e = stops_refused f has (λ bad. omega (arith, ap kind_of (sym e ∙ bad)))
+stops_by (Body n) f has e = stops_refused f has (λ bad. omega (arith, ap kind_of (sym e ∙ bad)))
+
+pub stops_origin : {a b : Option (List ℕ)} {old new : List ℕ} {head : Head} {end : End} → FoundHead a b old new head → head.has_origin ≡ true → end ≡ end_of_origin head.framing → Stops a b old end
+stops_origin {a} {b} {old} {new} {head} {end} f has same = subst (λ e. Stops a b old e) (sym same) (stops_by head.framing f has refl)
+
+pub stops_long_body : {a b : Option (List ℕ)} {old new : List ℕ} {head : Head} → FoundHead a b old new head → head.framing ≡ TooLong → head.has_origin ≡ false → Stops a b old BodyTooLong
+stops_long_body {a} {b} {old} {new} {head} f e none =
+    stops_here BodyTooLong f.grows (head_with IsLong new (unread b) f.is_head f.short (λ h same origin. record { no_origin = sym origin ∙ none; framed = sym same ∙ e }))
 
 stops_more : {a b c : Option (List ℕ)} {old mid : List ℕ} {e : End} → Grows a b old mid → Stops b c mid e → Stops a c old e
 stops_more {a} {b} {c} {old} {mid} {e} g s = record {

@@ -5,7 +5,7 @@ use Rattle.std.specs.Io.KnownBytes.{Consumes, IsAtEnd}
 use Rattle.http_link.specs.Filling.{Fills, Loses}
 use Rattle.http_head.specs.Heads.{NeverHasHead, HasLongHead, IsOpen}
 use Rattle.http_serving.specs.declared.end.End.{End}
-use Rattle.http_serving.specs.declared.end.End.TheVariants.{Closed, Asked, Spent, Truncated, BadHead, BadFraming, HeadTooLong, BodyTooLong, LinkFault, Memory}
+use Rattle.http_serving.specs.declared.end.End.TheVariants.{Closed, Asked, Spent, Truncated, BadHead, BadFraming, OriginRefused, HeadTooLong, BodyTooLong, LinkFault, Memory}
 use Rattle.http_serving.specs.Reading.{Grows, FillsLine, Stops, AllowsEnd, IsFault, unread}
 
 pub consumes_none : (a : Option (List ℕ)) → Consumes a a []
@@ -83,6 +83,7 @@ allows_fault Truncated bytes h = absurd h
 allows_fault BadHead bytes h = absurd h
 allows_fault HeadTooLong bytes h = absurd h
 allows_fault BadFraming bytes h = absurd h
+allows_fault OriginRefused bytes h = absurd h
 allows_fault BodyTooLong bytes h = absurd h
 allows_fault LinkFault bytes h = tt
 allows_fault Memory bytes h = tt

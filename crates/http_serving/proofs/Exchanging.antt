@@ -10,7 +10,7 @@ use Rattle.byte_streams.proofs.Gaining.{gains_nothing}
 use Rattle.http_head.specs.declared.framing.Framing.TheVariants.{Body}
 use Rattle.http_serving.specs.declared.connection.TheConstants.{MESSAGE_LIMIT}
 use Rattle.http_serving.specs.declared.end.End.{End}
-use Rattle.http_serving.specs.declared.end.End.TheVariants.{Closed, Asked, Spent, Truncated, BadHead, BadFraming, HeadTooLong, BodyTooLong, LinkFault, Memory}
+use Rattle.http_serving.specs.declared.end.End.TheVariants.{Closed, Asked, Spent, Truncated, BadHead, BadFraming, OriginRefused, HeadTooLong, BodyTooLong, LinkFault, Memory}
 use Rattle.http_serving.specs.declared.messages.Message.{Message}
 use Rattle.http_serving.specs.declared.response.Response.{Response}
 use Rattle.http_serving.specs.Services.{Request}
@@ -52,6 +52,7 @@ module _ {S : Type 0} (answers : S → Request → Response → S → Type 0) (o
     message = record {
       begins = subst (λ w. BeginsWith (bytes ++ rest) h (body_in bytes m ++ (w ++ rest))) (sym e) (begins_message rest is);
       framed = is.framed ∙ ap Body (sym (body_length is));
+      no_origin = is.no_origin;
     };
     answer = subst (λ w. answers old (record { method = w; target = h.target; body = body_in bytes m }) response new) is.head.method
         (subst (λ w. answers old (record { method = span_bytes bytes m.head.method; target = w; body = body_in bytes m }) response new) is.head.target made);
@@ -87,6 +88,7 @@ module _ {S : Type 0} (answers : S → Request → Response → S → Type 0) (o
   cut_short Truncated taken took h e = absurd h
   cut_short BadHead taken took h e = absurd h
   cut_short BadFraming taken took h e = absurd h
+  cut_short OriginRefused taken took h e = absurd h
   cut_short HeadTooLong taken took h e = absurd h
   cut_short BodyTooLong taken took h e = absurd h
 

@@ -1,16 +1,16 @@
 -- What is at the front of the bytes of a connection, and which ends they allow.
-use Rattle.std.specs.Prelude.{◌≡◌, ℕ, ◌+◌, ◌<◌, ◌≤◌, ◌⊎◌, List, [], ◌++◌, length, Option, Some, None, ⊤, Bool, IsTrue, IsFalse}
+use Rattle.std.specs.Prelude.{◌≡◌, ◌≢◌, ℕ, ◌+◌, ◌<◌, ◌≤◌, ◌⊎◌, List, [], ◌++◌, length, Option, Some, None, ⊤, Bool, true, false, IsTrue, IsFalse}
 use Rattle.std.specs.Io.KnownBytes.{Consumes, IsAtEnd}
 use Rattle.httparse.specs.Grammar.{RequestHead, print_request, ReadsRequest}
 use Rattle.http_head.specs.declared.framing.Framing.{Framing}
 use Rattle.http_head.specs.declared.framing.Framing.TheVariants.{Bad, TooLong, Body}
 use Rattle.http_head.specs.declared.heads.Head.{Head}
 use Rattle.http_head.specs.declared.heads.TheConstants.{HEAD_LIMIT, FIELD_LIMIT}
-use Rattle.http_head.specs.Fields.{fields_of}
+use Rattle.http_head.specs.Fields.{fields_of, has_origin}
 use Rattle.http_head.specs.Framing.{framing_of}
 use Rattle.http_head.specs.Heads.{IsHeadAt, IsHead, NeverHasHead, HasLongHead, IsOpen}
 use Rattle.http_serving.specs.declared.end.End.{End}
-use Rattle.http_serving.specs.declared.end.End.TheVariants.{Closed, Asked, Spent, Truncated, BadHead, BadFraming, HeadTooLong, BodyTooLong, LinkFault, Memory}
+use Rattle.http_serving.specs.declared.end.End.TheVariants.{Closed, Asked, Spent, Truncated, BadHead, BadFraming, OriginRefused, HeadTooLong, BodyTooLong, LinkFault, Memory}
 use Rattle.http_serving.specs.declared.messages.Message.{Message}
 
 -- the bytes begin with a head within the limits, and this follows it
@@ -23,20 +23,49 @@ pub record BeginsWith (bytes : List ℕ) (h : RequestHead) (rest : List ℕ) : T
 abbrev pub framing : RequestHead → Framing
 framing h = framing_of h.minor (fields_of h)
 
--- the bytes begin with a message: its head, its body, and this follows them
+-- whether a head has a field `Origin`
+abbrev pub names_origin : RequestHead → Bool
+names_origin h = has_origin (fields_of h)
+
+-- the end at a head with `Origin`, by the framing of its body: faulty fields go first
+abbrev pub end_of_origin : Framing → End
+end_of_origin Bad = BadFraming
+end_of_origin TooLong = OriginRefused
+end_of_origin (Body n) = OriginRefused
+
+-- the bytes begin with a message: its head, which has no `Origin`, its body, and this follows them
 pub record HasMessage (bytes : List ℕ) (h : RequestHead) (body rest : List ℕ) : Type 0 where
   pub begins : BeginsWith bytes h (body ++ rest)
   pub framed : framing h ≡ Body (length body)
+  pub no_origin : names_origin h ≡ false
 
--- the bytes begin with a head of this framing
-abbrev pub HasFraming : List ℕ → Framing → Type 0
-HasFraming bytes body = (h : RequestHead) × (rest : List ℕ) × BeginsWith bytes h rest × (framing h ≡ body)
+-- the bytes begin with a head of which this holds
+abbrev pub HasHeadWith : (RequestHead → Type 0) → List ℕ → Type 0
+HasHeadWith P bytes = (h : RequestHead) × (rest : List ℕ) × BeginsWith bytes h rest × P h
+
+-- the head has a field `Origin`, and a body that can be framed
+pub record IsRefused (h : RequestHead) : Type 0 where
+  pub origin : names_origin h ≡ true
+  pub framed : framing h ≢ Bad
+
+-- the head has no `Origin`, and a body that is too long
+pub record IsLong (h : RequestHead) : Type 0 where
+  pub no_origin : names_origin h ≡ false
+  pub framed : framing h ≡ TooLong
+
+-- the bytes end inside the body of a head without `Origin`
+pub record EndsInBody (bytes : List ℕ) : Type 0 where
+  pub h : RequestHead
+  pub rest : List ℕ
+  pub begins : BeginsWith bytes h rest
+  pub no_origin : names_origin h ≡ false
+  pub size : ℕ
+  pub framed : framing h ≡ Body size
+  pub short : length rest < size
 
 -- the bytes end inside a head, or inside a body
 abbrev pub EndsInside : List ℕ → Type 0
-EndsInside bytes =
-    ((0 < length bytes) × IsOpen bytes)
-    ⊎ ((h : RequestHead) × (rest : List ℕ) × (n : ℕ) × BeginsWith bytes h rest × (framing h ≡ Body n) × (length rest < n))
+EndsInside bytes = ((0 < length bytes) × IsOpen bytes) ⊎ EndsInBody bytes
 
 -- a connection whose messages so far leave these bytes, and no more, may end so before a further message
 abbrev pub AllowsEnd : List ℕ → End → Type 0
@@ -44,8 +73,9 @@ AllowsEnd bytes Closed = bytes ≡ []
 AllowsEnd bytes Truncated = EndsInside bytes
 AllowsEnd bytes BadHead = NeverHasHead bytes
 AllowsEnd bytes HeadTooLong = HasLongHead bytes
-AllowsEnd bytes BadFraming = HasFraming bytes Bad
-AllowsEnd bytes BodyTooLong = HasFraming bytes TooLong
+AllowsEnd bytes BadFraming = HasHeadWith (λ h. framing h ≡ Bad) bytes
+AllowsEnd bytes OriginRefused = HasHeadWith IsRefused bytes
+AllowsEnd bytes BodyTooLong = HasHeadWith IsLong bytes
 AllowsEnd bytes LinkFault = ⊤
 AllowsEnd bytes Memory = ⊤
 AllowsEnd bytes Asked = ⊥
@@ -92,6 +122,7 @@ pub record IsMessage (bytes : List ℕ) (m : Message) (h : RequestHead) : Type 0
   pub short : m.head.len ≤ HEAD_LIMIT
   pub ordered : m.head.len ≤ m.len
   pub whole : m.len ≤ length bytes
+  pub no_origin : names_origin h ≡ false
   pub size : ℕ
   pub framed : framing h ≡ Body size
   pub len : m.len ≡ m.head.len + size

@@ -2,7 +2,7 @@
 use Rattle.std.specs.Prelude.{ℕ, Bool, false, ◌||◌, List, [], ◌∷◌, ◌++◌, length, codes, decimal, unwrap_or, if◌then◌else◌, ◌==◌, Option, None, Some}
 use Rattle.http.specs.StatusCode.{reason_phrase}
 use Rattle.http_serving.specs.declared.end.End.{End}
-use Rattle.http_serving.specs.declared.end.End.TheVariants.{BadFraming, HeadTooLong, BodyTooLong}
+use Rattle.http_serving.specs.declared.end.End.TheVariants.{BadFraming, OriginRefused, HeadTooLong, BodyTooLong}
 use Rattle.http_serving.specs.declared.response.ExtraField.{ExtraField}
 use Rattle.http_serving.specs.declared.response.ExtraField.TheVariants.{Allow, BatchStop}
 use Rattle.http_serving.specs.declared.response.StopCause.TheVariants.{KeeperFault, Memory}
@@ -61,6 +61,7 @@ text_of to_head response = text_with to_head response.status response.extra resp
 abbrev pub end_status : End → ℕ
 end_status HeadTooLong = 431
 end_status BodyTooLong = 413
+end_status OriginRefused = 403
 end_status _ = 400
 
 -- the body of that answer: an error object whose code is the name of the end
@@ -68,6 +69,7 @@ unfoldable pub end_body : End → List ℕ
 end_body HeadTooLong = codes "{\"code\":\"HeadTooLong\",\"number\":0,\"values\":[]}"
 end_body BodyTooLong = codes "{\"code\":\"BodyTooLong\",\"number\":0,\"values\":[]}"
 end_body BadFraming = codes "{\"code\":\"BadFraming\",\"number\":0,\"values\":[]}"
+end_body OriginRefused = codes "{\"code\":\"OriginRefused\",\"number\":0,\"values\":[]}"
 end_body _ = codes "{\"code\":\"BadHead\",\"number\":0,\"values\":[]}"
 
 abbrev pub end_text : End → List ℕ

@@ -1,7 +1,7 @@
 //! Ends of a connection.
 
-/// How a connection ended. Before `BadHead`, `BadFraming`, `HeadTooLong` and `BodyTooLong` an answer is written, whose body is an
-/// error object with the name of the end as its code and the number 0.
+/// How a connection ended. Before `BadHead`, `BadFraming`, `OriginRefused`, `HeadTooLong` and `BodyTooLong` an answer is written,
+/// whose body is an error object with the name of the end as its code and the number 0.
 #[derive(Clone, Copy, Debug, PartialEq, Eq)]
 pub enum End {
     /// The input ended between two requests.
@@ -18,10 +18,15 @@ pub enum End {
     /// The fields of a whole head do not say how long its body is, or the host is missing or given twice: see http_head
     /// `Framing::Bad`. The status 400 is written.
     BadFraming,
+    /// A whole head has a field `Origin`, whatever its value, as the requests have that a browser sends for a page of another
+    /// place (RFC 6454, section 7), and its fields are not faulty as `BadFraming` says. The body is not read. The status 403 is
+    /// written.
+    OriginRefused,
     /// The first http_head `HEAD_LIMIT` bytes have no end of a head, or the head has more fields than `FIELD_LIMIT`. The status
     /// 431 is written.
     HeadTooLong,
-    /// The stated length of the body is more than http_head `BODY_LIMIT`. The status 413 is written.
+    /// The stated length of the body is more than http_head `BODY_LIMIT`, and the head has no `Origin`. The status 413 is
+    /// written.
     BodyTooLong,
     /// The link failed in this call.
     LinkFault,

@@ -110,15 +110,16 @@ fn end_with<L: Link>(alloc: Global, link: &mut L, end: End) -> End
     ensures failed { result ≡ End.LinkFault → (end ≡ End.LinkFault) ⊎ Rose (L.faults link.old) (L.faults link.new) }
 {
     match end {
-        End::BadHead | End::BadFraming | End::HeadTooLong | End::BodyTooLong => {
-            let Ok(text) = end_text(alloc, end) else {
-                return End::Memory;
-            };
-            match write_all(link, text.as_bytes()) {
-                Ok(()) => end,
-                Err(Failed) => End::LinkFault,
+        End::BadHead | End::BadFraming | End::OriginRefused | End::HeadTooLong | End::BodyTooLong =>
+            {
+                let Ok(text) = end_text(alloc, end) else {
+                    return End::Memory;
+                };
+                match write_all(link, text.as_bytes()) {
+                    Ok(()) => end,
+                    Err(Failed) => End::LinkFault,
+                }
             }
-        }
         _ => end,
     }
 }

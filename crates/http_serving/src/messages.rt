@@ -1,11 +1,11 @@
 //! Whole messages at the front of a buffer.
-ghost use Rattle.std.specs.Prelude.{◌≡◌, ◌≢◌, ◌≤◌, ◌<◌, ◌++◌, List, ℕ, MatchResult, IsErrOf, length};
+ghost use Rattle.std.specs.Prelude.{◌≡◌, ◌≢◌, false, ◌≤◌, ◌<◌, ◌++◌, List, ℕ, MatchResult, IsErrOf, length};
 ghost use Rattle.bt_base.specs.Causes.{Rose};
 ghost use Rattle.http_link.specs.Filling.{Fills, Loses};
 ghost use Rattle.http_head.specs.Heads.{IsHead, IsOpen};
 ghost use Rattle.http_head.specs.declared.heads.TheConstants.{HEAD_LIMIT};
 ghost use Rattle.http_head.specs.declared.framing.TheConstants.{BODY_LIMIT};
-ghost use Rattle.http_serving.specs.Reading.{FillsLine, FoundHead, FoundMessage, Stops, AllowsEnd, IsFault};
+ghost use Rattle.http_serving.specs.Reading.{end_of_origin, FillsLine, FoundHead, FoundMessage, Stops, AllowsEnd, IsFault};
 
 use crate::end::End;
 use http_head::{Framing, HEAD_LIMIT, Head, HeadRead, read_head};
@@ -96,7 +96,7 @@ fn find_head<L: Link>(link: &mut L, buffer: &mut Vec<u8>) -> Result<Head, End>
     }
 }
 
-/// Reads until the buffer has the whole message of this head.
+/// Reads until the buffer has the whole message of this head, which has no `Origin`.
 fn find_body<L: Link>(
     link: &mut L,
     buffer: &mut Vec<u8>,
@@ -107,6 +107,7 @@ fn find_body<L: Link>(
     requires short { head.len ≤ HEAD_LIMIT }
     requires small { size ≤ BODY_LIMIT }
     requires framed { head.framing ≡ Framing.Body size }
+    requires no_origin { head.has_origin ≡ false }
     ensures found { MatchResult result
         (λ m. FoundMessage (L.left link.old) (L.left link.new) buffer.old.items buffer.new.items m)
         (λ end. Stops (L.left link.old) (L.left link.new) buffer.old.items end) }
@@ -125,7 +126,18 @@ fn find_body<L: Link>(
     Ok(Message { head, len })
 }
 
-/// Reads until the buffer begins with a whole message. An error is the end of a connection whose bytes allow it.
+/// The end of a connection at a head with a field `Origin`, whose body has this framing. Faulty fields go first.
+fn end_of_origin(framing: Framing) -> End
+    ensures { result ≡ end_of_origin framing }
+{
+    match framing {
+        Framing::Bad => End::BadFraming,
+        Framing::TooLong | Framing::Body(_) => End::OriginRefused,
+    }
+}
+
+/// Reads until the buffer begins with a whole message. An error is the end of a connection whose bytes allow it. A head with a
+/// field `Origin` is refused before any byte of its body is waited for.
 pub fn find_message<L: Link>(link: &mut L, buffer: &mut Vec<u8>) -> Result<Message, End>
     ensures found { MatchResult result
         (λ m. FoundMessage (L.left link.old) (L.left link.new) buffer.old.items buffer.new.items m)
@@ -138,6 +150,9 @@ pub fn find_message<L: Link>(link: &mut L, buffer: &mut Vec<u8>) -> Result<Messa
         Ok(head) => head,
         Err(end) => return Err(end),
     };
+    if head.has_origin {
+        return Err(end_of_origin(head.framing));
+    }
     match head.framing {
         Framing::Bad => Err(End::BadFraming),
         Framing::TooLong => Err(End::BodyTooLong),

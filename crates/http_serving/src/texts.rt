@@ -146,6 +146,7 @@ fn end_status(end: End) -> StatusCode
     match end {
         End::HeadTooLong => StatusCode::REQUEST_HEADER_FIELDS_TOO_LARGE,
         End::BodyTooLong => StatusCode::PAYLOAD_TOO_LARGE,
+        End::OriginRefused => StatusCode::FORBIDDEN,
         _ => StatusCode::BAD_REQUEST,
     }
 }
@@ -159,6 +160,7 @@ fn end_body(end: End) -> &'static str
         End::HeadTooLong => "{\"code\":\"HeadTooLong\",\"number\":0,\"values\":[]}",
         End::BodyTooLong => "{\"code\":\"BodyTooLong\",\"number\":0,\"values\":[]}",
         End::BadFraming => "{\"code\":\"BadFraming\",\"number\":0,\"values\":[]}",
+        End::OriginRefused => "{\"code\":\"OriginRefused\",\"number\":0,\"values\":[]}",
         _ => "{\"code\":\"BadHead\",\"number\":0,\"values\":[]}",
     }
 }

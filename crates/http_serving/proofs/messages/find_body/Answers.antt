@@ -17,11 +17,11 @@ returns-in-Ok-false-clause-found g c =
     let fills = rw c.in-Ok-false.field-0-test at c.in-Ok-false.ensures.bytes in
     let less : length c.body.buffer.items < c.args.head.len + c.args.size = omega (arith, c.body-test.true) in
     stops_end Truncated (grows_fill c.body.invariant.grows fills) (fills.none refl).0
-    (subst EndsInside (sym (same_at_end fills)) (ends_in_body c.args.size (head_grows c.body.invariant.grows c.requires.is_head) c.requires.short c.requires.framed less))
+    (subst EndsInside (sym (same_at_end fills)) (ends_in_body c.args.size (head_grows c.body.invariant.grows c.requires.is_head) c.requires.short c.requires.framed c.requires.no_origin less))
 
 pub returns-in-Err-clause-found : goal.returns-in-Err-clause-found
 returns-in-Err-clause-found g c = stops_fault c.in-Err.end c.body.invariant.grows c.in-Err.ensures.bytes
 
 pub returns-clause-found : goal.returns-clause-found
 returns-clause-found g c =
-    found_here c.args.size c.body.invariant.grows c.requires.is_head c.requires.short c.requires.framed (omega (arith, c.body-test.false))
+    found_here c.args.size c.body.invariant.grows c.requires.is_head c.requires.short c.requires.framed c.requires.no_origin (omega (arith, c.body-test.false))
