@@ -1,5 +1,5 @@
 -- Two ends that the same bytes allow.
-use Rattle.std.proofs.Common.{◌≡◌, ◌-◌, ◌+◌, ◌<◌, ◌≤◌, ◌⊎◌, ℕ, List, [], ◌∷◌, length, take, refl, sym, ap, ◌∙◌, subst, arith, rules, inl, inr}
+use Rattle.std.proofs.Common.{◌≡◌, ◌-◌, ◌+◌, ◌<◌, ◌≤◌, ◌⊎◌, ℕ, false, List, [], ◌∷◌, length, take, refl, sym, ap, ◌∙◌, subst, arith, rules, inl, inr}
 use Rattle.std.proofs.lemmas.List.{append-nil, take_all}
 use Rattle.std.proofs.lemmas.Str.{IsUtf8-from_ascii}
 use Rattle.std.proofs.lemmas.List.Elements.{All-cons, All-nil}
@@ -9,17 +9,18 @@ use Rattle.http_head.specs.declared.heads.TheConstants.{HEAD_LIMIT, FIELD_LIMIT}
 use Rattle.http_head.specs.Heads.{NeverHasHead, HasLongHead, IsOpen}
 use Rattle.http_head.specs.Lines.{HasManyLines, lines_ended}
 use Rattle.http_serving.specs.declared.end.End.{End}
-use Rattle.http_serving.specs.declared.end.End.TheVariants.{Closed, Asked, Spent, Truncated, BadHead, BadFraming, HeadTooLong, BodyTooLong, LinkFault, Memory}
-use Rattle.http_serving.specs.Reading.{BeginsWith, framing, AllowsEnd, IsFault}
+use Rattle.http_serving.specs.declared.end.End.TheVariants.{Closed, Asked, Spent, Truncated, BadHead, BadFraming, OriginRefused, HeadTooLong, BodyTooLong, LinkFault, Memory}
+use Rattle.http_serving.specs.Reading.{BeginsWith, framing, names_origin, IsRefused, IsLong, AllowsEnd, IsFault}
 use Rattle.http_laws.proofs.FewLines.{not_many, lines_grow}
-use Rattle.http_laws.proofs.Telling.{same_head, in_front, some_byte, kind_of}
+use Rattle.http_laws.proofs.Telling.{same_head, in_front, some_byte, kind_of, tells_apart}
 use Rattle.http_laws.specs.Ends.{Agree, IsInDoubt, EndsAgree}
 
 -- a whole head is there, and its body decides the end
-data ByBody (h : RequestHead) (rest : List ℕ) : End → Type 0 where
+pub data ByBody (h : RequestHead) (rest : List ℕ) : End → Type 0 where
   bad : framing h ≡ Bad → ByBody h rest BadFraming
-  too_long : framing h ≡ TooLong → ByBody h rest BodyTooLong
-  short : (n : ℕ) → framing h ≡ Body n → length rest < n → ByBody h rest Truncated
+  refused : IsRefused h → ByBody h rest OriginRefused
+  too_long : IsLong h → ByBody h rest BodyTooLong
+  short : (n : ℕ) → framing h ≡ Body n → names_origin h ≡ false → length rest < n → ByBody h rest Truncated
   fault : LinkFault ≡ LinkFault → ByBody h rest LinkFault
   out_of_memory : Memory ≡ Memory → ByBody h rest Memory
 
@@ -30,7 +31,7 @@ data ByHead (bytes : List ℕ) : End → Type 0 where
   never : NeverHasHead bytes → ByHead bytes BadHead
   long : HasLongHead bytes → ByHead bytes HeadTooLong
 
-by_body : {bytes : List ℕ} {h : RequestHead} {rest : List ℕ} (e : End) → BeginsWith bytes h rest → AllowsEnd bytes e → ByBody h rest e
+pub by_body : {bytes : List ℕ} {h : RequestHead} {rest : List ℕ} (e : End) → BeginsWith bytes h rest → AllowsEnd bytes e → ByBody h rest e
 by_body {bytes} {h} {rest} LinkFault x s = fault refl
 by_body {bytes} {h} {rest} Memory x s = out_of_memory refl
 by_body {bytes} {h} {rest} Asked x s = absurd s
@@ -42,11 +43,12 @@ by_body {bytes} {h} {rest} BadHead x s =
 by_body {bytes} {h} {rest} HeadTooLong x (inl l) = absurd (l.1 h _ (in_front x))
 by_body {bytes} {h} {rest} HeadTooLong x (inr m) = absurd (not_many _ (in_front x) x.few m)
 by_body {bytes} {h} {rest} Truncated x (inl o) = absurd (o.1.no_head h rest x.reads)
-by_body {bytes} {h} {rest} Truncated x (inr (k, after, n, b, f, less)) =
-    let same = same_head x b in
-    short n (ap framing same.0 ∙ f) (omega (arith, less, ap length same.1))
+by_body {bytes} {h} {rest} Truncated x (inr t) =
+    let same = same_head x t.begins in
+    short t.size (ap framing same.0 ∙ t.framed) (ap names_origin same.0 ∙ t.no_origin) (omega (arith, t.short, ap length same.1))
 by_body {bytes} {h} {rest} BadFraming x (k, after, b, f) = bad (ap framing (same_head x b).0 ∙ f)
-by_body {bytes} {h} {rest} BodyTooLong x (k, after, b, f) = too_long (ap framing (same_head x b).0 ∙ f)
+by_body {bytes} {h} {rest} OriginRefused x (k, after, b, f) = refused (subst IsRefused (sym (same_head x b).0) f)
+by_body {bytes} {h} {rest} BodyTooLong x (k, after, b, f) = too_long (subst IsLong (sym (same_head x b).0) f)
 
 bodies_agree : (bytes : List ℕ) {h : RequestHead} {rest : List ℕ} {e f : End} → ByBody h rest e → ByBody h rest f → Agree bytes e f
 bodies_agree bytes (fault _) y = inr (inl (inl tt))
@@ -54,18 +56,27 @@ bodies_agree bytes (out_of_memory _) y = inr (inl (inl tt))
 bodies_agree bytes (bad x) (fault _) = inr (inl (inr tt))
 bodies_agree bytes (bad x) (out_of_memory _) = inr (inl (inr tt))
 bodies_agree bytes (bad x) (bad y) = inl refl
-bodies_agree bytes (bad x) (too_long y) = absurd (omega (arith, ap kind_of (sym x ∙ y)))
-bodies_agree bytes (bad x) (short n y l) = absurd (omega (arith, ap kind_of (sym x ∙ y)))
+bodies_agree bytes (bad x) (refused y) = absurd (y.framed x)
+bodies_agree bytes (bad x) (too_long y) = absurd (omega (arith, ap kind_of (sym x ∙ y.framed)))
+bodies_agree bytes (bad x) (short n y o l) = absurd (omega (arith, ap kind_of (sym x ∙ y)))
+bodies_agree bytes (refused x) (fault _) = inr (inl (inr tt))
+bodies_agree bytes (refused x) (out_of_memory _) = inr (inl (inr tt))
+bodies_agree bytes (refused x) (bad y) = absurd (x.framed y)
+bodies_agree bytes (refused x) (refused y) = inl refl
+bodies_agree bytes (refused x) (too_long y) = absurd (tells_apart x.origin y.no_origin)
+bodies_agree bytes (refused x) (short n y o l) = absurd (tells_apart x.origin o)
 bodies_agree bytes (too_long x) (fault _) = inr (inl (inr tt))
 bodies_agree bytes (too_long x) (out_of_memory _) = inr (inl (inr tt))
-bodies_agree bytes (too_long x) (bad y) = absurd (omega (arith, ap kind_of (sym x ∙ y)))
+bodies_agree bytes (too_long x) (bad y) = absurd (omega (arith, ap kind_of (sym x.framed ∙ y)))
+bodies_agree bytes (too_long x) (refused y) = absurd (tells_apart y.origin x.no_origin)
 bodies_agree bytes (too_long x) (too_long y) = inl refl
-bodies_agree bytes (too_long x) (short n y l) = absurd (omega (arith, ap kind_of (sym x ∙ y)))
-bodies_agree bytes (short m x k) (fault _) = inr (inl (inr tt))
-bodies_agree bytes (short m x k) (out_of_memory _) = inr (inl (inr tt))
-bodies_agree bytes (short m x k) (bad y) = absurd (omega (arith, ap kind_of (sym x ∙ y)))
-bodies_agree bytes (short m x k) (too_long y) = absurd (omega (arith, ap kind_of (sym x ∙ y)))
-bodies_agree bytes (short m x k) (short n y l) = inl refl
+bodies_agree bytes (too_long x) (short n y o l) = absurd (omega (arith, ap kind_of (sym x.framed ∙ y)))
+bodies_agree bytes (short m x o k) (fault _) = inr (inl (inr tt))
+bodies_agree bytes (short m x o k) (out_of_memory _) = inr (inl (inr tt))
+bodies_agree bytes (short m x o k) (bad y) = absurd (omega (arith, ap kind_of (sym x ∙ y)))
+bodies_agree bytes (short m x o k) (refused y) = absurd (tells_apart y.origin o)
+bodies_agree bytes (short m x o k) (too_long y) = absurd (omega (arith, ap kind_of (sym x ∙ y.framed)))
+bodies_agree bytes (short m x o k) (short n y p l) = inl refl
 
 -- a head, as a witness that a head can come if nothing has
 witness : RequestHead
@@ -143,8 +154,9 @@ sort {bytes} Closed s = inr (inl (nothing s))
 sort {bytes} BadHead s = inr (inl (never s))
 sort {bytes} HeadTooLong s = inr (inl (long s))
 sort {bytes} Truncated (inl o) = inr (inl (open_yet o.0 o.1))
-sort {bytes} Truncated (inr (h, rest, n, b, f, less)) = inl (h, rest, b)
+sort {bytes} Truncated (inr t) = inl (t.h, t.rest, t.begins)
 sort {bytes} BadFraming (h, rest, b, f) = inl (h, rest, b)
+sort {bytes} OriginRefused (h, rest, b, f) = inl (h, rest, b)
 sort {bytes} BodyTooLong (h, rest, b, f) = inl (h, rest, b)
 
 by_head_both : {bytes : List ℕ} {e f : End} → HasHead bytes → AllowsEnd bytes e → AllowsEnd bytes f → Agree bytes e f

@@ -1,6 +1,7 @@
 -- The bytes tell the message at their front.
-use Rattle.std.proofs.Common.{◌≡◌, ◌-◌, ◌<◌, ℕ, zero, suc, List, [], ◌∷◌, ◌++◌, length, take, drop, refl, sym, ap, ◌∙◌, subst, arith, inl, inr}
+use Rattle.std.proofs.Common.{◌≡◌, ◌-◌, ◌<◌, ℕ, Bool, true, false, zero, suc, List, [], ◌∷◌, ◌++◌, length, take, drop, refl, sym, ap, ◌∙◌, subst, arith, inl, inr}
 use Rattle.std.proofs.Math.Seq.{take-append_seam, drop-append_seam}
+use Rattle.std.proofs.lemmas.Bool.{false≢true}
 use Rattle.std.proofs.lemmas.List.{take_all, append-nil, length-append}
 use Rattle.httparse.specs.Grammar.{RequestHead, print_request, ReadsRequest, print_blank, print_version, print_end, print_section}
 use Rattle.httparse.proofs.GrammarLemmas.{request_unique, print_request-append}
@@ -9,8 +10,8 @@ use Rattle.http_head.specs.declared.framing.Framing.TheVariants.{Bad, TooLong, B
 use Rattle.http_head.specs.declared.heads.TheConstants.{HEAD_LIMIT}
 use Rattle.http_laws.proofs.FewLines.{not_many}
 use Rattle.http_laws.specs.Messages.{OneMessage, OnlyFaultsBeforeMessage, MessagesAreAnswered}
-use Rattle.http_serving.specs.declared.end.End.TheVariants.{Closed, Asked, Spent, Truncated, BadHead, BadFraming, HeadTooLong, BodyTooLong, LinkFault, Memory}
-use Rattle.http_serving.specs.Reading.{BeginsWith, framing}
+use Rattle.http_serving.specs.declared.end.End.TheVariants.{Closed, Asked, Spent, Truncated, BadHead, BadFraming, OriginRefused, HeadTooLong, BodyTooLong, LinkFault, Memory}
+use Rattle.http_serving.specs.Reading.{BeginsWith, framing, names_origin}
 
 pub same_head : {bytes : List ℕ} {h k : RequestHead} {r q : List ℕ} → BeginsWith bytes h r → BeginsWith bytes k q → (h ≡ k) × (r ≡ q)
 same_head {bytes} {h} {k} {r} {q} x y = request_unique bytes h k r q x.reads y.reads
@@ -25,6 +26,10 @@ abbrev pub kind_of : Framing → ℕ
 kind_of Bad = 0
 kind_of TooLong = 1
 kind_of (Body n) = 2
+
+-- a test does not both pass and fail
+pub tells_apart : {b : Bool} → b ≡ true → b ≡ false → ⊥
+tells_apart {b} yes no = false≢true (sym no ∙ yes)
 
 same_parts : (a b x y : List ℕ) → a ++ x ≡ b ++ y → length a ≡ length b → (a ≡ b) × (x ≡ y)
 same_parts a b x y e n = (
@@ -78,14 +83,16 @@ only_faults bytes h body rest BadHead x e =
 only_faults bytes h body rest HeadTooLong x (inl long) = absurd (long.1 h _ (in_front x.begins))
 only_faults bytes h body rest HeadTooLong x (inr many) = absurd (not_many _ (in_front x.begins) x.begins.few many)
 only_faults bytes h body rest Truncated x (inl o) = absurd (o.1.no_head h _ x.begins.reads)
-only_faults bytes h body rest Truncated x (inr (k, after, n, b, f, less)) =
-    let same = same_head x.begins b in
-    let size : length body ≡ n = ap size_in (sym x.framed ∙ ap framing same.0 ∙ f) in
-    absurd (omega (arith, size, less, ap length same.1, length-append body rest))
+only_faults bytes h body rest Truncated x (inr t) =
+    let same = same_head x.begins t.begins in
+    let size : length body ≡ t.size = ap size_in (sym x.framed ∙ ap framing same.0 ∙ t.framed) in
+    absurd (omega (arith, size, t.short, ap length same.1, length-append body rest))
 only_faults bytes h body rest BadFraming x (k, after, b, f) =
     let two : ◌≡◌ {A = ℕ} 0 2 = other_framing Bad (length body) x.begins x.framed b f in absurd (omega (arith, two))
+only_faults bytes h body rest OriginRefused x (k, after, b, f) =
+    absurd (tells_apart f.origin (sym (ap names_origin (same_head x.begins b).0) ∙ x.no_origin))
 only_faults bytes h body rest BodyTooLong x (k, after, b, f) =
-    let two : ◌≡◌ {A = ℕ} 1 2 = other_framing TooLong (length body) x.begins x.framed b f in absurd (omega (arith, two))
+    let two : ◌≡◌ {A = ℕ} 1 2 = other_framing TooLong (length body) x.begins x.framed b f.framed in absurd (omega (arith, two))
 
 pub answered : (S : Type 0) → MessagesAreAnswered S
 answered S p LinkFault h body rest e x = inl tt
@@ -96,5 +103,6 @@ answered S p Closed h body rest e x = inl (only_faults p.left h body rest Closed
 answered S p Truncated h body rest e x = inl (only_faults p.left h body rest Truncated x e.2)
 answered S p BadHead h body rest e x = inl (only_faults p.left h body rest BadHead x e.2)
 answered S p BadFraming h body rest e x = inl (only_faults p.left h body rest BadFraming x e.2)
+answered S p OriginRefused h body rest e x = inl (only_faults p.left h body rest OriginRefused x e.2)
 answered S p HeadTooLong h body rest e x = inl (only_faults p.left h body rest HeadTooLong x e.2)
 answered S p BodyTooLong h body rest e x = inl (only_faults p.left h body rest BodyTooLong x e.2)

@@ -1,6 +1,7 @@
 //! Laws, each the contract of a function.
 ghost use Rattle.http_laws.specs.Ends.{EndsAgree};
 ghost use Rattle.http_laws.specs.Messages.{OneMessage, OnlyFaultsBeforeMessage, MessagesAreAnswered};
+ghost use Rattle.http_laws.specs.Origins.{OriginsAreRefused, OnlyOriginsAreRefused};
 
 use http_serving::Service;
 
@@ -24,4 +25,15 @@ pub fn every_message_is_answered<S: Service>(_service: &S)
 /// are looked at end inside a target, or cannot become a head and have the lines of more fields than the limit.
 pub fn ends_agree()
     ensures { EndsAgree }
+{}
+
+/// Bytes that begin with a head with a field `Origin`, whatever its value, begin with no message, so that no request of theirs is
+/// answered; and they allow no end but `OriginRefused`, `BadFraming`, a fault of the link and running out of memory.
+pub fn origins_are_refused()
+    ensures { OriginsAreRefused }
+{}
+
+/// Bytes that begin with a head and allow the end `OriginRefused` have a field `Origin` in that head.
+pub fn only_origins_are_refused()
+    ensures { OnlyOriginsAreRefused }
 {}

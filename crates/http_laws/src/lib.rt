@@ -6,4 +6,7 @@
 
 mod laws;
 
-pub use laws::{ends_agree, every_message_is_answered, one_message, only_faults_before_a_message};
+pub use laws::{
+    ends_agree, every_message_is_answered, one_message, only_faults_before_a_message,
+    only_origins_are_refused, origins_are_refused,
+};
