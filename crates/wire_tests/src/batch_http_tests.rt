@@ -49,7 +49,7 @@ fn make_service(alloc: Global, desk: Desk<MemoryKeeper>, clock: ListClock) -> Re
 }
 
 /// A service over empty tables, whose keeper fails at these calls, and over a journal of so many calls.
-fn new_service(alloc: Global, fails: &[u64], limit: u32) -> Result<Served, Fail> {
+pub(crate) fn new_service(alloc: Global, fails: &[u64], limit: u32) -> Result<Served, Fail> {
     let keeper = MemoryKeeper::new(Tables::empty(alloc), fails.to_vec(alloc)?);
     let desk = open_desk(alloc, keeper, limit)?;
     make_service(alloc, desk, ListClock::new(Vec::new(alloc), 0))
@@ -67,7 +67,7 @@ fn serve_pieces(
 }
 
 /// Whether a connection with this text, cut in pieces of this size, has this answer and this end.
-fn answers(
+pub(crate) fn answers(
     alloc: Global,
     service: &mut Served,
     text: &[u8],
@@ -103,7 +103,13 @@ fn gives_with(
 }
 
 /// Whether the text has this answer and this end over a new desk.
-fn gives(alloc: Global, text: &[u8], size: usize, answer: &[u8], end: End) -> Result<bool, Fail>
+pub(crate) fn gives(
+    alloc: Global,
+    text: &[u8],
+    size: usize,
+    answer: &[u8],
+    end: End,
+) -> Result<bool, Fail>
     requires { 0 < size }
 {
     gives_with(alloc, (&[], 100), text, size, answer, end)
@@ -128,10 +134,10 @@ fn a_pool_is_added_and_a_job_is_not_there_however_the_bytes_are_cut(
     Ok(())
 }
 
-const BAD_HEAD: &[u8] =
+pub(crate) const BAD_HEAD: &[u8] =
     b"HTTP/1.1 400 Bad Request\r\nContent-Type: application/json\r\nContent-Length: 41\r\n\r\n{\"code\":\"BadHead\",\"number\":0,\"values\":[]}";
 
-const BAD_FRAMING: &[u8] =
+pub(crate) const BAD_FRAMING: &[u8] =
     b"HTTP/1.1 400 Bad Request\r\nContent-Type: application/json\r\nContent-Length: 44\r\n\r\n{\"code\":\"BadFraming\",\"number\":0,\"values\":[]}";
 
 const BODY_TOO_LONG: &[u8] =
@@ -282,7 +288,7 @@ fn repeated(alloc: Global, text: &[u8], count: usize) -> Result<Vec<u8>, AllocEr
 const LONG_BODY: &[u8] =
     b"POST /pools HTTP/1.1\r\nHost: localhost\r\nContent-Length: 1048576\r\n\r\n";
 
-const UNREADABLE: &[u8] =
+pub(crate) const UNREADABLE: &[u8] =
     b"HTTP/1.1 400 Bad Request\r\nContent-Type: application/json\r\nContent-Length: 48\r\n\r\n{\"code\":\"UnreadableBody\",\"number\":1,\"values\":[]}";
 
 #[test]

@@ -16,6 +16,10 @@ use std::test::Fail;
 const ADD_POOL: &[u8] =
     b"POST /pools HTTP/1.1\r\nHost: localhost\r\nContent-Length: 35\r\n\r\n{\"id\":\"p\",\"targetDedicatedNodes\":1}";
 
+/// The same, as a browser sends it for a page of another place.
+const ADD_POOL_BY_PAGE: &[u8] =
+    b"POST /pools HTTP/1.1\r\nHost: localhost\r\nOrigin: http://page.example\r\nContent-Length: 35\r\n\r\n{\"id\":\"p\",\"targetDedicatedNodes\":1}";
+
 const GET_POOL: &[u8] = b"GET /pools/p HTTP/1.1\r\nHost: localhost\r\n\r\n";
 
 /// A desk over empty tables.
@@ -63,10 +67,10 @@ fn new_link(alloc: Global, text: &[u8]) -> Result<SureLink, AllocError> {
     Ok(SureLink::new(alloc, pieces))
 }
 
-/// Two links: over the first the peer adds a pool, and over the second it reads the pool.
-fn new_links(alloc: Global) -> Result<Vec<SureLink>, AllocError> {
+/// Two links: over the first the peer sends this text, and over the second it reads the pool.
+fn links_after(alloc: Global, first: &[u8]) -> Result<Vec<SureLink>, AllocError> {
     let mut links = Vec::new(alloc);
-    links.push(new_link(alloc, ADD_POOL)?)?;
+    links.push(new_link(alloc, first)?)?;
     links.push(new_link(alloc, GET_POOL)?)?;
     Ok(links)
 }
@@ -81,7 +85,7 @@ fn has_taken(link: SureLink, front: &[u8]) -> bool {
 
 #[test]
 fn links_are_served_and_handed_back_in_order(rt: HostRuntime) -> Result<(), Fail> {
-    let mut listener = SureListener::new(new_links(rt.alloc())?);
+    let mut listener = SureListener::new(links_after(rt.alloc(), ADD_POOL)?);
     let end = serve_over_desk(&rt, rt.alloc(), &mut listener)?;
     assert!(rt; !end.failed && !end.met_memory);
     assert!(rt; matches!(listener.accept(), Accepted::Ended));
@@ -95,12 +99,24 @@ fn links_are_served_and_handed_back_in_order(rt: HostRuntime) -> Result<(), Fail
 #[test]
 fn a_door_ends_when_its_listener_fails(rt: HostRuntime) -> Result<(), Fail> {
     let fails = [2].to_vec(rt.alloc())?;
-    let mut listener = MemoryListener::new(new_links(rt.alloc())?, fails);
+    let mut listener = MemoryListener::new(links_after(rt.alloc(), ADD_POOL)?, fails);
     let end = serve_over_desk(&rt, rt.alloc(), &mut listener)?;
     assert!(rt; end.failed && !end.met_memory);
     assert_eq!(rt; listener.handed().len(), 1);
     let mut links = listener.into_links();
     assert_eq!(rt; links.len(), 2);
     assert!(rt; has_taken(links.remove(1), b"HTTP/1.1 201 Created\r\n"));
+    Ok(())
+}
+
+#[test]
+fn a_page_adds_no_pool_and_the_next_link_is_served(rt: HostRuntime) -> Result<(), Fail> {
+    let mut listener = SureListener::new(links_after(rt.alloc(), ADD_POOL_BY_PAGE)?);
+    let end = serve_over_desk(&rt, rt.alloc(), &mut listener)?;
+    assert!(rt; !end.failed && !end.met_memory);
+    let mut links = listener.into_links();
+    assert_eq!(rt; links.len(), 2);
+    assert!(rt; has_taken(links.remove(0), b"HTTP/1.1 403 Forbidden\r\n"));
+    assert!(rt; has_taken(links.remove(0), b"HTTP/1.1 404 Not Found\r\n"));
     Ok(())
 }

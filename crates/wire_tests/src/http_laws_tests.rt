@@ -118,6 +118,11 @@ const CONNECTIONS: &[(&[u8], &[u8], End)] = &[
         End::BadFraming,
     ),
     (
+        b"HEAD /x HTTP/1.1\r\nHost: a\r\n\r\nPOST /pools HTTP/1.1\r\nHost: a\r\norigin: http://b\r\nContent-Length: 35\r\n\r\n{",
+        b"HTTP/1.1 404 Not Found\r\nContent-Type: application/json\r\nContent-Length: 46\r\n\r\nHTTP/1.1 403 Forbidden\r\nContent-Type: application/json\r\nContent-Length: 47\r\n\r\n{\"code\":\"OriginRefused\",\"number\":0,\"values\":[]}",
+        End::OriginRefused,
+    ),
+    (
         b"GET / HTTP/2",
         b"HTTP/1.1 400 Bad Request\r\nContent-Type: application/json\r\nContent-Length: 41\r\n\r\n{\"code\":\"BadHead\",\"number\":0,\"values\":[]}",
         End::BadHead,

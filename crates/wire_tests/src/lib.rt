@@ -18,6 +18,8 @@ mod http_routes_tests;
 #[cfg(test)]
 mod link_doors_tests;
 #[cfg(test)]
+mod origin_tests;
+#[cfg(test)]
 mod wire_json_tests;
 #[cfg(test)]
 mod wire_words_tests;
