@@ -73,8 +73,9 @@ fn push_full(out: &mut String, n: u64) -> Result<(), AllocError>
     push_line(out, n, "full")
 }
 
-/// The lines that show what line `n` was answered.
-fn show_answer(alloc: Global, n: u64, answer: &Answer) -> Result<String, NoMemory>
+/// The lines that show what line `n` was answered: its reply, its due steps, and whether a fault stopped them. It fails only when out of
+/// memory.
+pub fn show_answer(alloc: Global, n: u64, answer: &Answer) -> Result<String, NoMemory>
     ensures { IfOk result (λ text. string_bytes text ≡ answer_text n answer.now) }
 {
     let mut out = String::new(alloc);

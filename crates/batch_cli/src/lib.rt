@@ -15,5 +15,6 @@ mod status;
 mod stopped;
 mod tally;
 
+pub use call::show_answer;
 pub use run::run_words;
 pub use status::Status;

@@ -8,6 +8,8 @@ const USAGE: &str = "usage: batch replay [--seats N] [--journal N] [--store PATH
        batch formula [--now MS] [--dedicated N]
        batch export [--store PATH]
        batch drill N
+       batch serve [--seats N] [--journal N] [--store PATH] [--port N] [--doors N] [--connections N]
+       batch child CODE
 
 replay reads a script from standard input, does its calls, and writes what each line was answered and then the tables.
   --seats N      the most nodes at a time, 1 to 32 (default 8)
@@ -19,6 +21,14 @@ formula reads an autoscale formula from standard input, evaluates it, and writes
 export writes the tables as they are kept.
   --store PATH   the file that keeps the tables (default: empty tables in memory)
 drill makes calls that follow from the number N of its tasks, 1 to 100,000, and writes how they ended.
+serve answers HTTP requests on 127.0.0.1 and runs the command lines of tasks as child programs.
+  --seats N        the most nodes at a time, 1 to 32 (default 8)
+  --journal N      the most calls until it ends, 1 to 4,000,000 (default 4,000,000)
+  --store PATH     the file that keeps the tables, made if it is not there (default: tables in memory, empty at first)
+  --port N         the port, 0 to 65,535, where 0 is any free one (default 8,080)
+  --doors N        the most connections that are served at a time, 1 to 16 (default 4)
+  --connections N  the number of connections, of all doors together, after which it ends, 1 to 1,000,000 (default: no end)
+child writes its words on a line and ends with the exit code CODE modulo 256; it is for trying the service out.
 An option is given at most once, as --name value or --name=value. A value that begins with - needs the second form.";
 
 /// What happened and what to do, in one line, but for the usage.

@@ -55,7 +55,7 @@ pub struct ServeOptions {
     pub port: u16,
     /// The number of doors, each of which serves one connection at a time, 1 to 16, by default 4.
     pub doors: u8,
-    /// The number of connections after which each listener ends, 1 to 1,000,000; None, the default, if they have no limit.
+    /// The number of connections, of all doors together, after which the service ends, 1 to 1,000,000; None, the default, for no limit.
     pub connections: Option<u32>,
 }
 
