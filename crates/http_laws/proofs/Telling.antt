@@ -29,7 +29,7 @@ kind_of (Body n) = 2
 
 -- a test does not both pass and fail
 pub tells_apart : {b : Bool} → b ≡ true → b ≡ false → ⊥
-tells_apart {b} yes no = false≢true (sym no ∙ yes)
+tells_apart {b} holds fails = false≢true (sym fails ∙ holds)
 
 same_parts : (a b x y : List ℕ) → a ++ x ≡ b ++ y → length a ≡ length b → (a ≡ b) × (x ≡ y)
 same_parts a b x y e n = (
