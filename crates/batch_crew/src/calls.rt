@@ -13,6 +13,19 @@ use bt_rows::run::Ending;
 use shared_desk::{Pass, SharedDesk};
 use std::alloc::Global;
 use std::sync::Wait;
+use std::thread::Parker;
+use std::time::Duration;
+
+/// How long a lane waits before it tells an ending again after the first keeper fault, in milliseconds.
+pub const FIRST_RETRY_MS: u64 = 50;
+
+/// How long a lane waits at most before it tells an ending again, in milliseconds.
+pub const LAST_RETRY_MS: u64 = 5_000;
+
+/// Waits for this time, in milliseconds, or less.
+fn wait<R: Wait>(rt: &R, ms: u64) {
+    Parker::new().park_timeout(rt, Duration::from_millis(ms));
+}
 
 /// Whether a run was taken.
 fn take_outcome(answer: &Answer) -> Result<bool, Cut>
@@ -83,7 +96,8 @@ fn tell_once<K: Keeper + Drop, C: Clock, R: Wait>(
     told
 }
 
-/// Tells the ending of the run, again after each keeper fault.
+/// Tells the ending of the run, again after each keeper fault: at first after `FIRST_RETRY_MS`, then after twice the time before, and at
+/// last each `LAST_RETRY_MS`. The clock is not asked for that.
 pub fn tell<K: Keeper + Drop, C: Clock, R: Wait>(
     rt: &R,
     alloc: Global,
@@ -98,10 +112,13 @@ pub fn tell<K: Keeper + Drop, C: Clock, R: Wait>(
     ensures tells { Tells desk.now.origin C.gives
         (record { pass = pass.old; clock = clock.old }) (record { pass = pass.new; clock = clock.new }) run.0 run.1 result }
 {
+    let mut retry_ms = FIRST_RETRY_MS;
     for _ in rt.forever() {
         if let Some(told) = tell_once(rt, alloc, desk, pass, clock, run) {
             return told;
         }
+        wait(rt, retry_ms);
+        retry_ms = retry_ms.saturating_mul(2).min(LAST_RETRY_MS);
     }
     unreachable!()
 }

@@ -14,8 +14,9 @@ use std::alloc::Global;
 use std::sync::Wait;
 
 /// Takes turns at a seat. In each turn the lane looks for the lowest queued run of the node at the seat and the words of its
-/// child program, takes the run, runs the child program, and tells how it ended, again after each keeper fault. `NotStarted` is told only if the
-/// spawner's count of faults rose in that start. If no run is queued, or the run was not taken, the clock pauses.
+/// child program, takes the run, runs the child program, and tells how it ended, again after each keeper fault, for which it waits some
+/// time, `LAST_RETRY_MS` at most. `NotStarted` is told only if the spawner's count of faults rose in that start. If no run is queued, or the
+/// run was not taken, the clock pauses.
 ///
 /// It ends with `Ended` only if a pause of the clock said that the service is to end, after a turn in which nothing was run; with `JournalFull`
 /// only if what the pass has then seen has as many calls as the journal takes; and with `Memory` if memory ran out. Returns the pass.

@@ -12,6 +12,7 @@ mod ticking;
 mod timer;
 mod turning;
 
+pub use calls::{FIRST_RETRY_MS, LAST_RETRY_MS};
 pub use cut::LaneEnd;
 pub use lane::run_lane;
 pub use ticking::TICK_GAP_MS;
