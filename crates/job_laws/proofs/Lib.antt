@@ -1,0 +1,3 @@
+pub mod OverRows
+pub mod OverByEvents
+pub mod OverByDues
