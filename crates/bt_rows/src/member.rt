@@ -2,7 +2,7 @@
 ghost use Rattle.std.specs.Prelude.{◌≡◌};
 ghost use Rattle.bt_rows.specs.Names.{member_text};
 
-/// A member of a body or of a query. Its variant is its name in the Azure Batch REST reference, but for `After` and `Node`, which
+/// A member of a body or of a query. Its variant is its name in the Azure Batch REST reference, but for `After`, `Node` and `Tasks`, which
 /// are this project's own.
 #[derive(Clone, Copy, Debug, PartialEq, Eq)]
 pub enum Member {
@@ -58,6 +58,13 @@ pub enum Member {
     MaxResults,
     After,
     Node,
+    Schedule,
+    DoNotRunUntil,
+    DoNotRunAfter,
+    StartWindow,
+    RecurrenceInterval,
+    JobSpecification,
+    Tasks,
 }
 
 impl Member {
@@ -119,6 +126,13 @@ impl Member {
             Member::MaxResults => "maxresults",
             Member::After => "after",
             Member::Node => "node",
+            Member::Schedule => "schedule",
+            Member::DoNotRunUntil => "doNotRunUntil",
+            Member::DoNotRunAfter => "doNotRunAfter",
+            Member::StartWindow => "startWindow",
+            Member::RecurrenceInterval => "recurrenceInterval",
+            Member::JobSpecification => "jobSpecification",
+            Member::Tasks => "tasks",
         }
     }
 }

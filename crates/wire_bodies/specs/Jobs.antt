@@ -15,10 +15,9 @@ use Rattle.wire_bodies.specs.JobTasks.{preparation_if, release_if}
 abbrev pub limits_or_none : Option Limits → Limits
 limits_or_none limits = unwrap_or limits (record { retries = pos 0; wall = None })
 
--- the members in this order: the job's id, and a job that by default has priority 0, no limits, no retries and no actions
-unfoldable pub job_in : Data → Result (List ℕ × JobSpec) Refusal
-job_in d = do
-  id ← id_member (Some d) names.Id
+-- the members in this order: a job that by default has priority 0, no limits, no retries and no actions
+unfoldable pub job_spec_in : Data → Result JobSpec Refusal
+job_spec_in d = do
   priority ← priority_if d
   parallel ← parallel_if d
   limits ← limits_if d
@@ -29,7 +28,14 @@ job_in d = do
   release ← release_if (is_some prep) d
   place ← object_member (Some d) names.PoolInfo
   pool ← id_member place names.PoolId
-  Ok (id, record { pool = pool; priority = unwrap_or priority (pos 0); parallel = unwrap_or parallel (negsuc 0); retries = (limits_or_none limits).retries; wall = (limits_or_none limits).wall; deps = deps; on_all = unwrap_or on_all false; on_fail = unwrap_or on_fail false; prep = prep; release = release })
+  Ok (record { pool = pool; priority = unwrap_or priority (pos 0); parallel = unwrap_or parallel (negsuc 0); retries = (limits_or_none limits).retries; wall = (limits_or_none limits).wall; deps = deps; on_all = unwrap_or on_all false; on_fail = unwrap_or on_fail false; prep = prep; release = release })
+
+-- the job's id, and the job
+unfoldable pub job_in : Data → Result (List ℕ × JobSpec) Refusal
+job_in d = do
+  id ← id_member (Some d) names.Id
+  spec ← job_spec_in d
+  Ok (id, spec)
 
 -- the job that the bytes of a body are, and its id
 unfoldable pub job_of : List ℕ → Result (List ℕ × JobSpec) Refusal

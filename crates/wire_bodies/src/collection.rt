@@ -1,9 +1,10 @@
 //! The body of `add-tasks`.
-ghost use Rattle.std.specs.Prelude.{◌≡◌, true, IfOk};
+ghost use Rattle.std.specs.Prelude.{◌≡◌, true, length, IfOk};
 ghost use Rattle.std.specs.List.{list_all};
-ghost use Rattle.serde_json.specs.View.{view};
+ghost use Rattle.serde_json.specs.View.{view, items_view};
 ghost use Rattle.bt_base.specs.Fails.{Gives};
 ghost use Rattle.bt_rows.specs.Ranges.{is_task_spec_in_range};
+ghost use Rattle.wire_bodies.specs.Items.{items_in};
 ghost use Rattle.wire_bodies.specs.Collections.{task_item, collection_in, collection_of};
 
 use crate::list_item::{ListItem, read_items};
@@ -26,6 +27,20 @@ impl ListItem for TaskSpec {
         let members = object_item(value, list)?;
         task(alloc, members)
     }
+}
+
+/// The tasks that the values of the list of that name are, each an object with the members of the body of `add-task`. The first fault is
+/// returned; it fails with `Memory` when out of memory.
+pub fn read_task_items(
+    alloc: Global,
+    list: Member,
+    values: &[Value],
+) -> Result<List<TaskSpec>, Fail<Refusal>>
+    ensures value { Gives result (items_in (task_item list) (items_view values.now)) }
+    ensures count { IfOk result (λ specs. length specs ≡ length values.now) }
+    ensures kept { IfOk result (λ specs. list_all is_task_spec_in_range specs ≡ true) }
+{
+    read_items(alloc, list, values)
 }
 
 /// The tasks that the members of the body are.

@@ -3,7 +3,7 @@ ghost use Rattle.std.specs.Prelude.{◌≡◌, true, pos, negsuc, unwrap_or, IfO
 ghost use Rattle.serde_json.specs.View.{view};
 ghost use Rattle.bt_base.specs.Fails.{Gives};
 ghost use Rattle.bt_rows.specs.Ranges.{is_job_spec_in_range, are_limits_in_range, is_parallel, is_priority, is_retry_limit, is_duration, passes_if_some};
-ghost use Rattle.wire_bodies.specs.Jobs.{limits_or_none, job_in, job_of};
+ghost use Rattle.wire_bodies.specs.Jobs.{limits_or_none, job_spec_in, job_in, job_of};
 
 use crate::job_member::{limits_if, on_all_if, on_fail_if, parallel_if, priority_if};
 use crate::job_task::{preparation_if, release_if};
@@ -46,13 +46,12 @@ fn parallel_or_none(parallel: Option<i32>) -> i32
     parallel.unwrap_or(-1)
 }
 
-/// The job that the members of the body are, and its id.
-#[tactic(auto, unfolding(crate::specs::Jobs::job_in))]
-fn job(alloc: Global, body: &Value) -> Result<(Id, JobSpec), Fail<Refusal>>
-    ensures value { Gives result (job_in (view body.now)) }
-    ensures kept { IfOk result (λ job. is_job_spec_in_range job.1 ≡ true) }
+/// The job that the members of the body are, as those of `add-job` but for the id.
+#[tactic(auto, unfolding(crate::specs::Jobs::job_spec_in))]
+pub fn read_job_spec(alloc: Global, body: &Value) -> Result<JobSpec, Fail<Refusal>>
+    ensures value { Gives result (job_spec_in (view body.now)) }
+    ensures kept { IfOk result (λ spec. is_job_spec_in_range spec ≡ true) }
 {
-    let id = id_member(alloc, Some(body), Member::Id)?;
     let priority = priority_if(body)?;
     let parallel = parallel_if(body)?;
     let limits = limits_if(body)?;
@@ -64,21 +63,29 @@ fn job(alloc: Global, body: &Value) -> Result<(Id, JobSpec), Fail<Refusal>>
     let place = object_member(Some(body), Member::PoolInfo)?;
     let pool = id_member(alloc, place, Member::PoolId)?;
     let limits = limits_or_none(limits);
-    Ok((
-        id,
-        JobSpec {
-            pool,
-            priority: priority_or_zero(priority),
-            parallel: parallel_or_none(parallel),
-            retries: limits.retries,
-            wall: limits.wall,
-            deps,
-            on_all: on_all.unwrap_or(false),
-            on_fail: on_fail.unwrap_or(false),
-            prep,
-            release,
-        },
-    ))
+    Ok(JobSpec {
+        pool,
+        priority: priority_or_zero(priority),
+        parallel: parallel_or_none(parallel),
+        retries: limits.retries,
+        wall: limits.wall,
+        deps,
+        on_all: on_all.unwrap_or(false),
+        on_fail: on_fail.unwrap_or(false),
+        prep,
+        release,
+    })
+}
+
+/// The job that the members of the body are, and its id.
+#[tactic(auto, unfolding(crate::specs::Jobs::job_in))]
+fn job(alloc: Global, body: &Value) -> Result<(Id, JobSpec), Fail<Refusal>>
+    ensures value { Gives result (job_in (view body.now)) }
+    ensures kept { IfOk result (λ job. is_job_spec_in_range job.1 ≡ true) }
+{
+    let id = id_member(alloc, Some(body), Member::Id)?;
+    let spec = read_job_spec(alloc, body)?;
+    Ok((id, spec))
 }
 
 /// The body of `add-job` (Azure: Create Job): `id`, the members below, with their defaults, and `poolInfo` with `poolId`.

@@ -15,8 +15,8 @@ mod reason;
 mod start;
 mod task;
 
-pub use collection::read_collection;
-pub use job::read_job;
+pub use collection::{read_collection, read_task_items};
+pub use job::{read_job, read_job_spec};
 pub use job_change::{read_disable_tasks, read_job_patch, read_terminate_reason};
 pub use pool::read_pool;
 pub use task::read_task;

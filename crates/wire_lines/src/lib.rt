@@ -8,5 +8,8 @@ mod look;
 mod parts;
 mod script;
 
-pub use line::{LINE_LIMIT, LineRequest, read_line};
+pub use ending::read_moment;
+pub use event::{UNREADABLE, lone_id};
+pub use line::{LINE_LIMIT, LineRequest, is_skipped, read_line, read_request_at};
+pub use parts::{split_two, split_word};
 pub use script::split_line;

@@ -172,9 +172,13 @@ fn event(alloc: Global, text: &[u8]) -> Result<Event, Fail<Refusal>>
     }
 }
 
-/// A read, or an event at this moment.
+/// The request of a line after its moment: a read, or an event at this moment.
 #[tactic(auto, unfolding(crate::specs::Lines::request_at))]
-fn request_at(alloc: Global, moment: Moment, text: &[u8]) -> Result<LineRequest, Fail<Refusal>>
+pub fn read_request_at(
+    alloc: Global,
+    moment: Moment,
+    text: &[u8],
+) -> Result<LineRequest, Fail<Refusal>>
     ensures { Gives result (request_at moment text.now) }
 {
     let (word, arguments) = split_word(text);
@@ -191,11 +195,11 @@ fn request(alloc: Global, text: &[u8]) -> Result<LineRequest, Fail<Refusal>>
 {
     let (moment, rest) = split_two(text).ok_or(UNREADABLE)?;
     let moment = read_moment(moment).ok_or(UNREADABLE)?;
-    request_at(alloc, moment, rest)
+    read_request_at(alloc, moment, rest)
 }
 
 /// Whether the line is empty or a comment.
-fn is_skipped(line: &[u8]) -> bool
+pub fn is_skipped(line: &[u8]) -> bool
     ensures { result ≡ is_skipped line.now }
 {
     match line {
