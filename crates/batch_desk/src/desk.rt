@@ -32,12 +32,22 @@ use std::marker::Model;
 use table_reads::Read;
 
 /// Calls one after the other over a keeper, and the journal of them.
-#[derive(Drop)]
 pub struct Desk<K: Keeper + Drop> {
     saved: SavedMachine<K>,
     opened: Tables,
     limit: u32,
     entries: Entries,
+}
+
+impl<K: Keeper + Drop> Drop for Desk<K> {
+    fn drop(self) {
+        let Desk {
+            saved: _saved,
+            opened: _opened,
+            limit: _limit,
+            entries: _entries,
+        } = self;
+    }
 }
 
 impl<K: Keeper + Drop> Model for Desk<K> {

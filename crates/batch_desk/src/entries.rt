@@ -26,7 +26,6 @@ enum Outcome {
 }
 
 /// A call without its refusal. Its small fields stand together, so that there are no gaps between them.
-#[derive(Drop)]
 struct StoredCall {
     moment: Moment,
     event: Event,
@@ -35,6 +34,19 @@ struct StoredCall {
     refusal: u32,
     outcome: Outcome,
     stop: Stop,
+}
+
+impl Drop for StoredCall {
+    fn drop(self) {
+        let StoredCall {
+            moment: _moment,
+            event: _event,
+            dues: _dues,
+            refusal: _refusal,
+            outcome: _outcome,
+            stop: _stop,
+        } = self;
+    }
 }
 
 /// An entry of a journal, of which the event stays in the journal. The fields are those of `Entry`.
@@ -55,11 +67,20 @@ pub struct EntryRef<'a> {
 /// The entries of a journal, oldest first. Since few calls are refused, the refusals stand in a list of their own.
 ///
 /// Contracts see the list of the entries, and beside it the room: how many more can be pushed without allocating.
-#[derive(Drop)]
 pub struct Entries {
     calls: Vec<StoredCall>,
     refusals: Vec<Refusal>,
     room: usize,
+}
+
+impl Drop for Entries {
+    fn drop(self) {
+        let Entries {
+            calls: _calls,
+            refusals: _refusals,
+            room: _room,
+        } = self;
+    }
 }
 
 impl Model for Entries {

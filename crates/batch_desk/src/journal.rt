@@ -5,7 +5,6 @@ use bt_rows::tables::Tables;
 use std::marker::Model;
 
 /// The calls of a desk, and what it was opened with. Contracts see the entries as a list.
-#[derive(Drop)]
 pub struct Journal {
     /// The opened tables, before the first call.
     pub opened: Tables,
@@ -15,6 +14,17 @@ pub struct Journal {
     pub limit: u32,
     /// The calls, oldest first.
     pub entries: Entries,
+}
+
+impl Drop for Journal {
+    fn drop(self) {
+        let Journal {
+            opened: _opened,
+            seats: _seats,
+            limit: _limit,
+            entries: _entries,
+        } = self;
+    }
 }
 
 impl Model for Journal {

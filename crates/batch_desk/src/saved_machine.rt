@@ -29,11 +29,20 @@ use std::marker::Model;
 use table_reads::Read;
 
 /// A keeper, and the machine beside it. Each step is saved before it is made.
-#[derive(Drop)]
 pub struct SavedMachine<K: Keeper + Drop> {
     keeper: K,
     machine: Machine,
     seats: u8,
+}
+
+impl<K: Keeper + Drop> Drop for SavedMachine<K> {
+    fn drop(self) {
+        let SavedMachine {
+            keeper: _keeper,
+            machine: _machine,
+            seats: _seats,
+        } = self;
+    }
 }
 
 impl<K: Keeper + Drop> Model for SavedMachine<K> {

@@ -13,12 +13,22 @@ use std::marker::Model;
 
 /// A keeper in memory of which the calls of given numbers fail. Contracts see its tables, these numbers, and how many calls were
 /// made and failed.
-#[derive(Drop)]
 pub struct MemoryKeeper {
     inner: SureKeeper,
     fails: Vec<u64>,
     calls: u64,
     faults: u64,
+}
+
+impl Drop for MemoryKeeper {
+    fn drop(self) {
+        let MemoryKeeper {
+            inner: _inner,
+            fails: _fails,
+            calls: _calls,
+            faults: _faults,
+        } = self;
+    }
 }
 
 impl Model for MemoryKeeper {

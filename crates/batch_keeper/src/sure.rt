@@ -10,9 +10,14 @@ use std::alloc::Global;
 use std::marker::Model;
 
 /// A keeper in memory that never fails. Contracts see it as the tables that it keeps.
-#[derive(Drop)]
 pub struct SureKeeper {
     tables: Tables,
+}
+
+impl Drop for SureKeeper {
+    fn drop(self) {
+        let SureKeeper { tables: _tables } = self;
+    }
 }
 
 impl Model for SureKeeper {

@@ -15,9 +15,15 @@ pub const MAX_COMMAND_LINE_BYTES: usize = 8192;
 
 /// A command line: at most 8,192 bytes, with at least one word and no open quote (this project's profile). Contracts see
 /// it as its bytes.
-#[derive(Debug, Drop)]
+#[derive(Debug)]
 pub struct CommandLine {
     text: Text,
+}
+
+impl Drop for CommandLine {
+    fn drop(self) {
+        let CommandLine { text: _text } = self;
+    }
 }
 
 impl Model for CommandLine {

@@ -20,9 +20,15 @@ pub const MAX_ID_NUMBER: u64 = 2_147_483_647;
 
 /// An id: 1 to 64 ASCII letters, digits, `-` and `_`. Contracts see it as its bytes. Ids are compared without regard to
 /// case (Azure Batch REST reference).
-#[derive(Debug, Drop)]
+#[derive(Debug)]
 pub struct Id {
     text: Text,
+}
+
+impl Drop for Id {
+    fn drop(self) {
+        let Id { text: _text } = self;
+    }
 }
 
 impl Model for Id {

@@ -8,9 +8,14 @@ use std::marker::Model;
 use std::sync::Arc;
 
 /// A value in a block of its own, which its copies share. Contracts see the value.
-#[derive(Drop)]
 pub struct Shared<T> {
     inner: Arc<T>,
+}
+
+impl<T: Drop> Drop for Shared<T> {
+    fn drop(self) {
+        let Shared { inner: _inner } = self;
+    }
 }
 
 impl<T> Model for Shared<T> {

@@ -8,9 +8,14 @@ use std::alloc::Global;
 use std::marker::Model;
 
 /// Values in order, in a block that copies share; an empty list has no block. Contracts see them as a list.
-#[derive(Drop)]
 pub struct SharedList<T> {
     block: Option<Shared<List<T>>>,
+}
+
+impl<T: Drop> Drop for SharedList<T> {
+    fn drop(self) {
+        let SharedList { block: _block } = self;
+    }
 }
 
 impl<T> Model for SharedList<T> {

@@ -8,12 +8,23 @@ use std::marker::Model;
 
 /// A clock that gives the moments of a list in order, and then the last one again; 0 if the list is empty. Its pauses take no
 /// time, and so many of them do not say that the service is to end.
-#[derive(Debug, Drop)]
+#[derive(Debug)]
 pub struct ListClock {
     moments: Vec<Moment>,
     place: usize,
     pauses: u64,
     ended: bool,
+}
+
+impl Drop for ListClock {
+    fn drop(self) {
+        let ListClock {
+            moments: _moments,
+            place: _place,
+            pauses: _pauses,
+            ended: _ended,
+        } = self;
+    }
 }
 
 impl Model for ListClock {

@@ -10,7 +10,6 @@ use bt_base::{CommandLine, Id, List, Num, Shared, Text};
 use std::marker::Model;
 
 /// How a pool is to scale automatically.
-#[derive(Drop)]
 pub struct Scaling {
     /// The formula, at most 8,192 bytes (Azure: autoScaleFormula).
     pub formula: Text,
@@ -18,8 +17,16 @@ pub struct Scaling {
     pub interval: u64,
 }
 
+impl Drop for Scaling {
+    fn drop(self) {
+        let Scaling {
+            formula: _formula,
+            interval: _interval,
+        } = self;
+    }
+}
+
 /// The body of `add-pool` (Azure: BatchPoolCreateContent).
-#[derive(Drop)]
 pub struct PoolSpec {
     /// The id (Azure: id).
     pub id: Id,
@@ -41,8 +48,23 @@ pub struct PoolSpec {
     pub scale: Option<Scaling>,
 }
 
+impl Drop for PoolSpec {
+    fn drop(self) {
+        let PoolSpec {
+            id: _id,
+            dedicated: _dedicated,
+            low: _low,
+            slots: _slots,
+            fill: _fill,
+            inter: _inter,
+            timeout: _timeout,
+            start: _start,
+            scale: _scale,
+        } = self;
+    }
+}
+
 /// The body of `resize` (Azure: BatchPoolResizeContent). It has at least one of the two targets.
-#[derive(Drop)]
 pub struct ResizeSpec {
     /// The wanted number of dedicated nodes, 0 to 1,000; None leaves the target (Azure: targetDedicatedNodes).
     pub dedicated: Option<u32>,
@@ -55,8 +77,18 @@ pub struct ResizeSpec {
     pub option: Dealloc,
 }
 
+impl Drop for ResizeSpec {
+    fn drop(self) {
+        let ResizeSpec {
+            dedicated: _dedicated,
+            low: _low,
+            timeout: _timeout,
+            option: _option,
+        } = self;
+    }
+}
+
 /// The body of `enable-autoscale` (Azure: BatchPoolEnableAutoScaleContent).
-#[derive(Drop)]
 pub struct ScaleSpec {
     /// The formula, at most 8,192 bytes; None leaves the one that is there (Azure: autoScaleFormula).
     pub formula: Option<Text>,
@@ -65,8 +97,16 @@ pub struct ScaleSpec {
     pub interval: Option<u64>,
 }
 
+impl Drop for ScaleSpec {
+    fn drop(self) {
+        let ScaleSpec {
+            formula: _formula,
+            interval: _interval,
+        } = self;
+    }
+}
+
 /// The body of `add-job` beside its id (Azure: BatchJobCreateContent).
-#[derive(Drop)]
 pub struct JobSpec {
     /// The id of the pool that its tasks run in (Azure: poolInfo.poolId).
     pub pool: Id,
@@ -92,8 +132,24 @@ pub struct JobSpec {
     pub release: Option<ReleaseTask>,
 }
 
+impl Drop for JobSpec {
+    fn drop(self) {
+        let JobSpec {
+            pool: _pool,
+            priority: _priority,
+            parallel: _parallel,
+            retries: _retries,
+            wall: _wall,
+            deps: _deps,
+            on_all: _on_all,
+            on_fail: _on_fail,
+            prep: _prep,
+            release: _release,
+        } = self;
+    }
+}
+
 /// The constraints that a change of a job sets (Azure: constraints).
-#[derive(Drop)]
 pub struct Limits {
     /// How often a task that names no number is tried again after a failure: 0 to 1,000,000, or -1 for no limit (Azure:
     /// maxTaskRetryCount).
@@ -103,8 +159,16 @@ pub struct Limits {
     pub wall: Option<u64>,
 }
 
+impl Drop for Limits {
+    fn drop(self) {
+        let Limits {
+            retries: _retries,
+            wall: _wall,
+        } = self;
+    }
+}
+
 /// The body of `patch-job` (Azure: BatchJobUpdateContent). What is None is left as it is.
-#[derive(Drop)]
 pub struct JobPatch {
     /// The priority, -1,000 to 1,000 (Azure: priority).
     pub priority: Option<i32>,
@@ -114,6 +178,17 @@ pub struct JobPatch {
     pub limits: Option<Limits>,
     /// Whether it is terminated once all its tasks are completed (Azure: onAllTasksComplete).
     pub on_all: Option<bool>,
+}
+
+impl Drop for JobPatch {
+    fn drop(self) {
+        let JobPatch {
+            priority: _priority,
+            parallel: _parallel,
+            limits: _limits,
+            on_all: _on_all,
+        } = self;
+    }
 }
 
 /// What `disable-job` does to placed tasks (Azure: disableTasks).
@@ -129,7 +204,6 @@ pub enum DisableTasks {
 
 /// The body of `add-task` (Azure: BatchTaskCreateContent). Contracts see it as the record of all its fields, those of the settings among
 /// them.
-#[derive(Drop)]
 pub struct TaskSpec {
     /// The id (Azure: id).
     pub id: Id,
@@ -139,6 +213,17 @@ pub struct TaskSpec {
     pub slots: u8,
     /// What it states beside its id, its command line and its slots.
     pub settings: Settings,
+}
+
+impl Drop for TaskSpec {
+    fn drop(self) {
+        let TaskSpec {
+            id: _id,
+            line: _line,
+            slots: _slots,
+            settings: _settings,
+        } = self;
+    }
 }
 
 impl Model for TaskSpec {

@@ -27,7 +27,7 @@ pub enum JobState {
 }
 
 /// What runs when a job ends, on each node where a task of it was started (Azure: jobReleaseTask).
-#[derive(Clone, Drop)]
+#[derive(Clone)]
 pub struct ReleaseTask {
     /// The command line (Azure: commandLine).
     pub line: CommandLine,
@@ -35,8 +35,16 @@ pub struct ReleaseTask {
     pub wall: u64,
 }
 
+impl Drop for ReleaseTask {
+    fn drop(self) {
+        let ReleaseTask {
+            line: _line,
+            wall: _wall,
+        } = self;
+    }
+}
+
 /// A job. Its key is its id.
-#[derive(Drop)]
 pub struct JobRow {
     /// The id, unique among jobs but for case (Azure: id).
     pub id: Id,
@@ -70,6 +78,27 @@ pub struct JobRow {
     pub created: u64,
     /// Why it was terminated, 1 to 256 bytes; None if it was not (Azure: executionInfo.terminateReason).
     pub reason: Option<Text>,
+}
+
+impl Drop for JobRow {
+    fn drop(self) {
+        let JobRow {
+            id: _id,
+            pool: _pool,
+            state: _state,
+            priority: _priority,
+            parallel: _parallel,
+            retries: _retries,
+            wall: _wall,
+            deps: _deps,
+            on_all: _on_all,
+            on_fail: _on_fail,
+            prep: _prep,
+            release: _release,
+            created: _created,
+            reason: _reason,
+        } = self;
+    }
 }
 
 impl Duplicate for JobRow {

@@ -21,7 +21,6 @@ pub enum NodeStage {
 }
 
 /// A node of a pool, on a seat of the machine. Its key is its number.
-#[derive(Drop)]
 pub struct NodeRow {
     /// The number, 1 to 10^15, in order of adding; it is never used again (in place of Azure's id of a compute node).
     pub number: u64,
@@ -33,6 +32,18 @@ pub struct NodeRow {
     pub stage: NodeStage,
     /// How often its start task has failed (Azure: startTaskInfo.retryCount).
     pub tries: u64,
+}
+
+impl Drop for NodeRow {
+    fn drop(self) {
+        let NodeRow {
+            number: _number,
+            pool: _pool,
+            seat: _seat,
+            stage: _stage,
+            tries: _tries,
+        } = self;
+    }
 }
 
 impl Duplicate for NodeRow {

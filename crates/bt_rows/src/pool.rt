@@ -38,7 +38,7 @@ pub enum ResizeError {
 
 /// What runs on each node before tasks: the start task of a pool (Azure: startTask), or the preparation of a job (Azure:
 /// jobPreparationTask).
-#[derive(Clone, Drop)]
+#[derive(Clone)]
 pub struct StartTask {
     /// The command line (Azure: commandLine).
     pub line: CommandLine,
@@ -48,8 +48,17 @@ pub struct StartTask {
     pub wait: bool,
 }
 
+impl Drop for StartTask {
+    fn drop(self) {
+        let StartTask {
+            line: _line,
+            retries: _retries,
+            wait: _wait,
+        } = self;
+    }
+}
+
 /// A pool. Its key is its id.
-#[derive(Drop)]
 pub struct PoolRow {
     /// The id, unique among pools but for case (Azure: id).
     pub id: Id,
@@ -81,6 +90,28 @@ pub struct PoolRow {
     pub error: Option<ResizeError>,
     /// When automatic scaling was last enabled, in milliseconds since 1970; None if it never was (this project's own).
     pub enabled: Option<u64>,
+}
+
+impl Drop for PoolRow {
+    fn drop(self) {
+        let PoolRow {
+            id: _id,
+            deleting: _deleting,
+            alloc: _alloc,
+            slots: _slots,
+            fill: _fill,
+            inter: _inter,
+            start: _start,
+            dedicated: _dedicated,
+            low: _low,
+            option: _option,
+            usual_timeout: _usual_timeout,
+            timeout: _timeout,
+            began: _began,
+            error: _error,
+            enabled: _enabled,
+        } = self;
+    }
 }
 
 impl Duplicate for StartTask {

@@ -28,7 +28,6 @@ pub enum ReleaseState {
 }
 
 /// A job's preparation on a node (Azure: the status of job preparation and release tasks). Its key is the job and the node.
-#[derive(Drop)]
 pub struct PrepRow {
     /// The id of the job (Azure: jobId).
     pub job: Id,
@@ -44,13 +43,34 @@ pub struct PrepRow {
     pub release: ReleaseState,
 }
 
+impl Drop for PrepRow {
+    fn drop(self) {
+        let PrepRow {
+            job: _job,
+            node: _node,
+            state: _state,
+            tries: _tries,
+            ran: _ran,
+            release: _release,
+        } = self;
+    }
+}
+
 /// The key of a preparation.
-#[derive(Drop)]
 pub struct PrepKey {
     /// The id of the job.
     pub job: Id,
     /// The number of the node.
     pub node: u64,
+}
+
+impl Drop for PrepKey {
+    fn drop(self) {
+        let PrepKey {
+            job: _job,
+            node: _node,
+        } = self;
+    }
 }
 
 impl Duplicate for PrepRow {

@@ -18,7 +18,6 @@ pub enum Element {
 }
 
 /// A pool as a reply shows it.
-#[derive(Drop)]
 pub struct PoolItem {
     /// The id (Azure: id).
     pub id: Id,
@@ -42,8 +41,24 @@ pub struct PoolItem {
     pub error: Option<ResizeError>,
 }
 
+impl Drop for PoolItem {
+    fn drop(self) {
+        let PoolItem {
+            id: _id,
+            deleting: _deleting,
+            alloc: _alloc,
+            current_dedicated: _current_dedicated,
+            current_low: _current_low,
+            dedicated: _dedicated,
+            low: _low,
+            slots: _slots,
+            scales: _scales,
+            error: _error,
+        } = self;
+    }
+}
+
 /// A node as a reply shows it.
-#[derive(Drop)]
 pub struct NodeItem {
     /// The number (in place of Azure's id).
     pub number: u64,
@@ -53,6 +68,17 @@ pub struct NodeItem {
     pub stage: NodeStage,
     /// Of a starting node, whether its start task runs; of a usable one, whether it holds slots.
     pub busy: bool,
+}
+
+impl Drop for NodeItem {
+    fn drop(self) {
+        let NodeItem {
+            number: _number,
+            seat: _seat,
+            stage: _stage,
+            busy: _busy,
+        } = self;
+    }
 }
 
 /// The state of a node as replies and tables show it (Azure: state of a compute node).
@@ -73,7 +99,6 @@ pub enum NodeState {
 }
 
 /// A job as a reply shows it.
-#[derive(Drop)]
 pub struct JobItem {
     /// The id (Azure: id).
     pub id: Id,
@@ -87,6 +112,19 @@ pub struct JobItem {
     pub parallel: i32,
     /// Why it was terminated; None if it was not (Azure: executionInfo.terminateReason).
     pub reason: Option<Text>,
+}
+
+impl Drop for JobItem {
+    fn drop(self) {
+        let JobItem {
+            id: _id,
+            pool: _pool,
+            state: _state,
+            priority: _priority,
+            parallel: _parallel,
+            reason: _reason,
+        } = self;
+    }
 }
 
 /// The state of a task as a reply shows it (Azure: state of a task).
@@ -103,7 +141,6 @@ pub enum TaskState {
 }
 
 /// A task as a reply shows it.
-#[derive(Drop)]
 pub struct TaskItem {
     /// The id (Azure: id).
     pub id: Id,
@@ -117,6 +154,19 @@ pub struct TaskItem {
     pub success: Option<bool>,
     /// How many of its attempts failed (Azure: executionInfo.retryCount).
     pub failures: u64,
+}
+
+impl Drop for TaskItem {
+    fn drop(self) {
+        let TaskItem {
+            id: _id,
+            line: _line,
+            state: _state,
+            how: _how,
+            success: _success,
+            failures: _failures,
+        } = self;
+    }
 }
 
 /// How many tasks of a job are in each state (Azure: taskCounts of Get Job Task Counts).
@@ -150,12 +200,20 @@ pub enum Item {
 }
 
 /// A queued run, and the words that its child program is started with.
-#[derive(Drop)]
 pub struct QueuedRun {
     /// The number of the run.
     pub number: u64,
     /// The words of its command line, of which the first names the program.
     pub words: List<Word>,
+}
+
+impl Drop for QueuedRun {
+    fn drop(self) {
+        let QueuedRun {
+            number: _number,
+            words: _words,
+        } = self;
+    }
 }
 
 /// The answer to an event, a read or a due step.

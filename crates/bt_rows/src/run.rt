@@ -50,7 +50,6 @@ pub enum RunState {
 /// A run: one execution of a command line on a node. Its key is its number. All of it is this project's own, but for what
 /// names a property of Azure.
 /// Its small fields stand together, so that it has no gaps.
-#[derive(Drop)]
 pub struct RunRow {
     /// The number, 1 to 10^15, in order of making; it is never used again.
     pub number: u64,
@@ -81,6 +80,27 @@ pub struct RunRow {
     pub slots: u8,
     /// Whether the node was asked to stop the child program.
     pub asked: bool,
+}
+
+impl Drop for RunRow {
+    fn drop(self) {
+        let RunRow {
+            number: _number,
+            node: _node,
+            pool: _pool,
+            job: _job,
+            task: _task,
+            attempt: _attempt,
+            line: _line,
+            made: _made,
+            taken: _taken,
+            ended: _ended,
+            state: _state,
+            kind: _kind,
+            slots: _slots,
+            asked: _asked,
+        } = self;
+    }
 }
 
 impl Duplicate for RunRow {

@@ -9,7 +9,6 @@ use bt_base::{Duplicate, Id, NoMemory, Num};
 use kept_table::{KeyText, Keyed};
 
 /// A sample of a pool's metric (Azure: what `GetSample` of autoscale formulas reads). Its key is pool, metric and label.
-#[derive(Drop)]
 pub struct SampleRow {
     /// The id of the pool.
     pub pool: Id,
@@ -21,8 +20,18 @@ pub struct SampleRow {
     pub value: Num,
 }
 
+impl Drop for SampleRow {
+    fn drop(self) {
+        let SampleRow {
+            pool: _pool,
+            metric: _metric,
+            label: _label,
+            value: _value,
+        } = self;
+    }
+}
+
 /// The key of a sample.
-#[derive(Drop)]
 pub struct SampleKey {
     /// The id of the pool.
     pub pool: Id,
@@ -30,6 +39,16 @@ pub struct SampleKey {
     pub metric: Metric,
     /// When it was taken, in milliseconds since 1970: a multiple of 30,000.
     pub label: u64,
+}
+
+impl Drop for SampleKey {
+    fn drop(self) {
+        let SampleKey {
+            pool: _pool,
+            metric: _metric,
+            label: _label,
+        } = self;
+    }
 }
 
 impl Duplicate for SampleRow {

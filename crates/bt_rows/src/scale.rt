@@ -7,7 +7,6 @@ use bt_base::{Duplicate, Id, NoMemory, Text};
 use kept_table::{KeyText, Keyed};
 
 /// How a pool scales automatically. Its key is the pool.
-#[derive(Drop)]
 pub struct ScaleRow {
     /// The id of the pool.
     pub pool: Id,
@@ -19,6 +18,18 @@ pub struct ScaleRow {
     pub next: u64,
     /// What the last evaluation gave, results or error; None if there was none (Azure: autoScaleRun).
     pub last: Option<Text>,
+}
+
+impl Drop for ScaleRow {
+    fn drop(self) {
+        let ScaleRow {
+            pool: _pool,
+            formula: _formula,
+            interval: _interval,
+            next: _next,
+            last: _last,
+        } = self;
+    }
 }
 
 impl Duplicate for ScaleRow {

@@ -10,7 +10,6 @@ use std::alloc::Global;
 use std::marker::Model;
 
 /// What a task states beside its id, its command line and its slots.
-#[derive(Drop)]
 pub struct TaskSettings {
     /// How often it is tried again after a failure: 0 to 1,000,000, or -1 for no limit; None for the job's number (Azure:
     /// constraints.maxTaskRetryCount).
@@ -38,6 +37,23 @@ pub struct TaskSettings {
     pub spans: SharedList<(u32, u32)>,
     /// How it runs on several nodes; None if it runs on one (Azure: multiInstanceSettings).
     pub multi: Option<Multi>,
+}
+
+impl Drop for TaskSettings {
+    fn drop(self) {
+        let TaskSettings {
+            retries: _retries,
+            wall: _wall,
+            retention: _retention,
+            codes: _codes,
+            ranges: _ranges,
+            launch: _launch,
+            other: _other,
+            needs: _needs,
+            spans: _spans,
+            multi: _multi,
+        } = self;
+    }
 }
 
 impl TaskSettings {
@@ -100,9 +116,14 @@ impl TaskSettings {
 }
 
 /// Settings in a block that copies share; those of a task that states none have no block. Contracts see the settings.
-#[derive(Drop)]
 pub struct Settings {
     block: Option<Shared<TaskSettings>>,
+}
+
+impl Drop for Settings {
+    fn drop(self) {
+        let Settings { block: _block } = self;
+    }
 }
 
 impl Model for Settings {

@@ -21,7 +21,6 @@ use std::marker::Model;
 ///
 /// Contracts see them as a `State`, and beside it the tasks and the runs by their places, and the room: the number of changes
 /// that may be applied without an allocation.
-#[derive(Drop)]
 pub struct Tables {
     pub(crate) pools: Table<Shared<PoolRow>>,
     pub(crate) nodes: Table<Shared<NodeRow>>,
@@ -35,6 +34,25 @@ pub struct Tables {
     next_run: u64,
     moment: u64,
     pub(crate) room: usize,
+}
+
+impl Drop for Tables {
+    fn drop(self) {
+        let Tables {
+            pools: _pools,
+            nodes: _nodes,
+            jobs: _jobs,
+            tasks: _tasks,
+            runs: _runs,
+            preps: _preps,
+            samples: _samples,
+            scales: _scales,
+            next_node: _next_node,
+            next_run: _next_run,
+            moment: _moment,
+            room: _room,
+        } = self;
+    }
 }
 
 impl Model for Tables {

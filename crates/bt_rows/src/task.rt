@@ -38,12 +38,21 @@ pub struct Options {
 }
 
 /// How a task runs on several nodes at once (Azure: multiInstanceSettings).
-#[derive(Clone, Drop)]
+#[derive(Clone)]
 pub struct Multi {
     /// The number of nodes, 1 to 32 (Azure: numberOfInstances).
     pub count: u8,
     /// The command line that each of the nodes runs first (Azure: coordinationCommandLine).
     pub line: CommandLine,
+}
+
+impl Drop for Multi {
+    fn drop(self) {
+        let Multi {
+            count: _count,
+            line: _line,
+        } = self;
+    }
 }
 
 /// How far a task has come. Its state in replies follows from its stage and its runs (Azure: state of a task).
@@ -96,7 +105,6 @@ pub struct Closed {
 
 /// A task of a job. Its key is the job and its id. Contracts see it as the record of all its fields, those of the settings among them. Its
 /// small fields stand together, so that it has few gaps.
-#[derive(Drop)]
 pub struct TaskRow {
     /// The id of the job, as the job spells it.
     pub job: Id,
@@ -123,6 +131,25 @@ pub struct TaskRow {
     pub started: Option<u64>,
     /// Its end; None if it is not completed.
     pub closed: Option<Closed>,
+}
+
+impl Drop for TaskRow {
+    fn drop(self) {
+        let TaskRow {
+            job: _job,
+            id: _id,
+            line: _line,
+            slots: _slots,
+            stage: _stage,
+            wanted: _wanted,
+            fail: _fail,
+            settings: _settings,
+            attempt: _attempt,
+            failures: _failures,
+            started: _started,
+            closed: _closed,
+        } = self;
+    }
 }
 
 impl Model for TaskRow {
@@ -179,12 +206,17 @@ impl Duplicate for TaskRow {
 }
 
 /// The key of a task.
-#[derive(Drop)]
 pub struct TaskKey {
     /// The id of the job.
     pub job: Id,
     /// The id of the task.
     pub id: Id,
+}
+
+impl Drop for TaskKey {
+    fn drop(self) {
+        let TaskKey { job: _job, id: _id } = self;
+    }
 }
 
 impl Duplicate for TaskKey {

@@ -28,9 +28,14 @@ pub trait Sink {
 }
 
 /// A sink in memory that never fails. Once it is out of memory it drops what it took, and later bytes too.
-#[derive(Drop)]
 pub struct SureSink {
     bytes: Option<Vec<u8>>,
+}
+
+impl Drop for SureSink {
+    fn drop(self) {
+        let SureSink { bytes: _bytes } = self;
+    }
 }
 
 impl SureSink {

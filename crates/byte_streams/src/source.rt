@@ -75,12 +75,22 @@ impl Source for SureSource {
 }
 
 /// A source in memory of which the calls of given numbers fail, and no others.
-#[derive(Drop)]
 pub struct MemorySource {
     inner: SureSource,
     fails: Vec<u64>,
     calls: u64,
     faults: u64,
+}
+
+impl Drop for MemorySource {
+    fn drop(self) {
+        let MemorySource {
+            inner: _inner,
+            fails: _fails,
+            calls: _calls,
+            faults: _faults,
+        } = self;
+    }
 }
 
 impl MemorySource {

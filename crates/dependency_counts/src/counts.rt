@@ -17,10 +17,18 @@ use std::sync::ledger::Ledger;
 
 /// The live tasks of a job in the order of adding, and whether each satisfies those that depend on it. Contracts see it as the list of
 /// these. It is a list that each call scans.
-#[derive(Drop)]
 pub struct Counts {
     lives: Vec<Live>,
     next: u64,
+}
+
+impl Drop for Counts {
+    fn drop(self) {
+        let Counts {
+            lives: _lives,
+            next: _next,
+        } = self;
+    }
 }
 
 impl Model for Counts {

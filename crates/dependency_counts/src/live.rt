@@ -9,7 +9,6 @@ pub struct CountKey {
 }
 
 /// A task whose dependencies are counted.
-#[derive(Drop)]
 pub struct Live {
     /// Its key.
     pub key: CountKey,
@@ -17,4 +16,14 @@ pub struct Live {
     pub task: TaskRow,
     /// Whether it satisfies the tasks that depend on it.
     pub satisfies: bool,
+}
+
+impl Drop for Live {
+    fn drop(self) {
+        let Live {
+            key: _key,
+            task: _task,
+            satisfies: _satisfies,
+        } = self;
+    }
 }

@@ -14,11 +14,21 @@ pub const NO_RANK: u64 = u64::MAX;
 /// A list of ranks, from 0 to `NO_RANK`, each at its place; places are counted from 0.
 ///
 /// Contracts see the list, and beside it the room: how many more ranks can be pushed without allocating.
-#[derive(Debug, Drop)]
+#[derive(Debug)]
 pub struct MinTree {
     nodes: Vec<u64>,
     size: usize,
     len: usize,
+}
+
+impl Drop for MinTree {
+    fn drop(self) {
+        let MinTree {
+            nodes: _nodes,
+            size: _size,
+            len: _len,
+        } = self;
+    }
 }
 
 impl Model for MinTree {

@@ -14,12 +14,22 @@ use std::marker::Model;
 /// A tree has the least rank of each block of 16 ranks, so that in a long list it takes about one to two bytes for each rank.
 ///
 /// Contracts see the list, and beside it the room: how many more ranks can be pushed without allocating.
-#[derive(Debug, Drop)]
+#[derive(Debug)]
 pub struct FirstTree {
     ranks: Vec<u64>,
     /// The least rank of each block.
     blocks: MinTree,
     room: usize,
+}
+
+impl Drop for FirstTree {
+    fn drop(self) {
+        let FirstTree {
+            ranks: _ranks,
+            blocks: _blocks,
+            room: _room,
+        } = self;
+    }
 }
 
 impl Model for FirstTree {

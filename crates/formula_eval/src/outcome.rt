@@ -20,7 +20,7 @@ pub struct Targets {
 }
 
 /// A variable of the formula's own, and its value.
-#[derive(Debug, Drop)]
+#[derive(Debug)]
 pub struct Variable {
     /// The name, as the formula writes it.
     pub name: Text,
@@ -28,12 +28,30 @@ pub struct Variable {
     pub value: Value,
 }
 
+impl Drop for Variable {
+    fn drop(self) {
+        let Variable {
+            name: _name,
+            value: _value,
+        } = self;
+    }
+}
+
 /// Variables with different names, in the order of their first settings. Contracts see them as a list. A name is found through an
 /// index, so that a look-up among n variables takes about log n comparisons.
-#[derive(Debug, Drop)]
+#[derive(Debug)]
 pub struct Variables {
     items: Vec<Variable>,
     places: NameIndex,
+}
+
+impl Drop for Variables {
+    fn drop(self) {
+        let Variables {
+            items: _items,
+            places: _places,
+        } = self;
+    }
 }
 
 impl Model for Variables {
@@ -51,7 +69,7 @@ impl Model for Variables {
 }
 
 /// What a formula has set: the targets, the node deallocation option, and its own variables.
-#[derive(Debug, Drop)]
+#[derive(Debug)]
 pub struct Outcome {
     /// How many nodes the pool is to have.
     pub targets: Targets,
@@ -59,6 +77,16 @@ pub struct Outcome {
     pub option: Dealloc,
     /// The formula's own variables, in the order of their first settings.
     pub variables: Variables,
+}
+
+impl Drop for Outcome {
+    fn drop(self) {
+        let Outcome {
+            targets: _targets,
+            option: _option,
+            variables: _variables,
+        } = self;
+    }
 }
 
 impl Variables {

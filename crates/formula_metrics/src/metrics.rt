@@ -9,14 +9,23 @@ use formula_names::Metric;
 use std::alloc::Global;
 
 /// One metric: its value now, if it has one, and its last samples.
-#[derive(Debug, Drop)]
+#[derive(Debug)]
 pub struct MetricPart {
     pub current: Option<Num>,
     pub history: History,
 }
 
+impl Drop for MetricPart {
+    fn drop(self) {
+        let MetricPart {
+            current: _current,
+            history: _history,
+        } = self;
+    }
+}
+
 /// The metrics of a pool.
-#[derive(Debug, Drop)]
+#[derive(Debug)]
 pub struct Metrics {
     pub cpu_percent: MetricPart,
     pub active_tasks: MetricPart,
@@ -28,6 +37,23 @@ pub struct Metrics {
     pub current_dedicated_nodes: MetricPart,
     pub current_low_priority_nodes: MetricPart,
     pub preempted_node_count: MetricPart,
+}
+
+impl Drop for Metrics {
+    fn drop(self) {
+        let Metrics {
+            cpu_percent: _cpu_percent,
+            active_tasks: _active_tasks,
+            running_tasks: _running_tasks,
+            pending_tasks: _pending_tasks,
+            succeeded_tasks: _succeeded_tasks,
+            failed_tasks: _failed_tasks,
+            task_slots_per_node: _task_slots_per_node,
+            current_dedicated_nodes: _current_dedicated_nodes,
+            current_low_priority_nodes: _current_low_priority_nodes,
+            preempted_node_count: _preempted_node_count,
+        } = self;
+    }
 }
 
 impl MetricPart {

@@ -17,7 +17,6 @@ const PLACES_PER_BUCKET: usize = 4;
 /// Places by their hashes.
 ///
 /// Contracts see the hashes by their places, and beside them the room: how many more can be added without allocating.
-#[derive(Drop)]
 pub struct HashIndex {
     hashes: Vec<u32>,
     /// For each place the number of the last place before it in its bucket: one plus the place, or 0.
@@ -25,6 +24,17 @@ pub struct HashIndex {
     /// For each bucket the number of its last place, or 0.
     heads: Vec<u32>,
     room: usize,
+}
+
+impl Drop for HashIndex {
+    fn drop(self) {
+        let HashIndex {
+            hashes: _hashes,
+            nexts: _nexts,
+            heads: _heads,
+            room: _room,
+        } = self;
+    }
 }
 
 impl Model for HashIndex {

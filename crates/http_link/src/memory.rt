@@ -13,10 +13,18 @@ use byte_streams::Failed;
 use std::alloc::Global;
 
 /// A link in memory that never fails. Once it is out of memory it drops what it took, and later bytes too.
-#[derive(Drop)]
 pub struct SureLink {
     pieces: Pieces,
     taken: Option<Vec<u8>>,
+}
+
+impl Drop for SureLink {
+    fn drop(self) {
+        let SureLink {
+            pieces: _pieces,
+            taken: _taken,
+        } = self;
+    }
 }
 
 impl SureLink {

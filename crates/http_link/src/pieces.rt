@@ -3,13 +3,22 @@ ghost use Rattle.std.specs.Prelude.{◌≡◌, ◌<◌, ◌≤◌, ◌++◌, [],
 ghost use Rattle.http_link.specs.Pieces.{joined, left_in_pieces};
 
 /// Bytes that come in pieces: one read gives bytes of one piece.
-#[derive(Drop)]
 pub struct Pieces {
     pieces: Vec<Vec<u8>>,
     /// The piece that is read.
     piece: usize,
     /// How many bytes of it have been read.
     at: usize,
+}
+
+impl Drop for Pieces {
+    fn drop(self) {
+        let Pieces {
+            pieces: _pieces,
+            piece: _piece,
+            at: _at,
+        } = self;
+    }
 }
 
 /// The bytes from a place on.

@@ -38,7 +38,7 @@ impl Metas {
 }
 
 /// What a store contains: the rows as texts by their kinds, each kind in order of adding, and the numbers beside them.
-#[derive(Debug, Drop)]
+#[derive(Debug)]
 pub struct Stored {
     /// The pools.
     pub pools: Entries,
@@ -58,6 +58,22 @@ pub struct Stored {
     pub scales: Entries,
     /// The numbers beside the rows.
     pub metas: Metas,
+}
+
+impl Drop for Stored {
+    fn drop(self) {
+        let Stored {
+            pools: _pools,
+            nodes: _nodes,
+            jobs: _jobs,
+            tasks: _tasks,
+            runs: _runs,
+            preps: _preps,
+            samples: _samples,
+            scales: _scales,
+            metas: _metas,
+        } = self;
+    }
 }
 
 impl Stored {

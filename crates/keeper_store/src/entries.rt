@@ -8,12 +8,21 @@ use std::alloc::Global;
 use std::marker::Model;
 
 /// A row as a text, under its key.
-#[derive(Debug, Drop)]
+#[derive(Debug)]
 pub struct Entry {
     /// The key of the row. No two rows of a kind have the same.
     pub key: Text,
     /// The text of the row.
     pub text: Text,
+}
+
+impl Drop for Entry {
+    fn drop(self) {
+        let Entry {
+            key: _key,
+            text: _text,
+        } = self;
+    }
 }
 
 impl Duplicate for Entry {
@@ -55,9 +64,15 @@ fn drop_entry(entries: &mut Vec<Entry>, key: &str)
 }
 
 /// Entries of one kind of rows, in order of adding. Contracts see them as a list.
-#[derive(Debug, Drop)]
+#[derive(Debug)]
 pub struct Entries {
     items: Vec<Entry>,
+}
+
+impl Drop for Entries {
+    fn drop(self) {
+        let Entries { items: _items } = self;
+    }
 }
 
 impl Model for Entries {

@@ -13,12 +13,22 @@ use std::marker::Model;
 
 /// A store in memory of which the calls of given numbers fail. Contracts see what it contains, these numbers, and how many calls were
 /// made and failed.
-#[derive(Drop)]
 pub struct MemoryStore {
     inner: SureStore,
     fails: Vec<u64>,
     calls: u64,
     faults: u64,
+}
+
+impl Drop for MemoryStore {
+    fn drop(self) {
+        let MemoryStore {
+            inner: _inner,
+            fails: _fails,
+            calls: _calls,
+            faults: _faults,
+        } = self;
+    }
 }
 
 impl Model for MemoryStore {

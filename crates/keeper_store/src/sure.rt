@@ -10,9 +10,14 @@ use std::alloc::Global;
 use std::marker::Model;
 
 /// A store in memory that never fails. Contracts see it as what it contains.
-#[derive(Drop)]
 pub struct SureStore {
     stored: Stored,
+}
+
+impl Drop for SureStore {
+    fn drop(self) {
+        let SureStore { stored: _stored } = self;
+    }
 }
 
 impl Model for SureStore {

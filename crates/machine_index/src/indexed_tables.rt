@@ -32,7 +32,6 @@ use task_index::{ActiveTasks, NumberedTasks, PlacedTasks, TimedTasks};
 /// Tables, and beside them what the due rules look for. Each change of the tables is followed.
 ///
 /// Contracts see the state, and beside it the room: the number of changes that may be made without an allocation.
-#[derive(Drop)]
 pub struct IndexedTables {
     tables: Tables,
     runs: RunsOfAttempts,
@@ -44,6 +43,23 @@ pub struct IndexedTables {
     asked: AskedRuns,
     numbered: NumberedTasks,
     room: usize,
+}
+
+impl Drop for IndexedTables {
+    fn drop(self) {
+        let IndexedTables {
+            tables: _tables,
+            runs: _runs,
+            active: _active,
+            over: _over,
+            held: _held,
+            timed: _timed,
+            queued: _queued,
+            asked: _asked,
+            numbered: _numbered,
+            room: _room,
+        } = self;
+    }
 }
 
 impl Model for IndexedTables {

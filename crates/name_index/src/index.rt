@@ -6,9 +6,15 @@ use std::alloc::Global;
 use std::collections::BTreeMap;
 
 /// Names, each with a number. Contracts see the index by `number_of`, the number of a name.
-#[derive(Debug, Drop)]
+#[derive(Debug)]
 pub struct NameIndex {
     numbers: BTreeMap<Vec<u8>, usize>,
+}
+
+impl Drop for NameIndex {
+    fn drop(self) {
+        let NameIndex { numbers: _numbers } = self;
+    }
 }
 
 impl NameIndex {

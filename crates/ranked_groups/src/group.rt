@@ -11,10 +11,18 @@ use std::marker::Model;
 /// The ranks of a group's items, and the numbers of these items in the list of all items, both in the order of adding.
 ///
 /// Contracts see the two lists, and beside them the room: how many more items can be pushed without allocating.
-#[derive(Drop)]
 pub struct Group {
     tree: FirstTree,
     places: Vec<u32>,
+}
+
+impl Drop for Group {
+    fn drop(self) {
+        let Group {
+            tree: _tree,
+            places: _places,
+        } = self;
+    }
 }
 
 impl Model for Group {

@@ -51,9 +51,14 @@ impl Keyed for GroupName {
 /// The names of groups by their numbers, in the order of adding.
 ///
 /// Contracts see the names, and beside them the room: how many more can be pushed without allocating.
-#[derive(Drop)]
 pub struct GroupNames {
     table: Table<GroupName>,
+}
+
+impl Drop for GroupNames {
+    fn drop(self) {
+        let GroupNames { table: _table } = self;
+    }
 }
 
 impl Model for GroupNames {

@@ -19,7 +19,6 @@ const MOST_ITEMS: usize = 4_294_967_295;
 /// rank is from 0 to `first_tree::NO_RANK`, which no bound reaches.
 ///
 /// Contracts see the list of the items, and beside it the room: how many more items can be pushed without allocating.
-#[derive(Drop)]
 pub struct RankedGroups {
     names: GroupNames,
     groups: Vec<Group>,
@@ -27,6 +26,18 @@ pub struct RankedGroups {
     /// Groups without items, for names that are to come.
     spares: Vec<Group>,
     room: usize,
+}
+
+impl Drop for RankedGroups {
+    fn drop(self) {
+        let RankedGroups {
+            names: _names,
+            groups: _groups,
+            entries: _entries,
+            spares: _spares,
+            room: _room,
+        } = self;
+    }
 }
 
 impl Model for RankedGroups {

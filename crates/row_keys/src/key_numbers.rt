@@ -11,9 +11,14 @@ use std::collections::HashMap;
 use std::marker::Model;
 
 /// Numbers by the texts of keys. Contracts see the list of the texts with their numbers.
-#[derive(Drop)]
 pub struct KeyNumbers {
     numbers: HashMap<Vec<u8>, u64>,
+}
+
+impl Drop for KeyNumbers {
+    fn drop(self) {
+        let KeyNumbers { numbers: _numbers } = self;
+    }
 }
 
 impl Model for KeyNumbers {

@@ -16,9 +16,14 @@ use std::marker::Model;
 /// The taken runs that are asked to stop, by their places.
 ///
 /// Contracts see a rank for each place of the tables' runs, and beside them the room: how many more runs can be put without allocating.
-#[derive(Drop)]
 pub struct AskedRuns {
     ranks: FirstTree,
+}
+
+impl Drop for AskedRuns {
+    fn drop(self) {
+        let AskedRuns { ranks: _ranks } = self;
+    }
 }
 
 impl Model for AskedRuns {

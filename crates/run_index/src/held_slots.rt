@@ -23,9 +23,14 @@ use std::marker::Model;
 /// The slots that the runs of the present attempts of placed tasks hold, by nodes.
 ///
 /// Contracts see the sums by the numbers of the nodes, and beside them the room: how many more runs can be put without allocating.
-#[derive(Drop)]
 pub struct HeldSlots {
     sums: NodeSums,
+}
+
+impl Drop for HeldSlots {
+    fn drop(self) {
+        let HeldSlots { sums: _sums } = self;
+    }
 }
 
 impl Model for HeldSlots {

@@ -12,10 +12,18 @@ use std::marker::Model;
 /// A sum for each node that was added.
 ///
 /// Contracts see the sums by the numbers of the nodes, and beside them the room: how many more nodes can be added without allocating.
-#[derive(Drop)]
 pub struct NodeSums {
     sums: HashMap<u64, u128>,
     room: usize,
+}
+
+impl Drop for NodeSums {
+    fn drop(self) {
+        let NodeSums {
+            sums: _sums,
+            room: _room,
+        } = self;
+    }
 }
 
 impl Model for NodeSums {

@@ -18,9 +18,14 @@ use std::marker::Model;
 /// The queued runs by their numbers.
 ///
 /// Contracts see a rank for each place of the tables' runs, and beside them the room: how many more runs can be put without allocating.
-#[derive(Drop)]
 pub struct QueuedRuns {
     ranks: FirstTree,
+}
+
+impl Drop for QueuedRuns {
+    fn drop(self) {
+        let QueuedRuns { ranks: _ranks } = self;
+    }
 }
 
 impl Model for QueuedRuns {

@@ -22,9 +22,14 @@ use text_chains::{Places, TextChains};
 /// The places of the runs of each attempt of a task.
 ///
 /// Contracts see the places by the text of the attempt, and beside them the room: how many more runs can be put without allocating.
-#[derive(Drop)]
 pub struct RunsOfAttempts {
     chains: TextChains,
+}
+
+impl Drop for RunsOfAttempts {
+    fn drop(self) {
+        let RunsOfAttempts { chains: _chains } = self;
+    }
 }
 
 impl Model for RunsOfAttempts {

@@ -13,7 +13,6 @@ use std::alloc::Global;
 use std::marker::Model;
 
 /// What a ledger keeps of a node: its number, its pool, how many slots it has, and how many of these are held.
-#[derive(Drop)]
 pub struct Entry {
     pub node: u64,
     pub pool: Id,
@@ -21,10 +20,26 @@ pub struct Entry {
     pub held: u8,
 }
 
+impl Drop for Entry {
+    fn drop(self) {
+        let Entry {
+            node: _node,
+            pool: _pool,
+            slots: _slots,
+            held: _held,
+        } = self;
+    }
+}
+
 /// The held slots of nodes. It is a list of nodes, and each call scans it.
-#[derive(Drop)]
 pub struct Ledger {
     entries: Vec<Entry>,
+}
+
+impl Drop for Ledger {
+    fn drop(self) {
+        let Ledger { entries: _entries } = self;
+    }
 }
 
 impl Model for Ledger {

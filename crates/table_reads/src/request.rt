@@ -6,13 +6,21 @@ use bt_base::Id;
 pub const MAX_RESULTS: u32 = 1_000;
 
 /// How much of a list is shown.
-#[derive(Drop)]
 pub struct Listing {
     /// The greatest number of elements, 1 to `MAX_RESULTS` (Azure: maxresults).
     pub count: u32,
     /// The id after whose element the list begins; None for its beginning (this project's own). The id of a node is `node-`
     /// and its number.
     pub after: Option<Id>,
+}
+
+impl Drop for Listing {
+    fn drop(self) {
+        let Listing {
+            count: _count,
+            after: _after,
+        } = self;
+    }
 }
 
 /// What is asked of the tables (Azure Batch REST reference). Ids are compared without regard to case.

@@ -20,9 +20,14 @@ use std::marker::Model;
 /// The active tasks of each job that have no instances, by the slots that they ask for.
 ///
 /// Contracts see an item for each place of the tables' tasks, and beside them the room: how many more tasks can be put without allocating.
-#[derive(Drop)]
 pub struct ActiveTasks {
     groups: RankedGroups,
+}
+
+impl Drop for ActiveTasks {
+    fn drop(self) {
+        let ActiveTasks { groups: _groups } = self;
+    }
 }
 
 impl Model for ActiveTasks {

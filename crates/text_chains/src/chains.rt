@@ -14,7 +14,6 @@ use std::marker::Model;
 ///
 /// Contracts see the places of each text, the one that was added last first, and beside them the room: how many more places can be
 /// added without allocating.
-#[derive(Drop)]
 pub struct TextChains {
     /// The numbers of the links, from 0, by the hashes of their texts.
     index: HashIndex,
@@ -22,6 +21,17 @@ pub struct TextChains {
     /// The texts of the links, one after the other.
     texts: Vec<u8>,
     room: usize,
+}
+
+impl Drop for TextChains {
+    fn drop(self) {
+        let TextChains {
+            index: _index,
+            links: _links,
+            texts: _texts,
+            room: _room,
+        } = self;
+    }
 }
 
 impl Model for TextChains {

@@ -133,8 +133,11 @@ fn task_spec(alloc: Global, number: u32, first: u32, second: u32) -> Result<Task
     let needs = needs_of(alloc, number, second)?;
     let spans = spans_of(alloc, number, second)?;
     let settings = TaskSettings {
+        codes: SharedList::empty(),
+        ranges: SharedList::empty(),
         needs,
         spans,
+        multi: None,
         ..TaskSettings::plain()
     };
     Ok(TaskSpec {

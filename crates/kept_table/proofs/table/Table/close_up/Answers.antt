@@ -5,7 +5,7 @@ use Rattle.kept_table.proofs.table.Table.close_up.Goals as goal
 
 pub returns-clause-rows : goal.returns-clause-rows
 returns-clause-rows g c =
-    let closed = ap (λ (v : TableView g.row.R.Denot). v.slots) c.drop-2.view_is ∙ c.with_rows_of.ensures.slots in
+    let closed = ap (λ (v : TableView g.row.R.Denot). v.slots) c.drop.view_is ∙ c.with_rows_of.ensures.slots in
     ap rows closed
     ∙ (rows_map (rows c.replace-slots.result.items)
     ∙ rw c.replace-slots.ensures.value (ap (λ (v : TableView g.row.R.Denot). rows v.slots) c.self.view_is))
