@@ -4,15 +4,15 @@ use Rattle.std.specs.Option.{option_map_or}
 use Rattle.bt_rows.specs.declared.event.EventKind.{EventKind}
 use Rattle.bt_rows.specs.declared.event.EventKind.TheVariants.{End}
 use Rattle.bt_rows.specs.declared.refusal.Refusal.{Refusal}
-use Rattle.bt_rows.specs.declared.refusal.Refusal.TheVariants.{RunNotFound}
+use Rattle.bt_rows.specs.declared.refusal.Refusal.TheVariants.{RunNotFound, RunAlreadyEnded}
 use Rattle.bt_rows.specs.declared.reply.Reply.{Reply}
-use Rattle.bt_rows.specs.declared.reply.Reply.TheVariants.{Status}
+use Rattle.bt_rows.specs.declared.reply.Reply.TheVariants.{Status, Refused}
 use Rattle.batch_model.specs.Finding.{first_of}
 use Rattle.batch_model.specs.Events.{at_moment, accept, end_refusals, end_run, event_step, for_row, refuse, run_ended}
 use Rattle.batch_model.specs.Rows.{run_of}
 use Rattle.batch_model.specs.Sound.{IsSound}
 use Rattle.batch_model.specs.Variants.{State, Ending, RunRow}
-use Rattle.model_events.proofs.EventSound.{sound_by_event}
+use Rattle.model_events.proofs.EventSound.{sound_by_event, refused_keeps}
 use Rattle.model_laws.specs.Runs.{KeepsRuns, RefusesEnd, of_ended, of_absent, is_open}
 use Rattle.model_laws.proofs.RunsByEvents.{event_keeps_runs, ended_closes, ended_was_there, not_open_refused}
 use Rattle.model_laws.proofs.RunsByDues.{due_keeps_runs}
@@ -106,8 +106,23 @@ module _ (seats number : ℕ) where
       (not_open_refused seats later.moment number ending s held.sound held.held.closed))
       (call_refusal s later refusal is c)
 
+-- the event of a refused ending changes the last moment alone
+refusal_in : (reply : Reply) → RefusesEnd reply → (refusal : Refusal) × (reply ≡ Refused refusal)
+refusal_in reply of_ended = (RunAlreadyEnded, refl)
+refusal_in reply of_absent = (RunNotFound, refl)
+
+later_leaves : (seats number : ℕ) (s : State) (later : Entry) (ending : Ending) → IsHeld seats (IsShut number) s → later.event ≡ End number ending →
+    after_event s later ≡ at_moment later.moment s
+later_leaves seats number s later ending held ends =
+    let refuses : RefusesEnd (event_step later.moment later.event s).reply =
+    subst (λ (event : EventKind). RefusesEnd (event_step later.moment event s).reply) (sym ends)
+    (not_open_refused seats later.moment number ending s held.sound held.held.closed)
+    in
+    let refused : (refusal : Refusal) × ((event_step later.moment later.event s).reply ≡ Refused refusal) = refusal_in _ refuses in
+    refused_keeps later.moment later.event s refused.0 refused.1
+
 -- in the whole history
-pub ended_once : (seats : ℕ) (opened : State) (entries : List Entry) → IsSound seats opened → IsLegal seats opened entries → EndsRunsOnce entries
+pub ended_once : (seats : ℕ) (opened : State) (entries : List Entry) → IsSound seats opened → IsLegal seats opened entries → EndsRunsOnce seats opened entries
 ended_once seats opened entries h l number first later a =
     let after_first : List Entry = a.between ++ later ∷ a.rest in
     let legal : IsLegal seats opened (a.before ++ first ∷ after_first) = subst (IsLegal seats opened) a.in_order l in
@@ -117,5 +132,10 @@ ended_once seats opened entries h l number first later a =
     let ended : State = after_call seats start first in
     let shut : IsHeld seats (IsShut number) ended = shut_by_call seats number start first a.ending sound legal_start.0 a.ends a.accepted in
     let legal_later : IsLegal seats (after_all seats ended a.between) (later ∷ a.rest) = legal_after seats ended a.between (later ∷ a.rest) legal_start.1 in
-    later_turned_down seats number (after_all seats ended a.between) later a.later_ending later.mark refl
-    (held_after_all seats (IsShut number) (shut_kept seats number) ended a.between (later ∷ a.rest) shut legal_start.1) legal_later.0 a.ends_again
+    let still : IsHeld seats (IsShut number) (after_all seats ended a.between) =
+    held_after_all seats (IsShut number) (shut_kept seats number) ended a.between (later ∷ a.rest) shut legal_start.1
+    in
+    record {
+      turned_down = later_turned_down seats number (after_all seats ended a.between) later a.later_ending later.mark refl still legal_later.0 a.ends_again;
+      unchanged = later_leaves seats number (after_all seats ended a.between) later a.later_ending still a.ends_again;
+    }

@@ -21,7 +21,7 @@ use Rattle.batch_desk.specs.declared.entry.Mark.{Mark}
 use Rattle.batch_desk.specs.declared.entry.Mark.TheVariants.{Done, KeeperFault as NotKept}
 use Rattle.batch_desk.specs.History.{due_state, after_event, after_call, IsCall, IsLegal}
 use Rattle.batch_desk.proofs.KeptThrough.{sound_after_call}
-use Rattle.batch_desk.specs.Once.{due_trace, call_trace, trace, makes, times_made, MakesRunsOnce}
+use Rattle.batch_desk.specs.Once.{due_trace, call_trace, trace, makes, times_made, MakesRunsOnce, MakesNoOldRuns}
 
 -- a step leads to sound tables and makes no run with a number that was given
 pub record Follows (seats : ℕ) (before after : State) : Type 0 where
@@ -113,3 +113,9 @@ module _ (seats : ℕ) where
 
 pub made_once : (seats : ℕ) (opened : State) (entries : List Entry) → IsSound seats opened → IsLegal seats opened entries → MakesRunsOnce seats opened entries
 made_once seats opened entries h l number = once seats number opened (trace seats opened entries) (history_chain seats opened entries h l)
+
+-- none is given again that was given before
+pub none_made_again : (seats : ℕ) (opened : State) (entries : List Entry) → IsSound seats opened → IsLegal seats opened entries →
+    MakesNoOldRuns seats opened entries
+none_made_again seats opened entries h l number old =
+    not_again seats number opened (trace seats opened entries) old (history_chain seats opened entries h l)

@@ -1,16 +1,17 @@
 -- Each run number is given once in a history, and each run ends once.
-use Rattle.std.specs.Prelude.{◌≡◌, ◌≤◌, ℕ, zero, suc, ◌+◌, Bool, ◌&&◌, List, [], ◌∷◌, ◌++◌, Some, None, is_some, is_none, if◌then◌else◌}
+use Rattle.std.specs.Prelude.{◌≡◌, ◌≤◌, ◌<◌, ℕ, zero, suc, ◌+◌, Bool, ◌&&◌, List, [], ◌∷◌, ◌++◌, Some, None, is_some, is_none, if◌then◌else◌}
 use Rattle.std.specs.Option.{option_map_or}
 use Rattle.bt_rows.specs.declared.event.EventKind.TheVariants.{End}
 use Rattle.bt_rows.specs.declared.refusal.Refusal.TheVariants.{RunNotFound, RunAlreadyEnded}
 use Rattle.batch_model.specs.Steps.{DueStep}
 use Rattle.batch_model.specs.Dues.{due_step}
+use Rattle.batch_model.specs.Events.{at_moment}
 use Rattle.batch_model.specs.Rows.{run_of}
 use Rattle.batch_model.specs.Variants.{State, Ending}
 use Rattle.batch_desk.specs.declared.entry.Entry.{Entry}
 use Rattle.batch_desk.specs.declared.entry.Mark.{Mark}
 use Rattle.batch_desk.specs.declared.entry.Mark.TheVariants.{Done, KeeperFault as NotKept}
-use Rattle.batch_desk.specs.History.{after_event, after_call}
+use Rattle.batch_desk.specs.History.{after_event, after_call, after_all}
 
 -- the tables after each of this many due steps, in order
 abbrev pub due_trace : ℕ → ℕ → State → List State
@@ -43,6 +44,10 @@ times_made number s (t ∷ ts) = (if makes number s t then 1 else 0) + times_mad
 abbrev pub MakesRunsOnce : ℕ → State → List Entry → Type 0
 MakesRunsOnce seats opened entries = (number : ℕ) → times_made number opened (trace seats opened entries) ≤ 1
 
+-- a number that was given before the history is not given in it
+abbrev pub MakesNoOldRuns : ℕ → State → List Entry → Type 0
+MakesNoOldRuns seats opened entries = (number : ℕ) → number < opened.next_run → times_made number opened (trace seats opened entries) ≡ 0
+
 -- the call was refused because its run has ended or is no longer there, or it was not made
 pub data IsTurnedDown : Mark → Type 0 where
   already_ended : IsTurnedDown (Done (Some RunAlreadyEnded))
@@ -61,6 +66,17 @@ pub record EndsAgain (entries : List Entry) (number : ℕ) (first later : Entry)
   pub accepted : first.mark ≡ Done None
   pub ends_again : later.event ≡ End number later_ending
 
--- an ending of a run counts once: after one that was accepted every other is turned down
-abbrev pub EndsRunsOnce : List Entry → Type 0
-EndsRunsOnce entries = (number : ℕ) (first later : Entry) → EndsAgain entries number first later → IsTurnedDown later.mark
+-- the call from these tables is turned down, and its event changes the last moment alone
+pub record LeavesTables (s : State) (e : Entry) : Type 0 where
+  pub turned_down : IsTurnedDown e.mark
+  pub unchanged : after_event s e ≡ at_moment e.moment s
+
+-- the tables before the later call
+abbrev pub before_later : (seats : ℕ) (opened : State) (entries : List Entry) (number : ℕ) (first later : Entry) → EndsAgain entries number first later → State
+before_later seats opened entries number first later again = after_all seats (after_call seats (after_all seats opened again.before) first) again.between
+
+-- an ending of a run counts once: after one that was accepted every other is turned down, and leaves the tables
+abbrev pub EndsRunsOnce : ℕ → State → List Entry → Type 0
+EndsRunsOnce seats opened entries =
+    (number : ℕ) (first later : Entry) (again : EndsAgain entries number first later) →
+    LeavesTables (before_later seats opened entries number first later again) later

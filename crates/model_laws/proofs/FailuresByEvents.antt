@@ -1,5 +1,5 @@
--- No event raises the failures of a task: they stay, or the task is gone, or it was added or reactivated and has none.
-use Rattle.std.proofs.Common.{◌≡◌, ℕ, ◌+◌, Bool, true, false, ◌&&◌, ◌||◌, List, [], ◌∷◌, Option, Some, None, cond, is_some, unwrap_or, ◌⊎◌, inl, inr, refl, sym}
+-- No event raises the failures of a task: they stay, or the task is gone, or it is a new one or was reactivated, and has none.
+use Rattle.std.proofs.Common.{◌≡◌, ℕ, ◌+◌, Bool, true, false, not, ◌&&◌, ◌||◌, List, [], ◌∷◌, Option, Some, None, cond, is_some, unwrap_or, ◌⊎◌, inl, inr, refl, sym}
 use Rattle.std.proofs.Common.{◌∙◌, ap, subst}
 use Rattle.std.specs.List.{list_any, find}
 use Rattle.std.specs.Option.{option_map, option_map_or}
@@ -12,7 +12,8 @@ use Rattle.bt_rows.specs.declared.event.EventKind.TheVariants.{AddPool, AddJob, 
 use Rattle.bt_rows.specs.declared.event.EventKind.TheVariants.{DeleteTask, TerminateTask, ReactivateTask, Take, End}
 use Rattle.bt_rows.specs.declared.event.JobSpec.{JobSpec}
 use Rattle.bt_rows.specs.declared.event.TaskSpec.{TaskSpec}
-use Rattle.bt_rows.specs.declared.refusal.Refusal.TheVariants.{PoolNotFound, JobNotFound, TaskNotFound, JobStateRefuses, RunNotFound}
+use Rattle.bt_rows.specs.declared.refusal.Refusal.TheVariants.{PoolNotFound, JobNotFound, TaskNotFound, JobStateRefuses, RunNotFound, TaskExists}
+use Rattle.bt_rows.specs.declared.refusal.Refusal.TheVariants.{TaskNotReactivable}
 use Rattle.bt_rows.specs.declared.refusal.Refusal.{Refusal}
 use Rattle.batch_model.specs.Endings.{is_success}
 use Rattle.batch_model.specs.Events.{refuse, answer, event_step, event_now, at_moment, accept_all, add_pool_refusals, add_job, add_job_in, add_job_refusals}
@@ -20,7 +21,7 @@ use Rattle.batch_model.specs.Events.{patch_job, patch_refusals, patched, disable
 use Rattle.batch_model.specs.Events.{terminate_refusals, user_terminate, delete_job, delete_refusals, add_task, task_refusals, task_added, after_element}
 use Rattle.batch_model.specs.Events.{add_each, add_tasks, add_tasks_refusals, for_row, delete_found, delete_task_refusals, delete_task, task_terminated}
 use Rattle.batch_model.specs.Events.{terminate_task_refusals, terminate_found, terminate_task, reactivated, reactivate_refusals, reactivate_found}
-use Rattle.batch_model.specs.Events.{reactivate_task_refusals, reactivate_task, started_task, is_task_of_run, run_taken, take_run, take_refusals, ended_run}
+use Rattle.batch_model.specs.Events.{can_reactivate, reactivate_task_refusals, reactivate_task, started_task, is_task_of_run, run_taken, take_run, take_refusals, ended_run}
 use Rattle.batch_model.specs.Events.{ended_by, run_ended, end_run, end_refusals}
 use Rattle.batch_model.specs.Steps.{Answered, refuse_if}
 use Rattle.batch_model.specs.Finding.{first_of, at_row}
@@ -36,45 +37,63 @@ use Rattle.batch_model.specs.Stops.{stop, disable, close, terminate}
 use Rattle.batch_model.specs.Tasks.{is_placed, terminated, new_task}
 use Rattle.batch_model.specs.Variants.{State, JobRow, Terminating, Deleting, Enabling, StartTask, TaskRow, WantRequeue, WantTerminate, WantDelete, Ending}
 use Rattle.batch_model.specs.Variants.{PrepRow, RunRow, RunKind, StartRun, PrepRun, TaskRun, CoordinationRun, ReleaseRun}
-use Rattle.model_lists.proofs.RowLists.{find_test}
-use Rattle.model_lists.proofs.Tests.{passes_or_not, and_true, and_first, and_second, or_first, or_second}
-use Rattle.model_events.proofs.Keeping.{AreAbsent, through, given_keeps, answer_keeps, for_row_keeps}
+use Rattle.model_lists.proofs.RowLists.{find_agree, find_test}
+use Rattle.model_lists.proofs.Tests.{passes_or_not, and_true, and_first, and_second, or_first, or_second, not_false}
+use Rattle.model_events.proofs.Keeping.{AreAbsent, passed, through, given_keeps, answer_keeps, for_row_keeps}
 use Rattle.model_events.proofs.end.StartCases.{StartEnds, nothing, starts, again, fails, start_cases}
-use Rattle.model_laws.specs.Retries.{failures_of, begins_task, EventFailures, same_failures, task_gone, task_begun}
+use Rattle.model_laws.specs.Retries.{failures_of, adds_task, EventFailures, same_failures, task_gone, added_task, reactivated_task}
 use Rattle.model_laws.proofs.MadeRuns.{found_added}
-use Rattle.model_laws.proofs.KeptFailures.{HasSame, HasSameOrGone, in_place, stop_keeps, close_keeps, disable_keeps, task_dropped, put_same, put_other, put_own}
+use Rattle.model_laws.proofs.KeptFailures.{alike_ids, keyed_like, HasSame, HasSameOrGone, in_place, stop_keeps, close_keeps, disable_keeps, task_dropped}
+use Rattle.model_laws.proofs.KeptFailures.{own_task, put_same, put_other, put_own}
 
 module _ (job id : List ℕ) where
   -- tasks are added
 
-  -- the failures are as before, or one of these tasks of the job was added with this key, and has none
+  -- the failures are as before, or one of these tasks of the job was added with this key, which was not there, and has none
   abbrev HasSameOrNew : JobRow → List TaskSpec → State → State → Type 0
   HasSameOrNew row specs s t =
-      HasSame job id s t ⊎ ((failures_of t job id ≡ Some 0) × ((same row.id job && list_any (λ (spec : TaskSpec). same spec.id id) specs) ≡ true))
+      HasSame job id s t
+      ⊎ (((failures_of s job id ≡ None) × (failures_of t job id ≡ Some 0)) × ((same row.id job && list_any (λ (spec : TaskSpec). same spec.id id) specs) ≡ true))
 
-  -- one is added
-  one_added : (s : State) (row : JobRow) (spec : TaskSpec) (specs : List TaskSpec) → HasSameOrNew row (spec ∷ specs) s (task_added s row spec)
-  one_added s row spec specs = elim (found_added (is_task job id) s.tasks (new_task row.id spec)) [
+  -- one is added, which is not there
+  one_added : (s : State) (row : JobRow) (spec : TaskSpec) (specs : List TaskSpec) → is_some (task_of s row.id spec.id) ≡ false
+      → HasSameOrNew row (spec ∷ specs) s (task_added s row spec)
+  one_added s row spec specs new = elim (found_added (is_task job id) s.tasks (new_task row.id spec)) [
     | inl e ↦ inl (ap (option_map (λ (task : TaskRow). task.failures)) e)
-    | inr new ↦
+    | inr made ↦
         inr (
-          ap (option_map (λ (task : TaskRow). task.failures)) new.0,
-          and_true (and_first (same row.id job) (same spec.id id) new.1)
-              (or_first (list_any (λ (other : TaskSpec). same other.id id) specs) (and_second (same row.id job) (same spec.id id) new.1)),
+          (absent made.1, ap (option_map (λ (task : TaskRow). task.failures)) made.0),
+          and_true (and_first (same row.id job) (same spec.id id) made.1)
+              (or_first (list_any (λ (other : TaskSpec). same other.id id) specs) (and_second (same row.id job) (same spec.id id) made.1)),
         )
   ]
+    where
+      nothing_there : (o : Option TaskRow) → is_some o ≡ false → option_map (λ (task : TaskRow). task.failures) o ≡ None
+      nothing_there None e = refl
+      nothing_there (Some task) e = cc
+
+      -- so neither is one with its key
+      absent : is_task job id (new_task row.id spec) ≡ true → failures_of s job id ≡ None
+      absent own =
+          ap (option_map (λ (task : TaskRow). task.failures))
+          (find_agree (is_task job id) (is_task row.id spec.id) (keyed_like job id (new_task row.id spec) own) s.tasks)
+          ∙ nothing_there (task_of s row.id spec.id) new
 
   -- and then others
   then_others : (s t u : State) (row : JobRow) (spec : TaskSpec) (specs : List TaskSpec) → HasSameOrNew row (spec ∷ specs) s t → HasSameOrNew row specs t u
       → HasSameOrNew row (spec ∷ specs) s u
-  then_others s t u row spec specs first (inr new) =
+  then_others s t u row spec specs (inl e) (inr new) =
       inr (
-        new.0,
+        (sym e ∙ new.0.0, new.0.1),
         and_true (and_first (same row.id job) (list_any (λ (other : TaskSpec). same other.id id) specs) new.1)
             (or_second (same spec.id id) (and_second (same row.id job) (list_any (λ (other : TaskSpec). same other.id id) specs) new.1)),
       )
+  then_others s t u row spec specs (inr new) (inr newer) = none_and_some (sym newer.0.0 ∙ new.0.1)
+    where
+      none_and_some : {Q : Type 0} → ◌≡◌ {A = Option ℕ} None (Some 0) → Q
+      none_and_some e = cc
   then_others s t u row spec specs (inl e) (inl k) = inl (k ∙ e)
-  then_others s t u row spec specs (inr new) (inl k) = inr (k ∙ new.0, new.1)
+  then_others s t u row spec specs (inr new) (inl k) = inr ((new.0.0, k ∙ new.0.1), new.1)
 
   each_added : (row : JobRow) (specs : List TaskSpec) (s : State) → HasSameOrNew row specs s (add_each s row specs).state
   each_added row [] s = inl refl
@@ -82,7 +101,7 @@ module _ (job id : List ℕ) where
       let next : State = after_element s row spec (first_of (task_refusals s row spec)) in
       then_others s next (add_each next row specs).state row spec specs
       (through (λ first. HasSameOrNew row (spec ∷ specs) s (after_element s row spec first)) (λ refusal. inl refl) (task_refusals s row spec)
-      (λ absent. one_added s row spec specs))
+      (λ absent. one_added s row spec specs (passed (is_some (task_of s row.id spec.id)) TaskExists absent.0)))
       (each_added row specs next)
 
   -- endings leave the tasks' failures
@@ -136,11 +155,11 @@ module _ (job id : List ℕ) where
   module _ (s : State) where
     -- what becomes of the failures by the event
     abbrev Changes : EventKind → State → Type 0
-    Changes event t = EventFailures event job id (failures_of s job id) (failures_of t job id)
+    Changes event t = EventFailures s event job id (failures_of s job id) (failures_of t job id)
 
     -- they stay
     kept : (event : EventKind) (t : State) → HasSame job id s t → Changes event t
-    kept event t e = subst (λ o. EventFailures event job id (failures_of s job id) o) (sym e) (same_failures (failures_of s job id))
+    kept event t e = subst (λ o. EventFailures s event job id (failures_of s job id) o) (sym e) (same_failures (failures_of s job id))
 
     stays : (event : EventKind) → Changes event s
     stays event = same_failures (failures_of s job id)
@@ -161,11 +180,7 @@ module _ (job id : List ℕ) where
     -- they stay, or the task is gone
     kept_or_gone : (event : EventKind) (t : State) → HasSameOrGone job id s t → Changes event t
     kept_or_gone event t (inl e) = kept event t e
-    kept_or_gone event t (inr e) = subst (λ o. EventFailures event job id (failures_of s job id) o) (sym e) (task_gone (failures_of s job id))
-
-    -- the task has none
-    none : (event : EventKind) (t : State) → failures_of t job id ≡ Some 0 → begins_task event job id ≡ true → Changes event t
-    none event t e begins = subst (λ o. EventFailures event job id (failures_of s job id) o) (sym e) (task_begun (failures_of s job id) begins)
+    kept_or_gone event t (inr e) = subst (λ o. EventFailures s event job id (failures_of s job id) o) (sym e) (task_gone (failures_of s job id))
 
     job_added : (event : EventKind) (new_id : List ℕ) (spec : JobSpec) → Changes event (add_job s new_id spec).state
     job_added event new_id spec = elim (passes_or_not (is_some (job_of s new_id))) [
@@ -180,19 +195,35 @@ module _ (job id : List ℕ) where
     its_job : (in_job : List ℕ) (row : JobRow) → job_of s in_job ≡ Some row → same row.id job ≡ same in_job job
     its_job in_job row found = same_equiv.congr row.id in_job job (find_test (is_job in_job) row s.jobs found)
 
-    tasks_added : (in_job : List ℕ) (specs : List TaskSpec) (row : JobRow) (t : State) → job_of s in_job ≡ Some row → HasSameOrNew row specs s t
-        → Changes (AddTasks in_job specs) t
-    tasks_added in_job specs row t found (inl e) = kept (AddTasks in_job specs) t e
-    tasks_added in_job specs row t found (inr new) =
-        none (AddTasks in_job specs) t new.0 (rw (← its_job in_job row found) new.1)
+    -- and is found by the id of the task's job, if that is the same
+    job_there : (in_job : List ℕ) (row : JobRow) → job_of s in_job ≡ Some row → same in_job job ≡ true → job_of s job ≡ Some row
+    job_there in_job row found e =
+        find_agree (is_job job) (is_job in_job) (λ (other : JobRow). alike_ids in_job job other.id e) s.jobs ∙ found
 
-    one_task_added : (in_job : List ℕ) (spec : TaskSpec) (row : JobRow) → job_of s in_job ≡ Some row → HasSameOrNew row (spec ∷ []) s (task_added s row spec)
-        → Changes (AddTask in_job spec) (task_added s row spec)
-    one_task_added in_job spec row found (inl e) = kept (AddTask in_job spec) (task_added s row spec) e
-    one_task_added in_job spec row found (inr new) =
-        none (AddTask in_job spec) (task_added s row spec) new.0
-        (and_true (sym (its_job in_job row found) ∙ and_first (same row.id job) (same spec.id id || false) new.1)
-        (alone (same spec.id id) (and_second (same row.id job) (same spec.id id || false) new.1)))
+    -- the task is new, and has none
+    added : (event : EventKind) (in_job : List ℕ) (row : JobRow) (t : State) → job_of s in_job ≡ Some row → is_past row.state ≡ false
+        → same in_job job ≡ true → adds_task event job id ≡ true → failures_of s job id ≡ None → failures_of t job id ≡ Some 0 → Changes event t
+    added event in_job row t found takes own adds none_before none_after =
+        subst (λ o. EventFailures s event job id (failures_of s job id) o) (sym none_after)
+        (subst (λ o. EventFailures s event job id o (Some 0)) (sym none_before) (added_task row adds (job_there in_job row found own) takes))
+
+    tasks_added : (in_job : List ℕ) (specs : List TaskSpec) (row : JobRow) (t : State) → job_of s in_job ≡ Some row → is_past row.state ≡ false
+        → HasSameOrNew row specs s t → Changes (AddTasks in_job specs) t
+    tasks_added in_job specs row t found takes (inl e) = kept (AddTasks in_job specs) t e
+    tasks_added in_job specs row t found takes (inr new) =
+        let own : same in_job job ≡ true =
+        sym (its_job in_job row found) ∙ and_first (same row.id job) (list_any (λ (spec : TaskSpec). same spec.id id) specs) new.1
+        in
+        added (AddTasks in_job specs) in_job row t found takes own
+        (and_true own (and_second (same row.id job) (list_any (λ (spec : TaskSpec). same spec.id id) specs) new.1)) new.0.0 new.0.1
+
+    one_task_added : (in_job : List ℕ) (spec : TaskSpec) (row : JobRow) → job_of s in_job ≡ Some row → is_past row.state ≡ false
+        → HasSameOrNew row (spec ∷ []) s (task_added s row spec) → Changes (AddTask in_job spec) (task_added s row spec)
+    one_task_added in_job spec row found takes (inl e) = kept (AddTask in_job spec) (task_added s row spec) e
+    one_task_added in_job spec row found takes (inr new) =
+        let own : same in_job job ≡ true = sym (its_job in_job row found) ∙ and_first (same row.id job) (same spec.id id || false) new.1 in
+        added (AddTask in_job spec) in_job row (task_added s row spec) found takes own
+        (and_true own (alone (same spec.id id) (and_second (same row.id job) (same spec.id id || false) new.1))) new.0.0 new.0.1
       where
         alone : (b : Bool) → (b || false) ≡ true → b ≡ true
         alone true e = refl
@@ -212,13 +243,20 @@ module _ (job id : List ℕ) where
           kept event (put_task (terminated s.moment task) s)
           (put_same job id s keys test task found (terminated s.moment) (λ one other. refl) (λ one. refl) (λ one. refl))
 
-      reactivated_by : (event : EventKind) (b : Bool) → is_task job id task ≡ b → (is_task job id task ≡ true → begins_task event job id ≡ true)
-          → Changes event (put_task (reactivated task) s)
-      reactivated_by event true e begins =
-          none event (put_task (reactivated task) s)
-          (put_own job id s keys test task found reactivated (λ one other. refl) (λ one. refl) e) (begins e)
-      reactivated_by event false e begins =
-          kept event (put_task (reactivated task) s)
+      reactivated_by : (in_job named : List ℕ) (row : JobRow) (b : Bool) → is_task job id task ≡ b → job_of s in_job ≡ Some row → is_past row.state ≡ false
+          → can_reactivate task ≡ true → (is_task job id task ≡ true → (same in_job job && same named id) ≡ true)
+          → Changes (ReactivateTask in_job named) (put_task (reactivated task) s)
+      reactivated_by in_job named row true e there takes can ids =
+          let task_there : task_of s job id ≡ Some task =
+          find_agree (is_task job id) (is_task task.job task.id) (keyed_like job id task e) s.tasks ∙ own_task job id s keys test task found
+          in
+          subst (λ o. EventFailures s (ReactivateTask in_job named) job id (failures_of s job id) o)
+          (sym (put_own job id s keys test task found reactivated (λ one other. refl) (λ one. refl) e))
+          (subst (λ o. EventFailures s (ReactivateTask in_job named) job id o (Some 0))
+          (sym (ap (option_map (λ (one : TaskRow). one.failures)) task_there))
+          (reactivated_task row task (ids e) (job_there in_job row there (and_first (same in_job job) (same named id) (ids e))) takes task_there can))
+      reactivated_by in_job named row false e there takes can ids =
+          kept (ReactivateTask in_job named) (put_task (reactivated task) s)
           (put_other job id s keys test task found reactivated (λ one other. refl) (λ one. refl) e)
 
     -- the task that is reactivated has the ids of the event
@@ -265,12 +303,14 @@ module _ (job id : List ℕ) where
           by_row (AddTask in_job spec) JobNotFound (add_task s spec) (job_of s in_job)
           (λ row found. by_answer (AddTask in_job spec)
           (refuse_if (is_past row.state) (JobStateRefuses row.state) ∷ task_refusals s row spec) 201 (task_added s row spec)
-          (λ absent. one_task_added in_job spec row found (one_added s row spec [])))
+          (λ absent. one_task_added in_job spec row found (passed (is_past row.state) (JobStateRefuses row.state) absent.0)
+          (one_added s row spec [] (passed (is_some (task_of s row.id spec.id)) TaskExists absent.1.0))))
       changes_now (AddTasks in_job specs) =
           by_row (AddTasks in_job specs) JobNotFound (add_tasks s specs) (job_of s in_job)
           (λ row found. by_given (AddTasks in_job specs) (accept_all (add_each s row specs))
           (add_tasks_refusals row specs)
-          (λ absent. tasks_added in_job specs row (add_each s row specs).state found (each_added row specs s)))
+          (λ absent. tasks_added in_job specs row (add_each s row specs).state found
+          (passed (is_past row.state) (JobStateRefuses row.state) absent.0) (each_added row specs s)))
       changes_now (DeleteTask in_job named) =
           by_row (DeleteTask in_job named) JobNotFound (delete_task s named) (job_of s in_job)
           (λ row found. by_given (DeleteTask in_job named)
@@ -292,7 +332,9 @@ module _ (job id : List ℕ) where
           (task_of s row.id named)
           (λ task there. by_answer (ReactivateTask in_job named) (reactivate_refusals task) 204
           (put_task (reactivated task) s)
-          (λ absent. reactivated_by keys (is_task row.id named) task there (ReactivateTask in_job named) (is_task job id task) refl
+          (λ absent. reactivated_by keys (is_task row.id named) task there in_job named row (is_task job id task) refl found
+          (passed (is_past row.state) (JobStateRefuses row.state) allowed.0)
+          (not_false (can_reactivate task) (passed (not (can_reactivate task)) TaskNotReactivable absent.0))
           (its_ids in_job named row task found there)))))
       changes_now (Take number) =
           by_row (Take number) RunNotFound (take_run s) (run_of s number)
@@ -307,5 +349,13 @@ module _ (job id : List ℕ) where
 
   -- the failures of the task before an event, and after it
   pub failures_by_event : (moment : ℕ) (event : EventKind) (s : State) → AreDistinct same_task s.tasks
-      → EventFailures event job id (failures_of s job id) (failures_of (event_step moment event s).state job id)
-  failures_by_event moment event s keys = changes_now (at_moment moment s) keys event
+      → EventFailures s event job id (failures_of s job id) (failures_of (event_step moment event s).state job id)
+  failures_by_event moment event s keys = without_moment (changes_now (at_moment moment s) keys event)
+    where
+      -- the last moment has no part in it
+      without_moment : {before after : Option ℕ} → EventFailures (at_moment moment s) event job id before after
+          → EventFailures s event job id before after
+      without_moment (same_failures failures) = same_failures failures
+      without_moment (task_gone failures) = task_gone failures
+      without_moment (added_task row adds there takes) = added_task row adds there takes
+      without_moment (reactivated_task row task reactivates there takes task_there can) = reactivated_task row task reactivates there takes task_there can

@@ -3,7 +3,7 @@ use Rattle.std.proofs.Common.{◌≡◌, ℕ, ◌+◌, ◌≤◌, Bool, true, fa
 use Rattle.bt_rows.specs.declared.event.DisableTasks.TheVariants.{Requeue}
 use Rattle.batch_model.specs.Dues.{new_node, begin_start, node_added, due_step}
 use Rattle.batch_model.specs.Finding.{names}
-use Rattle.batch_model.specs.JobRules.{all_complete, releasing, release_made}
+use Rattle.batch_model.specs.JobRules.{all_complete, releasing, release_made, job_removed}
 use Rattle.batch_model.specs.Jobs.{can_disable, is_past}
 use Rattle.batch_model.specs.Placing.{placed, begin_preparation, prepare_with, prepare, first_state, place}
 use Rattle.batch_model.specs.Preps.{new_prep, change_prep, has_preparation}
@@ -19,6 +19,7 @@ use Rattle.batch_model.specs.WallTimes.{wall_time_over}
 use Rattle.model_laws.proofs.DueCases.{DueCase, task_stops, release_stops, job_stops, task_deleted, task_terminated, task_requeued, task_tried, task_completed}
 use Rattle.model_laws.proofs.DueCases.{job_active, job_done, job_rests, releases, job_goes, job_stays, pool_reaches, pool_fails, node_comes, places, due_cases}
 use Rattle.model_laws.proofs.LastingRuns.{IsLasting, HasNoMore, no_change, both_steps, dropped, added, run_asked}
+use Rattle.model_laws.proofs.StayingRuns.{ask_stays}
 use Rattle.model_laws.proofs.MadeRuns.{Lasts, same_runs, lasts_on}
 use Rattle.model_laws.proofs.RunsKept.{stop_lasts, close_lasts, disable_lasts, drop_lasts}
 
@@ -41,15 +42,22 @@ acted_if : (b : Bool) (action : JobAction) (job : JobRow) (t : State) → Lasts 
 acted_if true action job t = acted action job t
 acted_if false action job t = same_runs t t refl refl
 
--- what holds of a step that makes no run, and of each step that makes runs, holds of each due step
+-- what holds of a step that makes no run and drops no job, of one that drops a job, and of each step that makes runs, holds of each due
+-- step
 module _ (s : State) (P : DueStep → Type 0) (of_none : (step : DueStep) → Lasts s step.state → P step)
+    (of_job : (job : JobRow) → P (job_removed s job))
     (of_release : (prep : PrepRow) (node : NodeRow) (job : JobRow) (release : ReleaseTask) → P (release_made s prep node job release))
     (of_node : (seat : ℕ) (pool : PoolRow) → P (node_added s seat pool))
     (of_place : (job : JobRow) (task : TaskRow) (node : NodeRow) → P (place s job task node)) where
   of_case : (step : DueStep) → DueCase s step → P step
   of_case step (task_stops task) = of_none step (stop_lasts (is_task task.job task.id) WantWall s)
   of_case step (release_stops run) =
-      of_none step (record { runs = λ test lasts. run_asked test lasts (is_run run.number) s; next = refl })
+      of_none step
+      (record {
+        runs = λ test lasts. run_asked test lasts (is_run run.number) s;
+        stay = λ test staying. ask_stays test staying (is_run run.number) s;
+        next = refl;
+      })
   of_case step (job_stops job) = of_none step (close_lasts Terminating wall_time_over job s)
   of_case step (task_deleted task) = of_none step (drop_lasts task s)
   of_case step (task_terminated task found) = of_none step (same_runs s step.state refl refl)
@@ -63,16 +71,31 @@ module _ (s : State) (P : DueStep → Type 0) (of_none : (step : DueStep) → La
   of_case step (job_done job) = of_none step (close_lasts Terminating all_complete job s)
   of_case step (job_rests job) = of_none step (same_runs s step.state refl refl)
   of_case step (releases prep node job release) = of_release prep node job release
-  of_case step (job_goes job) =
-      of_none step (record { runs = λ test lasts. dropped test (λ run. not (names run.job job.id)) s.runs; next = refl })
+  of_case step (job_goes job) = of_job job
   of_case step (job_stays job) = of_none step (same_runs s step.state refl refl)
   of_case step (pool_reaches pool) = of_none step (same_runs s step.state refl refl)
   of_case step (pool_fails pool) = of_none step (same_runs s step.state refl refl)
   of_case step (node_comes seat pool) = of_node seat pool
   of_case step (places job task node finds found) = of_place job task node
 
+  pub of_due_cases : (seats : ℕ) (step : DueStep) → due_step seats s ≡ Some step → P step
+  of_due_cases seats step e = of_case step (due_cases s seats step e)
+
+-- no run is made, and runs change and go in such ways alone, also with their job
+pub record MakesNone (s t : State) : Type 0 where
+  pub runs : (test : RunRow → Bool) → IsLasting test → HasNoMore test s t
+  pub next : t.next_run ≡ s.next_run
+
+-- what holds of a step that makes no run, and of each step that makes runs, holds of each due step
+module _ (s : State) (P : DueStep → Type 0) (of_none : (step : DueStep) → MakesNone s step.state → P step)
+    (of_release : (prep : PrepRow) (node : NodeRow) (job : JobRow) (release : ReleaseTask) → P (release_made s prep node job release))
+    (of_node : (seat : ℕ) (pool : PoolRow) → P (node_added s seat pool))
+    (of_place : (job : JobRow) (task : TaskRow) (node : NodeRow) → P (place s job task node)) where
   pub of_due : (seats : ℕ) (step : DueStep) → due_step seats s ≡ Some step → P step
-  of_due seats step e = of_case step (due_cases s seats step e)
+  of_due =
+      of_due_cases s P (λ step lasts. of_none step (record { runs = lasts.runs; next = lasts.next }))
+      (λ job. of_none (job_removed s job) (record { runs = λ test lasts. dropped test (λ run. not (names run.job job.id)) s.runs; next = refl }))
+      of_release of_node of_place
 
 -- the counter of runs
 

@@ -1,9 +1,12 @@
+pub mod Measure
 pub mod LastingRuns
+pub mod StayingRuns
 pub mod MadeRuns
 pub mod RunsKept
 pub mod RunEnds
 pub mod RunsByEvents
 pub mod ReleasesByEvents
+pub mod ReleaseRunsByEvents
 pub mod TakesOfPresent
 pub mod KeptFailures
 pub mod FailuresByEvents
@@ -11,6 +14,14 @@ pub mod StartsByEvents
 pub mod DueCases
 pub mod LastingByDues
 pub mod ReleasesByDues
+pub mod ReleaseRunsByDues
 pub mod FailuresByDues
 pub mod RunsByDues
+pub mod MadeWithRows
 pub mod StartsByDues
+pub mod KeptPlacings
+pub mod PlacingsByEvents
+pub mod PlacingsByDues
+pub mod OrderedRows
+pub mod Order
+pub mod OrderOfAll

@@ -15,19 +15,25 @@ use Rattle.model_laws.specs.Retries.{StartsAgain, PreparesAgain}
 use Rattle.model_laws.specs.Runs.{is_open, KeepsRuns}
 use Rattle.model_laws.proofs.LastingRuns.{IsLasting, HasNoMore, no_change, both_steps, added, none_after, still_gone, still_closed, number_lasts, is_open_run}
 use Rattle.model_laws.proofs.LastingRuns.{open_lasts, is_new_start, starts_last, is_new_preparation, preparations_last, releases_last}
+use Rattle.model_laws.proofs.StayingRuns.{IsStaying, Stays, added_stays}
 
--- no run is made, and runs change and go in such ways alone
+-- no run is made, and runs change and go in such ways alone; a run that names no task stays
 pub record Lasts (s t : State) : Type 0 where
   pub runs : (test : RunRow → Bool) → IsLasting test → HasNoMore test s t
+  pub stay : (test : RunRow → Bool) → IsStaying test → Stays test s t
   pub next : t.next_run ≡ s.next_run
 
 -- the same runs
 pub same_runs : (s t : State) → t.runs ≡ s.runs → t.next_run ≡ s.next_run → Lasts s t
-same_runs s t e n = record { runs = λ test lasts. rw e (no_change test s); next = n }
+same_runs s t e n = record { runs = λ test lasts. rw e (no_change test s); stay = λ test staying h. rw e h; next = n }
 
 -- one step after another
 pub lasts_on : (s t u : State) → Lasts s t → Lasts t u → Lasts s u
-lasts_on s t u h k = record { runs = λ test lasts. both_steps test s t u (h.runs test lasts) (k.runs test lasts); next = k.next ∙ h.next }
+lasts_on s t u h k = record {
+  runs = λ test lasts. both_steps test s t u (h.runs test lasts) (k.runs test lasts);
+  stay = λ test staying before. k.stay test staying (h.stay test staying before);
+  next = k.next ∙ h.next;
+}
 
 -- what an event at the tables s does with the runs of the tables w: it makes none, or a start or preparation run again after a failure
 pub data EventRuns (s : State) (event : EventKind) (w : State) : State → Type 0 where
@@ -105,13 +111,23 @@ module _ (s w : State) (event : EventKind) where
     closed = λ number h. closed_on number t h does;
   }
 
+  -- a run that names no task stays
+  pub stays_on : (test : RunRow → Bool) → IsStaying test → (t : State) → EventRuns s event w t → Stays test w t
+  stays_on test staying t (makes_none u k) = k.stay test staying
+  stays_on test staying t (makes_start u run k n start again) = λ h. added_stays test run u (k.stay test staying h)
+  stays_on test staying t (makes_preparation u run k n prep again) = λ h. added_stays test run u (k.stay test staying h)
+
+  -- no more runs pass a test that only release runs pass
+  pub no_more_on : (test : RunRow → Bool) → IsLasting test → ((run : RunRow) → is_release run.kind ≡ false → test run ≡ false) → (t : State)
+      → EventRuns s event w t → HasNoMore test w t
+  no_more_on test lasts releases t (makes_none u k) = k.runs test lasts
+  no_more_on test lasts releases t (makes_start u run k n start again) = made_none test u run lasts k (releases run (start_alone run.kind start).1)
+  no_more_on test lasts releases t (makes_preparation u run k n prep again) =
+      made_none test u run lasts k (releases run (preparation_alone run.kind prep).1)
+
   -- no more release runs of a job on a node
   pub releases_on : (job : List ℕ) (node : ℕ) (t : State) → EventRuns s event w t → HasNoMore (is_release_of job node) w t
-  releases_on job node t (makes_none u k) = k.runs (is_release_of job node) (releases_last job node)
-  releases_on job node t (makes_start u run k n start again) =
-      made_none (is_release_of job node) u run (releases_last job node) k (rw ((start_alone run.kind start).1) refl)
-  releases_on job node t (makes_preparation u run k n prep again) =
-      made_none (is_release_of job node) u run (releases_last job node) k (rw ((preparation_alone run.kind prep).1) refl)
+  releases_on job node = no_more_on (is_release_of job node) (releases_last job node) (λ run e. rw e refl)
 
 -- made runs of a kind
 

@@ -15,6 +15,7 @@ use Rattle.batch_model.specs.Variants.{State, NodeRow, NodeStage, Starting, Usab
 use Rattle.batch_model.specs.Variants.{RunKind, StartRun, PrepRun, TaskRun, CoordinationRun, ReleaseRun}
 use Rattle.model_lists.proofs.Tests.{and_first}
 use Rattle.model_laws.proofs.LastingRuns.{changed}
+use Rattle.model_laws.proofs.StayingRuns.{queue_stays}
 use Rattle.model_laws.proofs.MadeRuns.{same_runs, lasts_on, EventRuns, makes_none, makes_start, makes_preparation, runs_on}
 use Rattle.model_laws.proofs.RunsKept.{stop_lasts, ended_lasts}
 
@@ -102,6 +103,7 @@ module _ (s : State) (number : ℕ) (ending : Ending) (run : RunRow) (found : ru
         runs =
             λ test lasts. changed test (waits_on prep) queued ready
             (λ row t. lasts.if_queued row (and_first (is_waiting row.state) (is_at_prep prep row) t));
+        stay = λ test staying. queue_stays test staying (waits_on prep) ready;
         next = refl;
       })
 

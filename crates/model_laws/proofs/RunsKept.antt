@@ -13,19 +13,32 @@ use Rattle.batch_model.specs.Variants.{State, JobRow, JobState, TaskRow, Want, E
 use Rattle.model_lists.proofs.DistinctLists.{each_with_key}
 use Rattle.model_lists.proofs.Tests.{asked, not_true, true_not}
 use Rattle.model_laws.proofs.LastingRuns.{changed, changed_where, dropped, stopped, closed, disabled}
+use Rattle.model_laws.proofs.StayingRuns.{stop_stays, close_stays, disable_stays, drop_stays, end_stays, take_stays}
 use Rattle.model_laws.proofs.MadeRuns.{Lasts}
 
 -- tasks are stopped
 pub stop_lasts : (of : TaskRow → Bool) (want : Want) (s : State) → Lasts s (stop of want s)
-stop_lasts of want s = record { runs = λ test lasts. stopped test lasts of want s; next = refl }
+stop_lasts of want s = record {
+  runs = λ test lasts. stopped test lasts of want s;
+  stay = λ test staying. stop_stays test staying of want s;
+  next = refl;
+}
 
 -- a job is closed
 pub close_lasts : (state : JobState) (why : List ℕ) (row : JobRow) (s : State) → Lasts s (close state why row s)
-close_lasts state why row s = record { runs = λ test lasts. closed test lasts state why row s; next = refl }
+close_lasts state why row s = record {
+  runs = λ test lasts. closed test lasts state why row s;
+  stay = λ test staying. close_stays test staying state why row s;
+  next = refl;
+}
 
 -- a job is disabled
 pub disable_lasts : (option : DisableTasks) (row : JobRow) (s : State) → Lasts s (disable row option s)
-disable_lasts option row s = record { runs = λ test lasts. disabled test lasts option row s; next = by_option option }
+disable_lasts option row s = record {
+  runs = λ test lasts. disabled test lasts option row s;
+  stay = λ test staying. disable_stays test staying option row s;
+  next = by_option option;
+}
   where
     by_option : (how : DisableTasks) → (disable row how s).next_run ≡ s.next_run
     by_option Requeue = refl
@@ -34,12 +47,17 @@ disable_lasts option row s = record { runs = λ test lasts. disabled test lasts 
 
 -- a task is dropped with its runs
 pub drop_lasts : (task : TaskRow) (s : State) → Lasts s (drop_task task s)
-drop_lasts task s = record { runs = λ test lasts. dropped test (λ run. not (is_run_of_task task.job task.id run)) s.runs; next = refl }
+drop_lasts task s = record {
+  runs = λ test lasts. dropped test (λ run. not (is_run_of_task task.job task.id run)) s.runs;
+  stay = λ test staying. drop_stays test staying task s;
+  next = refl;
+}
 
 -- the run has ended
 pub ended_lasts : (number : ℕ) (ending : Ending) (s : State) → Lasts s (change_runs (is_run number) (ended_run s.moment ending) s)
 ended_lasts number ending s = record {
   runs = λ test lasts. changed test (is_run number) (ended_run s.moment ending) s (λ run t. lasts.if_ended s.moment ending run);
+  stay = λ test staying. end_stays test staying (is_run number) ending s;
   next = refl;
 }
 
@@ -51,5 +69,6 @@ taken_lasts run s keys found open_yet = record {
       λ test lasts. changed_where test (λ row. not (is_run run.number row) || not (is_ended row.state)) (is_run run.number) (taken_run s.moment) s
       (λ row a t. lasts.if_taken s.moment row (not_true (is_ended row.state) (asked (is_run run.number row) (not (is_ended row.state)) a t)))
       (each_with_key same_run same_run_equiv (λ (row : RunRow). not (is_ended row.state)) run run s.runs keys found (true_not open_yet));
+  stay = λ test staying. take_stays test staying (is_run run.number) s;
   next = refl;
 }

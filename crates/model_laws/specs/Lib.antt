@@ -1,3 +1,7 @@
+pub mod Measure
+pub mod ReleaseRuns
 pub mod Releases
 pub mod Retries
 pub mod Runs
+pub mod Placings
+pub mod Order

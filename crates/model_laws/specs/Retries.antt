@@ -10,7 +10,9 @@ use Rattle.bt_rows.specs.declared.due.Due.{Due}
 use Rattle.bt_rows.specs.declared.due.Due.TheVariants.{TaskSettled}
 use Rattle.bt_rows.specs.declared.due.Outcome.TheVariants.{Again}
 use Rattle.batch_model.specs.Endings.{is_success}
+use Rattle.batch_model.specs.Events.{can_reactivate}
 use Rattle.batch_model.specs.Finding.{is_below, is_within_limit}
+use Rattle.batch_model.specs.Jobs.{is_past}
 use Rattle.batch_model.specs.Preparing.{prep_of_run, preparation_of}
 use Rattle.batch_model.specs.Rows.{node_of, job_of, task_of, run_of, prep_of}
 use Rattle.batch_model.specs.Runs.{is_start, is_preparation}
@@ -23,18 +25,26 @@ use Rattle.batch_model.specs.Variants.{State, NodeRow, JobRow, StartTask, TaskRo
 abbrev pub failures_of : State → List ℕ → List ℕ → Option ℕ
 failures_of s job id = option_map (λ (task : TaskRow). task.failures) (task_of s job id)
 
--- the event adds or reactivates this task
-abbrev pub begins_task : EventKind → List ℕ → List ℕ → Bool
-begins_task (AddTask in_job spec) job id = same in_job job && same spec.id id
-begins_task (AddTasks in_job specs) job id = same in_job job && list_any (λ (spec : TaskSpec). same spec.id id) specs
-begins_task (ReactivateTask in_job task) job id = same in_job job && same task id
-begins_task _ job id = false
+-- the event adds this task
+abbrev pub adds_task : EventKind → List ℕ → List ℕ → Bool
+adds_task (AddTask in_job spec) job id = same in_job job && same spec.id id
+adds_task (AddTasks in_job specs) job id = same in_job job && list_any (λ (spec : TaskSpec). same spec.id id) specs
+adds_task _ job id = false
 
--- the failures of a task before an event and after it: they stay, the task is gone, or it was added or reactivated and has none
-pub data EventFailures (event : EventKind) (job id : List ℕ) : Option ℕ → Option ℕ → Type 0 where
-  same_failures : (failures : Option ℕ) → EventFailures event job id failures failures
-  task_gone : (failures : Option ℕ) → EventFailures event job id failures None
-  task_begun : (failures : Option ℕ) → begins_task event job id ≡ true → EventFailures event job id failures (Some 0)
+-- the event reactivates this task
+abbrev pub reactivates_task : EventKind → List ℕ → List ℕ → Bool
+reactivates_task (ReactivateTask in_job task) job id = same in_job job && same task id
+reactivates_task _ job id = false
+
+-- the failures of a task before an event and after it: they stay, or the task is gone, or it has none, since it was added to a job that
+-- takes tasks and was not there before, or was reactivated in such a job, where it was completed without success
+pub data EventFailures (s : State) (event : EventKind) (job id : List ℕ) : Option ℕ → Option ℕ → Type 0 where
+  same_failures : (failures : Option ℕ) → EventFailures s event job id failures failures
+  task_gone : (failures : Option ℕ) → EventFailures s event job id failures None
+  added_task : (row : JobRow) → adds_task event job id ≡ true → job_of s job ≡ Some row → is_past row.state ≡ false →
+      EventFailures s event job id None (Some 0)
+  reactivated_task : (row : JobRow) (task : TaskRow) → reactivates_task event job id ≡ true → job_of s job ≡ Some row → is_past row.state ≡ false →
+      task_of s job id ≡ Some task → can_reactivate task ≡ true → EventFailures s event job id (Some task.failures) (Some 0)
 
 -- the failures of a task before a due step with this line and after it: they stay, the task is gone, or it is settled to be tried again
 -- with one failure more, while its failures were below the limit of its retries
@@ -83,22 +93,30 @@ pub record PreparesAgain (s : State) (event : EventKind) (made : RunRow) : Type 
 -- what an event does to retries, from these tables to those after it: failures of tasks are never raised, and start and preparation
 -- runs are only made again after a failure that left a retry
 pub record EventRetries (s : State) (event : EventKind) (after : State) : Type 0 where
-  pub failures : (job id : List ℕ) → EventFailures event job id (failures_of s job id) (failures_of after job id)
+  pub failures : (job id : List ℕ) → EventFailures s event job id (failures_of s job id) (failures_of after job id)
   pub starts : (number : ℕ) (made : RunRow) → run_of after number ≡ Some made → s.next_run ≤ number → is_start made.kind ≡ true → StartsAgain s event made
   pub preparations : (number : ℕ) (made : RunRow) → run_of after number ≡ Some made → s.next_run ≤ number → is_preparation made.kind ≡ true →
       PreparesAgain s event made
 
--- the preparation of the job on the node begins with this run
-pub record PreparesFirst (s : State) (made : RunRow) : Type 0 where
+-- the start task of the run's node begins with this run: the node is there afterwards, and was not before
+pub record StartsFirst (before after : State) (made : RunRow) : Type 0 where
+  pub node : NodeRow
+  pub absent : node_of before made.node ≡ None
+  pub there : node_of after made.node ≡ Some node
+
+-- the preparation of the run's job on its node begins with this run: the preparation is there afterwards, and was not before
+pub record PreparesFirst (before after : State) (made : RunRow) : Type 0 where
   pub job : List ℕ
+  pub prep : PrepRow
   pub of_job : made.job ≡ Some job
-  pub absent : prep_of s job made.node ≡ None
+  pub absent : prep_of before job made.node ≡ None
+  pub there : prep_of after job made.node ≡ Some prep
 
 -- what a due step does to retries: failures of a task rise only by one, while they are below its limit, and start and preparation runs
--- are only made on new nodes, and for preparations that begin
+-- are only made with new nodes, and with preparations that begin
 pub record DueRetries (s : State) (step : DueStep) : Type 0 where
   pub failures : (job id : List ℕ) → DueFailures s step.due job id (failures_of s job id) (failures_of step.state job id)
   pub starts : (number : ℕ) (made : RunRow) → run_of step.state number ≡ Some made → s.next_run ≤ number → is_start made.kind ≡ true →
-      node_of s made.node ≡ None
+      StartsFirst s step.state made
   pub preparations : (number : ℕ) (made : RunRow) → run_of step.state number ≡ Some made → s.next_run ≤ number → is_preparation made.kind ≡ true →
-      PreparesFirst s made
+      PreparesFirst s step.state made
