@@ -1,4 +1,5 @@
 //! Why child programs are not started.
+use crate::not_started::NotStarted;
 use bt_base::NoMemory;
 use std::alloc::AllocError;
 use std::io;
@@ -9,8 +10,10 @@ use std::io::ErrorKind;
 pub(crate) enum StartFault {
     /// It is out of memory.
     Memory,
-    /// A file for its output could not be made, a word is not UTF-8 or has a zero byte, or the program could not be started.
-    Failed,
+    /// The system cannot make its folders or files or start it now, but may do so later.
+    Passing(io::Error),
+    /// It cannot be started.
+    NotStarted(NotStarted),
 }
 
 impl From<AllocError> for StartFault {
@@ -25,12 +28,19 @@ impl From<NoMemory> for StartFault {
     }
 }
 
+impl From<NotStarted> for StartFault {
+    fn from(why: NotStarted) -> StartFault {
+        StartFault::NotStarted(why)
+    }
+}
+
 impl From<io::Error> for StartFault {
+    /// An error of the system passes; one that has no number of the system's and says that memory ran out is the program's own.
     fn from(error: io::Error) -> StartFault {
-        if error.kind() == ErrorKind::OutOfMemory {
+        if error.kind() == ErrorKind::OutOfMemory && error.raw_os_error().is_none() {
             StartFault::Memory
         } else {
-            StartFault::Failed
+            StartFault::Passing(error)
         }
     }
 }

@@ -66,6 +66,13 @@ impl Inputs {
         Ok(())
     }
 
+    /// Whether an input is open, or will be as soon as its child program is started. It does not allocate.
+    pub fn has_open(&self) -> bool {
+        self.by_run
+            .values()
+            .any(|input| !matches!(input, Input::Asked))
+    }
+
     /// Forgets a run whose child program has ended, and closes its input. It does not allocate.
     pub fn forget(&mut self, number: u64)
         ensures { get nat_cmp self.new.by_run number ≡ None }

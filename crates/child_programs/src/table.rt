@@ -27,6 +27,12 @@ impl ProgramTable {
         })
     }
 
+    /// Whether the standard input of some child program is open, or will be as soon as the child program is started. It is not for one
+    /// that was asked to stop, also while it goes on.
+    pub fn has_open(&self, rt: &impl Wait) -> bool {
+        self.inputs.lock(rt).has_open()
+    }
+
     /// Makes room for the input of a run. It fails only when out of memory.
     pub(crate) fn make_room(&self, rt: &impl Wait, number: u64) -> Result<(), NoMemory> {
         self.inputs.lock(rt).make_room(number)

@@ -7,6 +7,7 @@ mod counter;
 mod endings;
 mod memory_spawner;
 mod ran;
+mod run_identity;
 mod spawner;
 mod stopper;
 mod stops;
@@ -14,6 +15,7 @@ mod sure_spawner;
 
 pub use memory_spawner::MemorySpawner;
 pub use ran::{ChildEnding, ChildRun, Ran};
+pub use run_identity::RunIdentity;
 pub use spawner::Spawner;
 pub use stopper::Stopper;
 pub use stops::{MemoryStopper, SureStopper};

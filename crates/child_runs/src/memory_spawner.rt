@@ -4,6 +4,7 @@ ghost use Rattle.child_runs.specs.Memory.{RunsOrFails};
 
 use crate::counter::CallCounter;
 use crate::ran::{ChildEnding, ChildRun, Ran};
+use crate::run_identity::RunIdentity;
 use crate::spawner::Spawner;
 use crate::sure_spawner::SureSpawner;
 use bt_base::Word;
@@ -13,10 +14,18 @@ use std::marker::Model;
 
 /// A spawner in memory of which the calls of given numbers fail, and no others. Contracts see the list of endings, the children
 /// that ran, the numbers of the calls that fail, and how many calls were made and failed.
-#[derive(Drop)]
 pub struct MemorySpawner {
     inner: SureSpawner,
     counter: CallCounter,
+}
+
+impl Drop for MemorySpawner {
+    fn drop(self) {
+        let MemorySpawner {
+            inner: _inner,
+            counter: _counter,
+        } = self;
+    }
 }
 
 impl Model for MemorySpawner {
@@ -58,9 +67,9 @@ impl Spawner for MemorySpawner {
     ghost ran = { RunsOrFails };
 
     /// `NotStarted` exactly if the number of the call is listed; then the child is not kept.
-    fn run(&mut self, alloc: Global, number: u64, words: &[Word]) -> Ran {
+    fn run(&mut self, alloc: Global, run: &RunIdentity, number: u64, words: &[Word]) -> Ran {
         match self.counter.count() {
-            Ok(()) => self.inner.run(alloc, number, words),
+            Ok(()) => self.inner.run(alloc, run, number, words),
             Err(Failed) => Ran::NotStarted,
         }
     }

@@ -27,7 +27,6 @@ pub enum Ran {
 
 /// One child program of a run: the number of the run, the words of its command line, of which the first names the program, and
 /// what became of it (this project's own).
-#[derive(Drop)]
 pub struct ChildRun {
     /// The number of the run.
     pub number: u64,
@@ -35,6 +34,16 @@ pub struct ChildRun {
     pub words: List<Word>,
     /// What became of it.
     pub how: Ran,
+}
+
+impl Drop for ChildRun {
+    fn drop(self) {
+        let ChildRun {
+            number: _number,
+            words: _words,
+            how: _how,
+        } = self;
+    }
 }
 
 impl Ran {

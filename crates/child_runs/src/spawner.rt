@@ -4,6 +4,7 @@ ghost use Rattle.child_runs.specs.Runs.{HasStartCause};
 ghost use Rattle.child_runs.specs.declared.ran.ChildRun.{ChildRun as OneRun};
 
 use crate::ran::Ran;
+use crate::run_identity::RunIdentity;
 use bt_base::Word;
 use std::alloc::Global;
 
@@ -16,8 +17,9 @@ pub trait Spawner {
     ghost ran: { Self → OneRun → Self → Type 0 };
 
     /// Starts the child program of the run with this number by these words, of which the first names the program, and waits
-    /// for its end. Returns `NotStarted` only if the count of faults rose in this call.
-    fn run(&mut self, alloc: Global, number: u64, words: &[Word]) -> Ran
+    /// for its end. What the run belongs to is for the child program alone, and no clause speaks of it. Returns `NotStarted`
+    /// only if the count of faults rose in this call.
+    fn run(&mut self, alloc: Global, run: &RunIdentity, number: u64, words: &[Word]) -> Ran
         ensures ran { ran self.old (record { number = number; words = words.now; how = result }) self.new }
         ensures cause { HasStartCause (faults self.old) (faults self.new) result };
 }

@@ -11,9 +11,14 @@ use std::marker::Model;
 
 /// A stopper in memory that never fails. Once it is out of memory it drops the numbers that it kept, and later ones too.
 /// Contracts see the numbers of the runs that it was asked to stop, in order; None once it is out of memory.
-#[derive(Drop)]
 pub struct SureStopper {
     numbers: Option<Vec<u64>>,
+}
+
+impl Drop for SureStopper {
+    fn drop(self) {
+        let SureStopper { numbers: _numbers } = self;
+    }
 }
 
 impl Model for SureStopper {
@@ -69,10 +74,18 @@ impl Stopper for SureStopper {
 
 /// A stopper in memory of which the calls of given numbers fail, and no others. Contracts see the numbers of the runs that it
 /// stopped, the numbers of the calls that fail, and how many calls were made and failed.
-#[derive(Drop)]
 pub struct MemoryStopper {
     inner: SureStopper,
     counter: CallCounter,
+}
+
+impl Drop for MemoryStopper {
+    fn drop(self) {
+        let MemoryStopper {
+            inner: _inner,
+            counter: _counter,
+        } = self;
+    }
 }
 
 impl Model for MemoryStopper {

@@ -5,6 +5,7 @@ ghost use Rattle.child_runs.specs.declared.ran.Ran.TheVariants.{Ended};
 
 use crate::endings::ending_of;
 use crate::ran::{ChildEnding, ChildRun, Ran};
+use crate::run_identity::RunIdentity;
 use crate::spawner::Spawner;
 use bt_base::{List, NoMemory, Word, duplicates};
 use std::alloc::Global;
@@ -12,10 +13,18 @@ use std::marker::Model;
 
 /// A spawner in memory that never fails: it starts no program, and its children end as a list says. Contracts see this list,
 /// and the children that ran.
-#[derive(Drop)]
 pub struct SureSpawner {
     endings: Vec<(u64, ChildEnding)>,
     runs: Vec<ChildRun>,
+}
+
+impl Drop for SureSpawner {
+    fn drop(self) {
+        let SureSpawner {
+            endings: _endings,
+            runs: _runs,
+        } = self;
+    }
 }
 
 impl Model for SureSpawner {
@@ -73,7 +82,7 @@ impl Spawner for SureSpawner {
     ghost ran = { RunsAsListed };
 
     /// The ending that is listed, or `Memory` if it is out of memory; then the child is not kept.
-    fn run(&mut self, alloc: Global, number: u64, words: &[Word]) -> Ran {
+    fn run(&mut self, alloc: Global, _run: &RunIdentity, number: u64, words: &[Word]) -> Ran {
         let ending = ending_of(self.endings.as_slice(), number);
         match self.keep(alloc, number, words, ending) {
             Ok(()) => Ran::Ended(ending),

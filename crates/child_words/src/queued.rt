@@ -4,10 +4,12 @@ ghost use Rattle.child_words.specs.Queued.{line_words, filled_words, with_words}
 
 use crate::filling::fill;
 use crate::run_names::names_of;
+use crate::startable::StartableRun;
 use bt_base::{CommandLine, Fail, List, NoMemory, Word, words};
 use bt_rows::reply::QueuedRun;
 use bt_rows::run::RunRow;
 use bt_rows::tables::Tables;
+use child_runs::RunIdentity;
 use std::alloc::Global;
 
 /// The words of the command line: at least one.
@@ -37,13 +39,16 @@ fn filled_words(alloc: Global, tables: &Tables, run: &RunRow) -> Result<List<Wor
 }
 
 /// The run's number with the words that its child program is started with: the words of its command line, in which the texts of the
-/// run stand for names. The first of them names the program. It fails only when out of memory.
-pub fn with_words(alloc: Global, tables: &Tables, run: &RunRow) -> Result<QueuedRun, NoMemory>
+/// run stand for names. The first of them names the program. What the run is and belongs to comes with them, as its row spells it. It
+/// fails only when out of memory.
+pub fn with_words(alloc: Global, tables: &Tables, run: &RunRow) -> Result<StartableRun, NoMemory>
     ensures run { IfOk result (λ queued. queued ≡ with_words tables.now.state run.now) }
     ensures program { IfOk result (λ queued. 0 < length queued.words) }
 {
-    Ok(QueuedRun {
+    let identity = RunIdentity::of_run(run)?;
+    let queued = QueuedRun {
         number: run.number,
         words: filled_words(alloc, tables, run)?,
-    })
+    };
+    Ok(StartableRun::new(queued, identity))
 }
