@@ -4,15 +4,8 @@ use Rattle.batch_keeper.specs.declared.error.KeepError.TheVariants as keeps
 use Rattle.sqlite.specs.declared.error.ErrorCode.TheVariants.{OutOfMemory}
 use Rattle.sqlite.specs.declared.error.Error.{Error}
 use Rattle.sqlite.specs.declared.error.Error.TheVariants.{SqliteFailure}
-use Rattle.sql_store.specs.declared.error.OpenError.{OpenError}
-use Rattle.sql_store.specs.declared.error.OpenError.TheVariants as opens
 
 -- out of memory is told apart; every other error is a fault
 abbrev pub answer_after : Error → KeepError
 answer_after (SqliteFailure OutOfMemory) = keeps.Memory
 answer_after _ = keeps.Failed
-
--- the same answer, of an open
-abbrev pub open_error : KeepError → OpenError
-open_error keeps.Failed = opens.Failed
-open_error keeps.Memory = opens.Memory

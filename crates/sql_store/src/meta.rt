@@ -1,7 +1,8 @@
 //! Names of the numbers that stand beside the rows.
 use keeper_store::{MetaName, Metas};
 
-/// The name of the number that counts the puts of new keys. It belongs to the table alone and is no content.
+/// The name of the number that is one above the greatest place a row has had. It belongs to the table alone and is no content; it is
+/// written for earlier versions of this program, and not read.
 pub const PLACE: &str = "place";
 
 /// The name under which the table has the number.

@@ -1,17 +1,18 @@
 //! The tables of a file, and the statements on them.
-use crate::error::answer_after;
-use batch_keeper::KeepError;
-use sqlite::{Alter, Connection, Statement};
+use sqlite::{Alter, Connection, Error, Statement};
 
-/// The tables. `kind` is the number of a kind of rows, `place` the order of adding, and `body` the text of a row.
+/// The tables, made together. `kind` is the number of a kind of rows, `place` the order of adding, and `body` the text of a row.
 const TABLES: &str =
-    "CREATE TABLE IF NOT EXISTS batch_row(kind INTEGER NOT NULL, key TEXT NOT NULL, place INTEGER NOT NULL, body TEXT NOT NULL, PRIMARY KEY(kind, key)); CREATE TABLE IF NOT EXISTS batch_meta(name TEXT PRIMARY KEY, value INTEGER NOT NULL)";
+    "BEGIN; CREATE TABLE IF NOT EXISTS batch_row(kind INTEGER NOT NULL, key TEXT NOT NULL, place INTEGER NOT NULL, body TEXT NOT NULL, PRIMARY KEY(kind, key)); CREATE TABLE IF NOT EXISTS batch_meta(name TEXT PRIMARY KEY, value INTEGER NOT NULL); COMMIT";
 
 /// All rows of each kind, in order of adding.
 const ROWS: &str = "SELECT kind, key, body FROM batch_row ORDER BY kind, place";
 
 /// All numbers beside the rows.
 const METAS: &str = "SELECT name, value FROM batch_meta ORDER BY name";
+
+/// The greatest place of a row; NULL if there are no rows.
+const LAST_PLACE: &str = "SELECT max(place) FROM batch_row";
 
 /// Puts a row; one whose key is there keeps its place. It returns the place that the row has.
 const PUT_ROW: &str =
@@ -24,13 +25,28 @@ const PUT_META: &str =
 /// Drops a row.
 const DROP_ROW: &str = "DELETE FROM batch_row WHERE kind = ?1 AND key = ?2";
 
-/// The statements, prepared.
-#[derive(Drop)]
-pub struct Statements {
+/// The statements that read, prepared.
+pub struct Reads {
     /// Returns all rows: kind, key, body.
     pub rows: Statement,
     /// Returns all numbers beside the rows: name, value.
     pub metas: Statement,
+    /// Returns the greatest place of a row.
+    pub last_place: Statement,
+}
+
+impl Drop for Reads {
+    fn drop(self) {
+        let Reads {
+            rows: _rows,
+            metas: _metas,
+            last_place: _last_place,
+        } = self;
+    }
+}
+
+/// The statements that write, prepared.
+pub struct Writes {
     /// Puts a row of a kind, a key, a place and a body, and returns the place that it has.
     pub put_row: Statement,
     /// Sets the number of a name.
@@ -39,28 +55,64 @@ pub struct Statements {
     pub drop_row: Statement,
 }
 
-/// Makes the tables, if they are not there.
-pub fn make_tables<S: Alter>(connection: &mut Connection<S>) -> Result<(), KeepError> {
-    match connection.execute_batch(TABLES) {
-        Ok(()) => Ok(()),
-        Err(error) => Err(answer_after(error)),
+impl Drop for Writes {
+    fn drop(self) {
+        let Writes {
+            put_row: _put_row,
+            put_meta: _put_meta,
+            drop_row: _drop_row,
+        } = self;
     }
 }
 
-fn prepare<S: Alter>(connection: &mut Connection<S>, sql: &str) -> Result<Statement, KeepError> {
-    match connection.prepare(sql) {
-        Ok(statement) => Ok(statement),
-        Err(error) => Err(answer_after(error)),
+/// The statements, prepared.
+pub struct Statements {
+    /// Those that read.
+    pub reads: Reads,
+    /// Those that write.
+    pub writes: Writes,
+}
+
+impl Drop for Statements {
+    fn drop(self) {
+        let Statements {
+            reads: _reads,
+            writes: _writes,
+        } = self;
     }
 }
 
-/// Prepares the statements.
-pub fn prepare_all<S: Alter>(connection: &mut Connection<S>) -> Result<Statements, KeepError> {
-    Ok(Statements {
+/// Makes the tables that are not there. After an error the connection may be in a transaction, and has to be dropped.
+pub fn make_tables<S: Alter>(connection: &mut Connection<S>) -> Result<(), Error> {
+    connection.execute_batch(TABLES)
+}
+
+// it has no clause, so that the proofs of its callers do not carry those of the kit's call
+fn prepare<S: Alter>(connection: &mut Connection<S>, sql: &str) -> Result<Statement, Error> {
+    connection.prepare(sql)
+}
+
+/// Prepares the statements that read.
+fn prepare_reads<S: Alter>(connection: &mut Connection<S>) -> Result<Reads, Error> {
+    Ok(Reads {
         rows: prepare(connection, ROWS)?,
         metas: prepare(connection, METAS)?,
+        last_place: prepare(connection, LAST_PLACE)?,
+    })
+}
+
+/// Prepares the statements that write.
+fn prepare_writes<S: Alter>(connection: &mut Connection<S>) -> Result<Writes, Error> {
+    Ok(Writes {
         put_row: prepare(connection, PUT_ROW)?,
         put_meta: prepare(connection, PUT_META)?,
         drop_row: prepare(connection, DROP_ROW)?,
     })
+}
+
+/// Prepares the statements.
+pub fn prepare_all<S: Alter>(connection: &mut Connection<S>) -> Result<Statements, Error> {
+    let reads = prepare_reads(connection)?;
+    let writes = prepare_writes(connection)?;
+    Ok(Statements { reads, writes })
 }

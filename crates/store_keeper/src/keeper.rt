@@ -9,10 +9,11 @@ ghost use Rattle.store_keeper.specs.Found.{IsContentOf, IsStoreFault};
 ghost use Rattle.store_keeper.specs.Kept.{IsReadable};
 
 use crate::edits::edits_of;
+use crate::load_fault::{LoadFault, load_fault};
 use crate::tables::tables_in;
 use batch_keeper::{KeepError, Keeper};
 use bt_rows::tables::{Change, Tables};
-use keeper_store::Store;
+use keeper_store::{Store, Stored};
 use std::alloc::Global;
 use std::marker::Model;
 
@@ -23,6 +24,7 @@ pub struct StoreKeeper<S: Store + Drop> {
     store: S,
     faults: u64,
     is_read: bool,
+    fault: Option<LoadFault>,
 }
 
 impl<S: Store + Drop> Model for StoreKeeper<S> {
@@ -44,7 +46,21 @@ impl<S: Store + Drop> StoreKeeper<S> {
             store,
             faults: 0,
             is_read: false,
+            fault: None,
         }
+    }
+
+    /// The store.
+    pub fn store(&self) -> &S
+        ensures { result.now ≡ self.now.store }
+    {
+        &self.store
+    }
+
+    /// Why the content that was read last is not that of well-formed tables. None if it is, if nothing was read, or if memory ran out for
+    /// the fault. That the store itself failed does not change it.
+    pub fn load_fault(&self) -> Option<&LoadFault> {
+        self.fault.as_ref()
     }
 
     /// The store.
@@ -55,6 +71,7 @@ impl<S: Store + Drop> StoreKeeper<S> {
             store,
             faults: _,
             is_read: _,
+            fault: _,
         } = self;
         store
     }
@@ -65,6 +82,13 @@ impl<S: Store + Drop> StoreKeeper<S> {
         ensures later { self.old.faults ≤ self.new.faults }
     {
         self.faults = self.faults.saturating_add(1);
+    }
+
+    /// Names the fault of the content.
+    fn name_fault(&mut self, alloc: Global, stored: &Stored)
+        ensures { self.new ≡ self.old }
+    {
+        self.fault = load_fault(alloc, stored).ok();
     }
 
     /// Reads the store, and counts a fault if its content is not that of well-formed tables.
@@ -82,9 +106,11 @@ impl<S: Store + Drop> StoreKeeper<S> {
         match tables_in(alloc, &stored)? {
             Some(tables) => {
                 self.is_read = true;
+                self.fault = None;
                 Ok(tables)
             }
             None => {
+                self.name_fault(alloc, &stored);
                 self.count_fault();
                 Err(KeepError::Failed)
             }

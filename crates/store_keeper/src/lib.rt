@@ -5,9 +5,11 @@
 mod edits;
 mod keeper;
 mod keys;
+mod load_fault;
 mod reading;
 mod rows;
 mod stored_row;
 mod tables;
 
 pub use keeper::StoreKeeper;
+pub use load_fault::LoadFault;

@@ -26,6 +26,11 @@ fn has_known_version(metas: Metas) -> bool
     metas.version.unwrap_or(VERSION) == VERSION
 }
 
+/// The version of the form of the rows, if it is not the one that is read here.
+pub fn version_of(metas: Metas) -> Option<u64> {
+    metas.version.filter(|version| *version != VERSION)
+}
+
 /// Sets the numbers beside the rows.
 fn set_numbers(alloc: Global, metas: Metas, tables: &mut Tables) -> Result<(), NoMemory>
     ensures { OnOk result (tables.new.state ≡ numbered metas tables.old.state) }
@@ -81,7 +86,7 @@ fn has_all(tables: &Tables, stored: &Stored) -> bool
 }
 
 /// Puts all rows and numbers of the store into tables without rows; whether each entry is a row, with a key of its own.
-fn fill(alloc: Global, stored: &Stored, tables: &mut Tables) -> Result<bool, NoMemory>
+pub fn fill(alloc: Global, stored: &Stored, tables: &mut Tables) -> Result<bool, NoMemory>
     requires { tables.old.state ≡ empty_state }
     ensures state { OnOk result (tables.new.state ≡ numbered stored.now.metas (filled stored.now empty_state)) }
     ensures rows { IfOk result (λ found. found ≡ (are_rows stored.now && has_all tables.new.state stored.now)) }

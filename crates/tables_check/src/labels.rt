@@ -43,7 +43,11 @@ fn is_above(before: Option<u64>, label: u64) -> bool
 }
 
 /// Sets the label of the sample's pool and metric, and answers whether it is above the one before it.
-fn put_label(alloc: Global, labels: &mut KeyNumbers, sample: &SampleRow) -> Result<bool, NoMemory>
+pub fn put_label(
+    alloc: Global,
+    labels: &mut KeyNumbers,
+    sample: &SampleRow,
+) -> Result<bool, NoMemory>
     ensures above { IfOk result (λ above. above ≡ is_above (number_at labels.old (metric_text sample.now.pool sample.now.metric)) sample.now.label) }
     ensures labels { OnOk result ((text : Items ℕ) → number_at labels.new text ≡ (if bytes_eq (metric_text sample.now.pool sample.now.metric) text then Some sample.now.label else number_at labels.old text)) }
 {
@@ -67,7 +71,7 @@ pub fn are_labels_rising(alloc: Global, tables: &Tables) -> Result<bool, NoMemor
 }
 
 /// The last label of each pool and metric.
-fn last_labels(alloc: Global, tables: &Tables) -> Result<KeyNumbers, NoMemory>
+pub fn last_labels(alloc: Global, tables: &Tables) -> Result<KeyNumbers, NoMemory>
     ensures { IfOk result (λ labels. (text : Items ℕ) → number_at labels text ≡ latest text tables.now.state.samples) }
 {
     let mut labels = KeyNumbers::new(alloc);
@@ -78,7 +82,7 @@ fn last_labels(alloc: Global, tables: &Tables) -> Result<KeyNumbers, NoMemory>
 }
 
 /// Whether the sample is of the processors' metric, or not above the last label of its pool's active tasks.
-fn is_covered(labels: &KeyNumbers, sample: &SampleRow) -> bool
+pub fn is_covered(labels: &KeyNumbers, sample: &SampleRow) -> bool
     ensures { result ≡ (same_metric sample.now.metric Cpu || option_map_or (nat_le sample.now.label) (number_at labels.now (metric_text sample.now.pool Active)) false) }
 {
     if matches!(sample.metric, Metric::CpuPercent) {
@@ -108,7 +112,7 @@ pub fn are_samples_covered(alloc: Global, tables: &Tables) -> Result<bool, NoMem
 }
 
 /// Whether no more samples of the sample's pool and metric are kept than the limit.
-fn is_few(counts: &KeyNumbers, sample: &SampleRow) -> bool
+pub fn is_few(counts: &KeyNumbers, sample: &SampleRow) -> bool
     ensures { result ≡ nat_le (count_at counts.now (metric_text sample.now.pool sample.now.metric)) sample_limit }
 {
     let text = metric_text(&sample.pool, sample.metric);

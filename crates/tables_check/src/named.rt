@@ -16,7 +16,7 @@ use row_keys::are_distinct;
 use std::alloc::Global;
 
 /// Whether the job has a row.
-fn has_job_row(tables: &Tables, job: &Id) -> bool
+pub fn has_job_row(tables: &Tables, job: &Id) -> bool
     ensures { result ≡ has_job_row tables.now.state job.now }
 {
     match tables.find_job(job) {
@@ -26,7 +26,7 @@ fn has_job_row(tables: &Tables, job: &Id) -> bool
 }
 
 /// Whether the job that the run names has a row, if it names one.
-fn has_named_job(tables: &Tables, run: &RunRow) -> bool
+pub fn has_named_job(tables: &Tables, run: &RunRow) -> bool
     ensures { result ≡ has_named_job tables.now.state run.now }
 {
     match &run.job {
@@ -47,7 +47,7 @@ fn has_attempt(tables: &Tables, job: &Id, id: &Id, attempt: u64) -> bool
 }
 
 /// Whether the task that the run names has a row, among whose attempts the run's is, if it names one.
-fn has_named_task(tables: &Tables, run: &RunRow) -> bool
+pub fn has_named_task(tables: &Tables, run: &RunRow) -> bool
     ensures { result ≡ has_named_task tables.now.state run.now }
 {
     let Some(id) = &run.task else {

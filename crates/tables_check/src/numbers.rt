@@ -15,7 +15,7 @@ const LAST_NEXT_NODE: u64 = NUMBER_LIMIT + 1;
 const LAST_NEXT_RUN: u64 = NUMBER_LIMIT + 64;
 
 /// Whether there are at most 64 pools, 10,000 jobs and 1,000,000 tasks.
-fn are_few(tables: &Tables) -> bool
+pub fn are_few(tables: &Tables) -> bool
     ensures { result ≡ (nat_le (length tables.now.state.pools) pool_limit && (nat_le (length tables.now.state.jobs) job_limit && nat_le (length tables.now.state.tasks) task_limit)) }
 {
     let pools = tables.pool_count() as u64 <= POOL_LIMIT;

@@ -14,7 +14,7 @@ use bt_rows::tables::Tables;
 use std::alloc::Global;
 
 /// Whether the pool has a row.
-fn has_pool_row(tables: &Tables, pool: &Id) -> bool
+pub fn has_pool_row(tables: &Tables, pool: &Id) -> bool
     ensures { result ≡ has_pool_row tables.now.state pool.now }
 {
     match tables.find_pool(pool) {
@@ -41,7 +41,7 @@ fn is_resizing(alloc: Alloc) -> bool
 }
 
 /// Whether the pool resizes to nothing and does not scale, if it is being deleted.
-fn is_deleting_whole(tables: &Tables, pool: &PoolRow) -> bool
+pub fn is_deleting_whole(tables: &Tables, pool: &PoolRow) -> bool
     ensures { result ≡ is_deleting_whole tables.now.state pool.now }
 {
     !pool.deleting

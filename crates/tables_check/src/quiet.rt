@@ -26,7 +26,7 @@ fn is_quiet(state: JobState) -> bool
 }
 
 /// Whether the job has no placed task, if it is disabled, enabling or completed.
-fn has_no_placed(placed: &KeyNumbers, job: &JobRow) -> bool
+pub fn has_no_placed(placed: &KeyNumbers, job: &JobRow) -> bool
     ensures { result ≡ not (is_quiet job.now.state && nat_lt 0 (count_at placed.now (id_text job.now.id))) }
 {
     let text = KeyText::of_id(&job.id);

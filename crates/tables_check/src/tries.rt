@@ -27,7 +27,7 @@ fn is_sum_below(a: u64, b: u64, limit: u64) -> bool
 }
 
 /// Whether the node's failures and unended start runs are together fewer than the runs that were made.
-fn has_few_starts(starts: &KeyNumbers, node: &NodeRow, next_run: u64) -> bool
+pub fn has_few_starts(starts: &KeyNumbers, node: &NodeRow, next_run: u64) -> bool
     ensures { result ≡ nat_lt (node.now.tries + count_at starts.now (number_text node.now.number)) next_run }
 {
     let text = KeyText::of_number(node.number);
@@ -54,7 +54,7 @@ fn have_nodes_few_tries(alloc: Global, tables: &Tables) -> Result<bool, NoMemory
 }
 
 /// Whether the preparation's failures and unended runs are together fewer than the runs that were made.
-fn has_few_runs(runs: &KeyNumbers, prep: &PrepRow, next_run: u64) -> bool
+pub fn has_few_runs(runs: &KeyNumbers, prep: &PrepRow, next_run: u64) -> bool
     ensures { result ≡ nat_lt (prep.now.tries + count_at runs.now (number_id_text prep.now.node prep.now.job)) next_run }
 {
     let text = KeyText::of_number_and_id(prep.node, &prep.job);
