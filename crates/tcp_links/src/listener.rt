@@ -1,15 +1,23 @@
 //! Listeners over TCP.
-ghost use Rattle.std.specs.Prelude.{◌≡◌, ⊤, false, IfOk};
+ghost use Rattle.std.specs.Prelude.{◌≡◌, ◌≤◌, ◌+◌, ◌-◌, ◌^◌, ⊤, false, Err, IfOk, min};
+ghost use Rattle.bt_base.specs.Causes.{Rose};
+ghost use Rattle.tcp_links.specs.declared.listener.NoLink.TheVariants.{Failed as NoLinkFailed};
 
+use crate::cause::{AcceptCause, AcceptMonitor};
+use crate::limits::{MAX_CALL_MS, WaitLimits};
 use crate::link::TcpLink;
-use crate::turns::Turns;
+use crate::retry::Retry;
+use crate::times::LinkTimes;
+use crate::turns::{ListenFlags, Turns};
 use link_doors::{Accepted, Listener};
 use std::alloc::{AllocError, AllocFailed, Global};
-use std::io;
+use std::io::ErrorKind;
 use std::marker::Model;
-use std::net::{Ipv4Addr, Net, TcpListener as Socket, TcpStream};
+use std::net::{Ipv4Addr, Net, OpenListener, TcpListener as Socket, TcpStream};
+use std::os::fd::OwnedFd;
 use std::sync::Arc;
-use std::sync::atomic::AtomicBool;
+use std::time::{Clock, Duration};
+use std::{io, thread};
 
 /// Why there is no listener.
 #[derive(Clone, Copy, Debug, PartialEq, Eq)]
@@ -38,12 +46,41 @@ impl From<io::Error> for BindFault {
     }
 }
 
-/// A listener on a port of 127.0.0.1. It counts a fault for each connection that it could not accept. A connection is counted when
-/// the listener begins to wait for it. Contracts see the count of faults, whether a link is out, and whether the listener has ended.
+/// What a listener is to do.
+#[derive(Clone, Copy, Debug, PartialEq, Eq)]
+pub struct ListenOptions {
+    /// The port of 127.0.0.1, where 0 is any free port.
+    pub port: u16,
+    /// How many connections all listeners of the socket accept together.
+    pub connections: u64,
+    /// How long its links wait for their peers.
+    pub limits: WaitLimits,
+}
+
+/// Why a listener has no link.
+#[derive(Clone, Copy, Debug, PartialEq, Eq)]
+enum NoLink {
+    /// The listeners are to end.
+    Stopping,
+    /// No connection can be accepted any more.
+    Failed,
+}
+
+/// A listener on a port of 127.0.0.1. It counts a fault for each connection that it could not accept. If the cause may pass, it waits,
+/// from `MIN_RETRY_MS` doubling to `MAX_RETRY_MS`, and tries again, and the connection is not counted; `M` is told. A connection is
+/// counted when the listener begins to wait for it. Contracts see the count of faults, whether a link is out, and whether the listener
+/// has ended.
 #[derive(Drop)]
-pub struct TcpListener {
-    socket: Socket,
+pub struct TcpListener<
+    R: Clock + Copy + Drop,
+    M: AcceptMonitor + Copy + Drop,
+    S: OpenListener<Stream = TcpStream> + Drop = Socket,
+> {
+    rt: R,
+    monitor: M,
+    socket: S,
     turns: Arc<Turns>,
+    limits: WaitLimits,
     faults: u64,
     is_out: bool,
     has_ended: bool,
@@ -51,7 +88,11 @@ pub struct TcpListener {
     is_over: bool,
 }
 
-impl Model for TcpListener {
+impl<
+    R: Clock + Copy + Drop,
+    M: AcceptMonitor + Copy + Drop,
+    S: OpenListener<Stream = TcpStream> + Drop,
+> Model for TcpListener<R, M, S> {
     ghost use Rattle.tcp_links.specs.Doors.{TcpDoor};
 
     ghost Value = { TcpDoor };
@@ -59,13 +100,55 @@ impl Model for TcpListener {
     ghost view = { λ l. record { faults = l.faults; is_out = l.is_out; has_ended = l.has_ended } };
 }
 
-impl TcpListener {
-    fn of(socket: Socket, turns: Arc<Turns>) -> TcpListener
+/// Bounds the waits of `accept` on this socket, and on each clone of it.
+fn bound_waits(socket: &Socket) -> io::Result<()> {
+    // a listening socket has the same option as a stream, which std sets on streams alone
+    let same_socket = TcpStream::from(OwnedFd::from(socket.try_clone()?));
+    same_socket.set_read_timeout(Some(Duration::from_millis(MAX_CALL_MS)))
+}
+
+impl<
+    R: Clock + Net<Listener = Socket, Stream = TcpStream> + Copy + Drop,
+    M: AcceptMonitor + Copy + Drop,
+> TcpListener<R, M> {
+    /// A listener on the port that the options say. It and all that `another` makes of it accept the given number of connections
+    /// together, and then end; they also end once `stopping` is raised, within about `MAX_CALL_MS` if they wait for a connection.
+    /// `all_ended` is raised once each of them has ended or failed. `monitor` is told when no connection can be accepted.
+    pub fn bind(
+        rt: R,
+        alloc: Global,
+        options: ListenOptions,
+        flags: ListenFlags,
+        monitor: M,
+    ) -> Result<TcpListener<R, M>, BindFault>
+        ensures { IfOk result (λ l. l ≡ record { faults = 0; is_out = false; has_ended = false }) }
+    {
+        let socket = Socket::bind(&rt, (Ipv4Addr::new(127, 0, 0, 1), options.port))?;
+        bound_waits(&socket)?;
+        TcpListener::over(rt, alloc, socket, options, flags, monitor)
+    }
+}
+
+impl<
+    R: Clock + Copy + Drop,
+    M: AcceptMonitor + Copy + Drop,
+    S: OpenListener<Stream = TcpStream> + Drop,
+> TcpListener<R, M, S> {
+    fn of(
+        rt: R,
+        monitor: M,
+        socket: S,
+        turns: Arc<Turns>,
+        limits: WaitLimits,
+    ) -> TcpListener<R, M, S>
         ensures { result ≡ record { faults = 0; is_out = false; has_ended = false } }
     {
         TcpListener {
+            rt,
+            monitor,
             socket,
             turns,
+            limits,
             faults: 0,
             is_out: false,
             has_ended: false,
@@ -73,30 +156,31 @@ impl TcpListener {
         }
     }
 
-    /// A listener on this port, where 0 is any free port. It and all that `another` makes of it accept so many connections
-    /// together, and then end; `all_ended` is raised once each of them has ended or failed.
-    pub fn bind<R: Net<Listener = Socket, Stream = TcpStream>>(
-        rt: &R,
+    /// A listener over a socket that listens already, as `bind` makes it; the port of the options is not used. An `accept` of the
+    /// socket that finds no connection is to return `WouldBlock` after a while: only then the listener sees that it is to end. The
+    /// only error is out of memory.
+    pub fn over(
+        rt: R,
         alloc: Global,
-        port: u16,
-        connections: u64,
-        all_ended: &Arc<AtomicBool>,
-    ) -> Result<TcpListener, BindFault>
+        socket: S,
+        options: ListenOptions,
+        flags: ListenFlags,
+        monitor: M,
+    ) -> Result<TcpListener<R, M, S>, BindFault>
         ensures { IfOk result (λ l. l ≡ record { faults = 0; is_out = false; has_ended = false }) }
     {
-        let socket = Socket::bind(rt, (Ipv4Addr::new(127, 0, 0, 1), port))?;
-        let turns = Turns::new(connections, Arc::try_clone(all_ended)?);
-        Ok(TcpListener::of(socket, Arc::new(alloc, turns)?))
+        let turns = Arc::new(alloc, Turns::new(options.connections, flags))?;
+        Ok(TcpListener::of(rt, monitor, socket, turns, options.limits))
     }
 
     /// Another listener on the same socket. It is to be made before any of them is asked for a link.
-    pub fn another(&self) -> Result<TcpListener, BindFault>
+    pub fn another(&self) -> Result<TcpListener<R, M, S>, BindFault>
         ensures { IfOk result (λ l. l ≡ record { faults = 0; is_out = false; has_ended = false }) }
     {
         let socket = self.socket.try_clone()?;
         let turns = Arc::try_clone(&self.turns)?;
         turns.add_listener();
-        Ok(TcpListener::of(socket, turns))
+        Ok(TcpListener::of(self.rt, self.monitor, socket, turns, self.limits))
     }
 
     /// The port; None if the system does not tell it. It does not allocate.
@@ -104,10 +188,71 @@ impl TcpListener {
         Some(self.socket.local_addr().ok()?.port())
     }
 
-    /// Waits for the next connection.
-    fn next_link(&self) -> io::Result<TcpLink> {
-        let (stream, _) = self.socket.accept()?;
-        TcpLink::new(stream)
+    /// A link over this connection.
+    fn link_of(&self, stream: TcpStream) -> Result<TcpLink<R>, AcceptCause> {
+        let Ok(stopping) = self.turns.stopping() else {
+            return Err(AcceptCause::SystemMemory);
+        };
+        LinkTimes::new(self.rt, self.limits, stopping)
+            .and_then(|times| TcpLink::new(stream, times))
+            .map_err(|_| AcceptCause::Connection)
+    }
+
+    /// Waits for a connection; None if there is none in a while.
+    fn try_accept(&self) -> Result<Option<TcpLink<R>>, AcceptCause> {
+        match self.socket.accept() {
+            Ok((stream, _)) => Ok(Some(self.link_of(stream)?)),
+            Err(error) if error.kind() == ErrorKind::WouldBlock => Ok(None),
+            Err(error) => Err(AcceptCause::of(error)),
+        }
+    }
+
+    /// Tells of this failure, unless the listeners of the socket have told of one already.
+    fn tell_failure(&self, cause: AcceptCause) {
+        if self.turns.told().tells_failure(&self.rt) {
+            self.monitor.accept_waits(cause);
+        }
+    }
+
+    /// Tells that connections can be accepted, if it was told that they cannot.
+    fn tell_end(&self) {
+        if self.turns.told().tells_end() {
+            self.monitor.accept_goes_on();
+        }
+    }
+
+    /// Waits for the next connection, and tries again after failures that may pass. It counts each failure.
+    fn next_link(&mut self) -> Result<TcpLink<R>, NoLink>
+        ensures later { self.old.faults ≤ self.new.faults }
+        ensures failed { result ≡ Err NoLinkFailed → Rose self.old.faults self.new.faults }
+        ensures same_out { self.new.is_out ≡ self.old.is_out }
+        ensures same_end { self.new.has_ended ≡ self.old.has_ended }
+    {
+        let mut retry = Retry::new();
+        for _ in 0..u64::MAX {
+            if self.turns.are_stopping() {
+                return Err(NoLink::Stopping);
+            }
+            match self.try_accept() {
+                Ok(found) => {
+                    self.tell_end();
+                    if let Some(link) = found {
+                        return Ok(link);
+                    }
+                    retry = Retry::new();
+                }
+                Err(cause) => {
+                    self.faults = self.faults.saturating_add(1);
+                    let Some(wait) = retry.next_wait(cause) else {
+                        return Err(NoLink::Failed);
+                    };
+                    self.tell_failure(cause);
+                    thread::sleep(&self.rt, wait);
+                }
+            }
+        }
+        self.faults = self.faults.saturating_add(1);
+        Err(NoLink::Failed)
     }
 
     /// Counts the listener as over, once.
@@ -121,8 +266,12 @@ impl TcpListener {
     }
 }
 
-impl Listener for TcpListener {
-    type Link = TcpLink;
+impl<
+    R: Clock + Copy + Drop,
+    M: AcceptMonitor + Copy + Drop,
+    S: OpenListener<Stream = TcpStream> + Drop,
+> Listener for TcpListener<R, M, S> {
+    type Link = TcpLink<R>;
 
     ghost faults = { λ l. l.faults };
 
@@ -134,10 +283,11 @@ impl Listener for TcpListener {
 
     ghost taken_back = { λ _ _ _. ⊤ };
 
-    /// Waits for a connection, for as long as it takes. Returns `Ended` once the listeners of the socket have begun to wait for as
-    /// many connections as were given, and `Failed` if the connection could not be accepted.
-    fn accept(&mut self) -> Accepted<TcpLink> {
-        if !self.turns.take() {
+    /// Waits for a connection, for as long as it takes. Returns `Ended` once `stopping` is raised, or once the listeners of the socket
+    /// have begun to wait for as many connections as were given, and `Failed` if no connection can be accepted any more. The count of
+    /// faults may rise in each case.
+    fn accept(&mut self) -> Accepted<TcpLink<R>> {
+        if self.turns.are_stopping() || !self.turns.take() {
             self.has_ended = true;
             self.end();
             return Accepted::Ended;
@@ -147,8 +297,12 @@ impl Listener for TcpListener {
                 self.is_out = true;
                 Accepted::Link(link)
             }
-            Err(_) => {
-                self.faults = self.faults.saturating_add(1);
+            Err(NoLink::Stopping) => {
+                self.has_ended = true;
+                self.end();
+                Accepted::Ended
+            }
+            Err(NoLink::Failed) => {
                 self.end();
                 Accepted::Failed
             }
@@ -156,7 +310,7 @@ impl Listener for TcpListener {
     }
 
     /// Ends the connection.
-    fn done(&mut self, link: TcpLink) {
+    fn done(&mut self, link: TcpLink<R>) {
         link.close();
         self.is_out = false;
     }
