@@ -10,7 +10,7 @@ use bt_clock::Clock;
 use bt_rows::event::{Event, EventKind};
 use bt_rows::reply::Reply;
 use bt_rows::run::Ending;
-use shared_desk::{Pass, SharedDesk};
+use shared_desk::{CallMonitor, Pass, SharedDesk};
 use std::alloc::Global;
 use std::sync::Wait;
 use std::thread::Parker;
@@ -52,10 +52,10 @@ fn tell_outcome(answer: &Answer) -> Option<Result<(), Cut>>
 }
 
 /// Takes the run with this number. Returns whether it was taken; a refusal and a keeper fault leave it.
-pub fn take<K: Keeper + Drop, C: Clock, R: Wait>(
+pub fn take<K: Keeper + Drop, M: CallMonitor + Drop, C: Clock, R: Wait>(
     rt: &R,
     alloc: Global,
-    desk: &SharedDesk<K>,
+    desk: &SharedDesk<K, M>,
     pass: &mut Pass,
     clock: &mut C,
     number: u64,
@@ -74,10 +74,10 @@ pub fn take<K: Keeper + Drop, C: Clock, R: Wait>(
 }
 
 /// Tells the ending of the run once. None if a keeper fault left the call undone.
-fn tell_once<K: Keeper + Drop, C: Clock, R: Wait>(
+fn tell_once<K: Keeper + Drop, M: CallMonitor + Drop, C: Clock, R: Wait>(
     rt: &R,
     alloc: Global,
-    desk: &SharedDesk<K>,
+    desk: &SharedDesk<K, M>,
     pass: &mut Pass,
     clock: &mut C,
     run: (u64, Ending),
@@ -98,10 +98,10 @@ fn tell_once<K: Keeper + Drop, C: Clock, R: Wait>(
 
 /// Tells the ending of the run, again after each keeper fault: at first after `FIRST_RETRY_MS`, then after twice the time before, and at
 /// last each `LAST_RETRY_MS`. The clock is not asked for that.
-pub fn tell<K: Keeper + Drop, C: Clock, R: Wait>(
+pub fn tell<K: Keeper + Drop, M: CallMonitor + Drop, C: Clock, R: Wait>(
     rt: &R,
     alloc: Global,
-    desk: &SharedDesk<K>,
+    desk: &SharedDesk<K, M>,
     pass: &mut Pass,
     clock: &mut C,
     run: (u64, Ending),

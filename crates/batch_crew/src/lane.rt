@@ -9,7 +9,7 @@ use crate::turning::{Turned, turn};
 use batch_keeper::Keeper;
 use bt_clock::Clock;
 use child_runs::Spawner;
-use shared_desk::{Pass, SharedDesk};
+use shared_desk::{CallMonitor, Pass, SharedDesk};
 use std::alloc::Global;
 use std::sync::Wait;
 
@@ -20,10 +20,10 @@ use std::sync::Wait;
 ///
 /// It ends with `Ended` only if a pause of the clock said that the service is to end, after a turn in which nothing was run; with `JournalFull`
 /// only if what the pass has then seen has as many calls as the journal takes; and with `Memory` if memory ran out. Returns the pass.
-pub fn run_lane<K: Keeper + Drop, S: Spawner, C: Clock, R: Wait>(
+pub fn run_lane<K: Keeper + Drop, M: CallMonitor + Drop, S: Spawner, C: Clock, R: Wait>(
     rt: &R,
     alloc: Global,
-    desk: &SharedDesk<K>,
+    desk: &SharedDesk<K, M>,
     pass: Pass,
     seat: u8,
     spawner: &mut S,

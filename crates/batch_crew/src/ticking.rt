@@ -9,7 +9,7 @@ use batch_keeper::Keeper;
 use bt_base::Moment;
 use bt_clock::Clock;
 use bt_rows::event::{Event, EventKind};
-use shared_desk::{Pass, SharedDesk};
+use shared_desk::{CallMonitor, Pass, SharedDesk};
 use std::alloc::Global;
 use std::sync::Wait;
 
@@ -40,10 +40,10 @@ fn tick_outcome(answer: &Answer) -> Result<(), Cut>
 
 /// Makes a tick if the clock says that one is due. A keeper fault leaves a tick undone, and it is not made again before the next one is
 /// due.
-pub fn tick_if_due<K: Keeper + Drop, C: Clock, R: Wait>(
+pub fn tick_if_due<K: Keeper + Drop, M: CallMonitor + Drop, C: Clock, R: Wait>(
     rt: &R,
     alloc: Global,
-    desk: &SharedDesk<K>,
+    desk: &SharedDesk<K, M>,
     pass: &mut Pass,
     clock: &mut C,
     last: &mut Option<Moment>,

@@ -11,7 +11,7 @@ use batch_keeper::Keeper;
 use bt_base::Moment;
 use bt_clock::Clock;
 use child_runs::Stopper;
-use shared_desk::{Pass, SharedDesk};
+use shared_desk::{CallMonitor, Pass, SharedDesk};
 use std::alloc::Global;
 use std::sync::Wait;
 
@@ -26,10 +26,10 @@ struct Progress {
 
 /// One turn: ticks if a tick is due, looks for the runs that are asked to stop, and stops the child programs of those that were not
 /// stopped before.
-fn timer_turn<K: Keeper + Drop, P: Stopper, C: Clock, R: Wait>(
+fn timer_turn<K: Keeper + Drop, M: CallMonitor + Drop, P: Stopper, C: Clock, R: Wait>(
     rt: &R,
     alloc: Global,
-    desk: &SharedDesk<K>,
+    desk: &SharedDesk<K, M>,
     pass: &mut Pass,
     stopper: &mut P,
     clock: &mut C,
@@ -56,10 +56,10 @@ fn timer_turn<K: Keeper + Drop, P: Stopper, C: Clock, R: Wait>(
 /// after what the pass has then seen, were stopped, but at most as many as the stopper's count of faults rose by. It ends with
 /// `JournalFull` only if what the pass has then seen has as many calls as the journal takes, and with `Memory` if memory ran out. Returns
 /// the pass.
-pub fn run_timer<K: Keeper + Drop, P: Stopper, C: Clock, R: Wait>(
+pub fn run_timer<K: Keeper + Drop, M: CallMonitor + Drop, P: Stopper, C: Clock, R: Wait>(
     rt: &R,
     alloc: Global,
-    desk: &SharedDesk<K>,
+    desk: &SharedDesk<K, M>,
     pass: Pass,
     stopper: &mut P,
     clock: &mut C,

@@ -8,7 +8,7 @@ use crate::cut::Cut;
 use batch_keeper::Keeper;
 use bt_clock::Clock;
 use child_runs::Spawner;
-use shared_desk::{Pass, SharedDesk};
+use shared_desk::{CallMonitor, Pass, SharedDesk};
 use std::alloc::Global;
 use std::sync::Wait;
 
@@ -22,10 +22,10 @@ pub enum Turned {
 }
 
 /// One turn: looks for the lowest queued run at the seat, takes it, runs its child program, and tells how that ended.
-pub fn turn<K: Keeper + Drop, S: Spawner, C: Clock, R: Wait>(
+pub fn turn<K: Keeper + Drop, M: CallMonitor + Drop, S: Spawner, C: Clock, R: Wait>(
     rt: &R,
     alloc: Global,
-    desk: &SharedDesk<K>,
+    desk: &SharedDesk<K, M>,
     pass: &mut Pass,
     seat: u8,
     spawner: &mut S,
@@ -37,18 +37,19 @@ pub fn turn<K: Keeper + Drop, S: Spawner, C: Clock, R: Wait>(
     ensures turned { IsTurned desk.now.origin seat (RanFor S.ran S.faults) C.gives
         (record { pass = pass.old; clock = clock.old }) spawner.old (record { pass = pass.new; clock = clock.new }) spawner.new result }
 {
-    let Some(run) = desk.queued_at(rt, alloc, pass, seat)? else {
+    let Some(found) = desk.queued_at(rt, alloc, pass, seat)? else {
         return Ok(Turned::Rested);
     };
-    if !take(rt, alloc, desk, pass, clock, run.number)? {
+    let number = found.number();
+    if !take(rt, alloc, desk, pass, clock, number)? {
         return Ok(Turned::Rested);
     }
     let Some(ending) = spawner
-        .run(alloc, run.number, run.words.as_slice())
+        .run(alloc, found.identity(), number, found.words())
         .ending()
     else {
         return Err(Cut::Memory);
     };
-    tell(rt, alloc, desk, pass, clock, (run.number, ending))?;
+    tell(rt, alloc, desk, pass, clock, (number, ending))?;
     Ok(Turned::Ran)
 }

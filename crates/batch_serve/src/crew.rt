@@ -2,6 +2,7 @@
 ghost use Rattle.std.specs.Prelude.{◌≡◌, ◌<◌, ℕ, All, length, slice_index_or};
 ghost use Rattle.batch_serve.specs.Passes.{CanWork, WorksWithPass};
 
+use crate::monitor::ServiceMonitor;
 use crate::work::Work;
 use crate::worker::Worker;
 use batch_keeper::Keeper;
@@ -12,10 +13,10 @@ use std::thread::Threads;
 use std::{mem, thread};
 
 /// The work of one worker.
-fn work<K: Keeper + Drop, W: Work, R: Wait>(
+fn work<K: Keeper + Drop, M: ServiceMonitor + Drop, W: Work, R: Wait>(
     rt: &R,
     alloc: Global,
-    desk: &SharedDesk<K>,
+    desk: &SharedDesk<K, M>,
     worker: &mut Worker<W>,
 )
     requires { CanWork W.can_work desk.now worker.old }
@@ -26,12 +27,12 @@ fn work<K: Keeper + Drop, W: Work, R: Wait>(
 }
 
 /// Runs all workers, each in a thread of its own where one can be made, and returns once all have ended.
-pub(crate) fn crew<K: Keeper + Drop + Send, W: Work + Send, R: Threads + Wait + Sync>(
-    rt: &R,
-    alloc: Global,
-    desk: &SharedDesk<K>,
-    workers: &mut [Worker<W>],
-)
+pub(crate) fn crew<
+    K: Keeper + Drop + Send,
+    M: ServiceMonitor + Drop + Sync,
+    W: Work + Send,
+    R: Threads + Wait + Sync,
+>(rt: &R, alloc: Global, desk: &SharedDesk<K, M>, workers: &mut [Worker<W>])
     requires { All (CanWork W.can_work desk.now) workers.old }
     ensures count { length workers.new ≡ length workers.old }
     ensures works { (k : ℕ) (d : _) → k < length workers.old → WorksWithPass W.worked desk.now (slice_index_or workers.old k d) (slice_index_or workers.new k d) }

@@ -3,6 +3,7 @@ ghost use Rattle.std.specs.Prelude.{◌≡◌, IsSome, false};
 ghost use Rattle.counted_lock.specs.Passes.{IsPassOf};
 ghost use Rattle.batch_serve.specs.Works.{LaneWorks, TimerWorks, DoorWorks, Works, IsReady};
 
+use crate::monitor::ServiceMonitor;
 use crate::work::Work;
 use crate::worker::{Door, Lane, Timer, WorkerKind};
 use batch_ask::Ask;
@@ -18,10 +19,10 @@ use std::alloc::Global;
 use std::sync::Wait;
 
 /// The work of a lane.
-fn work_lane<K: Keeper + Drop, S: Spawner, C: Clock, R: Wait>(
+fn work_lane<K: Keeper + Drop, M: ServiceMonitor + Drop, S: Spawner, C: Clock, R: Wait>(
     rt: &R,
     alloc: Global,
-    desk: &SharedDesk<K>,
+    desk: &SharedDesk<K, M>,
     pass: Pass,
     lane: &mut Lane<S, C>,
 ) -> Pass
@@ -40,14 +41,15 @@ fn work_lane<K: Keeper + Drop, S: Spawner, C: Clock, R: Wait>(
         &mut lane.clock,
     );
     lane.end = Some(end);
+    desk.monitor().lane_ended(lane.seat, end);
     pass
 }
 
 /// The work of a timer.
-fn work_timer<K: Keeper + Drop, P: Stopper, C: Clock, R: Wait>(
+fn work_timer<K: Keeper + Drop, M: ServiceMonitor + Drop, P: Stopper, C: Clock, R: Wait>(
     rt: &R,
     alloc: Global,
-    desk: &SharedDesk<K>,
+    desk: &SharedDesk<K, M>,
     pass: Pass,
     timer: &mut Timer<P, C>,
 ) -> Pass
@@ -58,6 +60,7 @@ fn work_timer<K: Keeper + Drop, P: Stopper, C: Clock, R: Wait>(
 {
     let (pass, end) = run_timer(rt, alloc, desk, pass, &mut timer.stopper, &mut timer.clock);
     timer.end = Some(end);
+    desk.monitor().timer_ended(end);
     pass
 }
 
@@ -82,10 +85,10 @@ fn make_service<A: Ask, C: Clock, R: Wait>(
 }
 
 /// The work of a door.
-fn work_door<K: Keeper + Drop, N: Listener, C: Clock + Drop, R: Wait>(
+fn work_door<K: Keeper + Drop, M: ServiceMonitor + Drop, N: Listener, C: Clock + Drop, R: Wait>(
     rt: &R,
     alloc: Global,
-    desk: &SharedDesk<K>,
+    desk: &SharedDesk<K, M>,
     pass: Pass,
     door: &mut Door<N, C>,
 ) -> Pass
@@ -104,6 +107,7 @@ fn work_door<K: Keeper + Drop, N: Listener, C: Clock + Drop, R: Wait>(
     let (asker, clock) = service.into_parts();
     door.clock = Some(clock);
     door.end = Some(end);
+    desk.monitor().door_ended(end);
     asker.into_pass()
 }
 
@@ -113,11 +117,11 @@ impl<S: Spawner, P: Stopper, N: Listener, C: Clock + Drop> Work for WorkerKind<S
     ghost worked = { λ desk p old q new. Works desk
         (record { spawner = S.Spawner; stopper = P.Stopper; listener = N.Listener; link = N.Link.Link; clock = C.Clock }) p old q new };
 
-    fn work<K: Keeper + Drop, R: Wait>(
+    fn work<K: Keeper + Drop, M: ServiceMonitor + Drop, R: Wait>(
         &mut self,
         rt: &R,
         alloc: Global,
-        desk: &SharedDesk<K>,
+        desk: &SharedDesk<K, M>,
         pass: Pass,
     ) -> Pass {
         match self {

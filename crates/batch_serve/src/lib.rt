@@ -6,12 +6,14 @@
 mod crew;
 mod kinds;
 mod message;
+mod monitor;
 mod passes;
 mod serving;
 mod status;
 mod work;
 mod worker;
 
+pub use monitor::ServiceMonitor;
 pub use serving::{Served, serve_words};
 pub use status::ServeStatus;
 pub use work::Work;

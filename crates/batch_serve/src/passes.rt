@@ -12,13 +12,17 @@ ghost use Rattle.batch_serve.specs.Passes.{AtEach, IsGiven, IsSameKind};
 use crate::worker::Worker;
 use batch_desk::Journal;
 use batch_keeper::Keeper;
-use shared_desk::{NotClosed, Pass, SharedDesk};
+use shared_desk::{CallMonitor, NotClosed, Pass, SharedDesk};
 use std::mem;
 use std::sync::Wait;
 
 /// A new pass that is split from the given one. It is tried again until it is there: the only error comes once 2^64 - 1 passes were
 /// made.
-fn new_pass<K: Keeper + Drop, R: Wait>(rt: &R, desk: &SharedDesk<K>, pass: &mut Pass) -> Pass
+fn new_pass<K: Keeper + Drop, M: CallMonitor + Drop, R: Wait>(
+    rt: &R,
+    desk: &SharedDesk<K, M>,
+    pass: &mut Pass,
+) -> Pass
     requires pass { IsPassOf desk.now pass.old }
     ensures same { pass.new ≡ pass.old }
     ensures pass { IsPassOf desk.now result }
@@ -33,9 +37,9 @@ fn new_pass<K: Keeper + Drop, R: Wait>(rt: &R, desk: &SharedDesk<K>, pass: &mut 
 }
 
 /// Gives the worker the next pass, and replaces it by a new one with a greater number. Both have made no calls.
-fn give_pass<K: Keeper + Drop, W, R: Wait>(
+fn give_pass<K: Keeper + Drop, M: CallMonitor + Drop, W, R: Wait>(
     rt: &R,
-    desk: &SharedDesk<K>,
+    desk: &SharedDesk<K, M>,
     next: &mut Pass,
     worker: &mut Worker<W>,
 )
@@ -53,9 +57,9 @@ fn give_pass<K: Keeper + Drop, W, R: Wait>(
 
 /// Gives each worker a pass, the first one the next pass. No two of them have the same number. The next pass is then another one, which has
 /// made no calls.
-pub(crate) fn give_passes<K: Keeper + Drop, W, R: Wait>(
+pub(crate) fn give_passes<K: Keeper + Drop, M: CallMonitor + Drop, W, R: Wait>(
     rt: &R,
-    desk: &SharedDesk<K>,
+    desk: &SharedDesk<K, M>,
     next: &mut Pass,
     workers: &mut [Worker<W>],
 )
@@ -91,9 +95,9 @@ pub(crate) fn take_passes<W>(workers: &mut [Worker<W>], passes: &mut Vec<Pass>)
 }
 
 /// Closes the desk with these passes. It is tried again until it is closed: the only error comes if not all passes are here.
-pub(crate) fn close<K: Keeper + Drop, R: Wait>(
+pub(crate) fn close<K: Keeper + Drop, M: CallMonitor + Drop, R: Wait>(
     rt: &R,
-    desk: SharedDesk<K>,
+    desk: SharedDesk<K, M>,
     passes: Vec<Pass>,
 ) -> (K, Journal)
     requires passes { All (IsPassOf desk) passes.items }

@@ -14,6 +14,7 @@ ghost use Rattle.batch_serve.specs.Serving.{open_status, serve_options, IsOpened
 ghost use Rattle.batch_serve.specs.declared.status.ServeStatus.TheVariants.{Memory as MemoryStatus, Usage as UsageStatus, SinkFault as SinkStatus, KeeperFault as KeeperStatus};
 
 use crate::crew::crew;
+use crate::monitor::ServiceMonitor;
 use crate::passes::{close, give_passes, take_passes};
 use crate::status::{ServeStatus, status_of};
 use crate::work::Work;
@@ -83,10 +84,15 @@ fn open_status(error: KeepError) -> ServeStatus
 }
 
 /// Has the workers work over the shared desk, and closes it. There is room for the passes of all workers and the first one.
-fn run_crew<K: Keeper + Drop + Send, W: Work + Send, R: Threads + Wait + Sync>(
+fn run_crew<
+    K: Keeper + Drop + Send,
+    M: ServiceMonitor + Drop + Sync,
+    W: Work + Send,
+    R: Threads + Wait + Sync,
+>(
     rt: &R,
     alloc: Global,
-    desk: SharedDesk<K>,
+    desk: SharedDesk<K, M>,
     first: Pass,
     room: Vec<Pass>,
     workers: &mut [Worker<W>],
@@ -112,6 +118,7 @@ fn run_crew<K: Keeper + Drop + Send, W: Work + Send, R: Threads + Wait + Sync>(
 /// Says that the service listens, and has the workers work.
 fn listen<
     K: Keeper + Drop + Send,
+    M: ServiceMonitor + Drop + Sync,
     S: Spawner + Send,
     P: Stopper + Send,
     N: Listener + Send,
@@ -123,6 +130,7 @@ fn listen<
     alloc: Global,
     sink: &mut W,
     desk: Desk<K>,
+    monitor: M,
     workers: &mut [Worker<WorkerKind<S, P, N, C>>],
 ) -> Served<K>
 where
@@ -151,7 +159,7 @@ where
         Ok(()) => {}
         Err(Failed) => return unshared(ServeStatus::SinkFault, desk),
     }
-    match SharedDesk::open(alloc, desk) {
+    match SharedDesk::open(alloc, desk, monitor) {
         Ok((desk, first)) => {
             let (keeper, journal) = run_crew(rt, alloc, desk, first, room, workers);
             Served {
@@ -167,6 +175,7 @@ where
 /// Opens the desk, and serves.
 fn serve<
     K: Keeper + Drop + Send,
+    M: ServiceMonitor + Drop + Sync,
     S: Spawner + Send,
     P: Stopper + Send,
     N: Listener + Send,
@@ -179,6 +188,7 @@ fn serve<
     options: ServeOptions,
     sink: &mut W,
     keeper: K,
+    monitor: M,
     workers: &mut [Worker<WorkerKind<S, P, N, C>>],
 ) -> Served<K>
 where
@@ -196,7 +206,7 @@ where
     ensures keeper_fault { result.status ≡ KeeperStatus → Rose (K.faults keeper) (K.faults result.keeper) }
 {
     match Desk::open(alloc, keeper, options.seats, options.journal) {
-        Ok(desk) => listen(rt, alloc, sink, desk, workers),
+        Ok(desk) => listen(rt, alloc, sink, desk, monitor, workers),
         Err((keeper, error)) => unopened(open_status(error), keeper),
     }
 }
@@ -218,7 +228,7 @@ fn options_of(invocation: &Option<Invocation>) -> Option<ServeOptions>
 
 /// Does the command `serve` that the words are: opens a desk over the keeper, writes the line `listening` to the sink, and has the workers
 /// work, each in a thread of its own where one can be made, until all of them have ended. Then it closes the desk, and returns its
-/// keeper and its journal.
+/// keeper and its journal. The monitor hears of each call, in the order of the journal, and how each worker ended.
 ///
 /// `Usage` comes exactly if the words are not a command `serve`, unless memory runs out before that is known; `KeeperFault` only if the
 /// keeper's count of faults rose at the opening, and `SinkFault` only if that of the sink rose. The status is otherwise what the ends of
@@ -226,6 +236,7 @@ fn options_of(invocation: &Option<Invocation>) -> Option<ServeOptions>
 /// if a worker found the journal full, else `Done`.
 pub fn serve_words<
     K: Keeper + Drop + Send,
+    M: ServiceMonitor + Drop + Sync,
     S: Spawner + Send,
     P: Stopper + Send,
     N: Listener + Send,
@@ -238,6 +249,7 @@ pub fn serve_words<
     words: &[Word],
     sink: &mut W,
     keeper: K,
+    monitor: M,
     workers: &mut [Worker<WorkerKind<S, P, N, C>>],
 ) -> Served<K>
 where
@@ -261,7 +273,7 @@ where
         Err(NoMemory) => return unopened(ServeStatus::Memory, keeper),
     };
     match options_of(&invocation) {
-        Some(options) => serve(rt, alloc, options, sink, keeper, workers),
+        Some(options) => serve(rt, alloc, options, sink, keeper, monitor, workers),
         None => unopened(ServeStatus::Usage, keeper),
     }
 }

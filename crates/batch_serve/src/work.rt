@@ -4,6 +4,7 @@ ghost use Rattle.counted_lock.specs.Passes.{IsPassOf, LockIdentity};
 ghost use Rattle.shared_desk.specs.Openings.{Opening};
 ghost use Rattle.shared_desk.specs.Sharing.{Caller};
 
+use crate::monitor::ServiceMonitor;
 use batch_keeper::Keeper;
 use shared_desk::{Pass, SharedDesk};
 use std::alloc::Global;
@@ -17,12 +18,12 @@ pub trait Work {
     /// A relation between the desk, the pass and the worker before its work, and both after it.
     ghost worked: { LockIdentity Opening → Caller → Self → Caller → Self → Type 0 };
 
-    /// Works until it has ended, and returns the pass.
-    fn work<K: Keeper + Drop, R: Wait>(
+    /// Works until it has ended, tells the monitor of the desk how, and returns the pass.
+    fn work<K: Keeper + Drop, M: ServiceMonitor + Drop, R: Wait>(
         &mut self,
         rt: &R,
         alloc: Global,
-        desk: &SharedDesk<K>,
+        desk: &SharedDesk<K, M>,
         pass: Pass,
     ) -> Pass
         requires pass { IsPassOf desk.now pass }

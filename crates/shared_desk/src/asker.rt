@@ -3,6 +3,7 @@ ghost use Rattle.std.specs.Prelude.{◌≡◌};
 ghost use Rattle.counted_lock.specs.Passes.{IsPassOf};
 ghost use Rattle.shared_desk.specs.Askers.{EntersItsCalls};
 
+use crate::monitor::CallMonitor;
 use crate::shared::{Pass, SharedDesk};
 use batch_ask::Ask;
 use batch_desk::Answer;
@@ -17,13 +18,13 @@ use table_reads::Read;
 
 /// A pass of a shared desk as an asker: its calls and reads are those of the pass, each in a turn that it waits for.
 #[derive(Drop)]
-pub struct Asker<'a, R: Wait, K: Keeper + Drop> {
+pub struct Asker<'a, R: Wait, K: Keeper + Drop, M: CallMonitor + Drop> {
     rt: &'a R,
-    desk: &'a SharedDesk<K>,
+    desk: &'a SharedDesk<K, M>,
     pass: Pass,
 }
 
-impl<'a, R: Wait, K: Keeper + Drop> Model for Asker<'a, R, K> {
+impl<'a, R: Wait, K: Keeper + Drop, M: CallMonitor + Drop> Model for Asker<'a, R, K, M> {
     ghost use Rattle.counted_lock.specs.Passes.{IsPassOf};
     ghost use Rattle.shared_desk.specs.Askers.{AskerState};
 
@@ -34,9 +35,9 @@ impl<'a, R: Wait, K: Keeper + Drop> Model for Asker<'a, R, K> {
     ghost invariant = { λ a. IsPassOf a.desk.now a.pass };
 }
 
-impl<K: Keeper + Drop> SharedDesk<K> {
+impl<K: Keeper + Drop, M: CallMonitor + Drop> SharedDesk<K, M> {
     /// An asker with this pass, which this desk made. It does not allocate.
-    pub fn asker<'a, R: Wait>(&'a self, rt: &'a R, pass: Pass) -> Asker<'a, R, K>
+    pub fn asker<'a, R: Wait>(&'a self, rt: &'a R, pass: Pass) -> Asker<'a, R, K, M>
         requires pass { IsPassOf self.now pass }
         ensures desk { result.desk ≡ self.now }
         ensures pass { result.pass ≡ pass }
@@ -49,7 +50,7 @@ impl<K: Keeper + Drop> SharedDesk<K> {
     }
 }
 
-impl<'a, R: Wait, K: Keeper + Drop> Asker<'a, R, K> {
+impl<'a, R: Wait, K: Keeper + Drop, M: CallMonitor + Drop> Asker<'a, R, K, M> {
     /// Returns the pass. It does not allocate.
     pub fn into_pass(self) -> Pass
         ensures pass { result ≡ self.entry.pass }
@@ -60,7 +61,7 @@ impl<'a, R: Wait, K: Keeper + Drop> Asker<'a, R, K> {
     }
 }
 
-impl<'a, R: Wait, K: Keeper + Drop> Ask for Asker<'a, R, K> {
+impl<'a, R: Wait, K: Keeper + Drop, M: CallMonitor + Drop> Ask for Asker<'a, R, K, M> {
     ghost use Rattle.shared_desk.specs.Askers.{IsSharedExchange};
 
     ghost exchanged = { IsSharedExchange };
@@ -78,6 +79,8 @@ impl<'a, R: Wait, K: Keeper + Drop> Ask for Asker<'a, R, K> {
 
 /// The exchanges of an asker stand in the history that its pass has then seen: it begins with what the pass had seen, and the new
 /// places of the pass are those of the calls that were made, or that a keeper fault left undone, in order.
-pub fn exchanges_stand_in_the_history<R: Wait, K: Keeper + Drop>(_asker: &Asker<'_, R, K>)
+pub fn exchanges_stand_in_the_history<R: Wait, K: Keeper + Drop, M: CallMonitor + Drop>(
+    _asker: &Asker<'_, R, K, M>,
+)
     ensures { EntersItsCalls }
 {}

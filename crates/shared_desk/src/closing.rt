@@ -6,6 +6,7 @@ ghost use Rattle.batch_desk.specs.History.{IsLegal, after_all, fault_count};
 ghost use Rattle.counted_lock.specs.Passes.{IsPassOf};
 ghost use Rattle.shared_desk.specs.Sharing.{IsSharedJournal};
 
+use crate::monitor::CallMonitor;
 use crate::shared::{Pass, SharedDesk};
 use batch_desk::Journal;
 use batch_keeper::Keeper;
@@ -13,9 +14,9 @@ use counted_lock::PassesOut;
 
 /// A shared desk that was not closed, since not all passes were handed in.
 #[derive(Drop)]
-pub struct NotClosed<K: Keeper + Drop> {
+pub struct NotClosed<K: Keeper + Drop, M: CallMonitor + Drop> {
     /// The desk, as it was.
-    pub desk: SharedDesk<K>,
+    pub desk: SharedDesk<K, M>,
     /// The passes that were handed in, as they were.
     pub passes: Vec<Pass>,
     /// The number of passes that were handed in.
@@ -24,13 +25,13 @@ pub struct NotClosed<K: Keeper + Drop> {
     pub made: u64,
 }
 
-impl<K: Keeper + Drop> SharedDesk<K> {
+impl<K: Keeper + Drop, M: CallMonitor + Drop> SharedDesk<K, M> {
     /// Closes the desk if all passes that were made are handed in, and returns its keeper and its journal. The journal is the
     /// shared history without numbers. That history begins with what each pass has seen, and has no call under the number of a pass
     /// that this pass has not seen; no two of the passes have the same number, and there are no calls under any other number. It is
     /// legal and keeps the laws that stand at `Desk::call`, the keeper tells the tables after it, and counted each keeper fault in
     /// it. Otherwise the error returns desk and passes as they were. It does not allocate, and does not wait.
-    pub fn close(self, passes: Vec<Pass>) -> Result<(K, Journal), NotClosed<K>>
+    pub fn close(self, passes: Vec<Pass>) -> Result<(K, Journal), NotClosed<K, M>>
         requires passes { All (IsPassOf self) passes.items }
         ensures shared { IfOk result (λ r. IsSharedJournal r.1 passes.items) }
         ensures opened { IfOk result (λ r. r.1.opened.state ≡ self.origin.opened) }
@@ -44,7 +45,7 @@ impl<K: Keeper + Drop> SharedDesk<K> {
         ensures untouched { IfErr result (λ o. (o.desk ≡ self) × (o.passes.items ≡ passes.items)) }
         ensures counts { IfErr result (λ o. (o.given ≡ length passes.items) × (o.given < o.made)) }
     {
-        let SharedDesk { lock } = self;
+        let SharedDesk { lock, monitor } = self;
         match lock.close(passes) {
             Ok(desk) => Ok(desk.into_desk().close()),
             Err(out) => {
@@ -55,7 +56,7 @@ impl<K: Keeper + Drop> SharedDesk<K> {
                     made,
                 } = out;
                 Err(NotClosed {
-                    desk: SharedDesk { lock },
+                    desk: SharedDesk { lock, monitor },
                     passes,
                     given,
                     made,

@@ -7,11 +7,13 @@
 
 mod asker;
 mod closing;
+mod monitor;
 mod ordered;
 mod shared;
 mod turns;
 
 pub use asker::{Asker, exchanges_stand_in_the_history};
 pub use closing::NotClosed;
+pub use monitor::{CallMonitor, NoMonitor};
 pub use ordered::Origin;
 pub use shared::{Pass, SharedDesk};

@@ -9,9 +9,8 @@ use batch_desk::{Answer, Desk, Entry};
 use batch_keeper::Keeper;
 use bt_base::{List, Moment, NoMemory};
 use bt_rows::event::Event;
-use bt_rows::reply::QueuedRun;
 use bt_rows::tables::Tables;
-use child_words::with_words;
+use child_words::{StartableRun, with_words};
 use counted_lock::Journaled;
 use std::alloc::Global;
 use std::marker::Model;
@@ -34,9 +33,14 @@ impl Model for Origin {
 }
 
 /// A desk, of which contracts see that it is in order.
-#[derive(Drop)]
 pub struct OrderedDesk<K: Keeper + Drop> {
     desk: Desk<K>,
+}
+
+impl<K: Keeper + Drop> Drop for OrderedDesk<K> {
+    fn drop(self) {
+        let OrderedDesk { desk: _desk } = self;
+    }
 }
 
 impl<K: Keeper + Drop> Model for OrderedDesk<K> {
@@ -101,7 +105,7 @@ impl<K: Keeper + Drop> OrderedDesk<K> {
 
     /// The lowest queued run at the seat, with the words that its child program is started with. None if no run is queued there. The
     /// only error is out of memory.
-    pub fn queued_at(&self, alloc: Global, seat: u8) -> Result<Option<QueuedRun>, NoMemory>
+    pub fn queued_at(&self, alloc: Global, seat: u8) -> Result<Option<StartableRun>, NoMemory>
         ensures { IfOk result (λ queued. queued ≡ queued_at self.now.state seat) }
     {
         match self.desk.lowest_at(seat) {

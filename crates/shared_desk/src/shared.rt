@@ -5,12 +5,14 @@ ghost use Rattle.counted_lock.specs.Passes.{IsPassOf, IsNew};
 ghost use Rattle.shared_desk.specs.Openings.{opening_of};
 ghost use Rattle.shared_desk.specs.Sharing.{Asked, Looks, LooksAt, LooksAsked, SeesMore};
 
+use crate::monitor::CallMonitor;
 use crate::ordered::{OrderedDesk, Origin};
 use batch_desk::{Answer, Desk, Entry};
 use batch_keeper::Keeper;
 use bt_base::{List, Moment, NoMemory};
 use bt_rows::event::Event;
-use bt_rows::reply::{QueuedRun, Reply};
+use bt_rows::reply::Reply;
+use child_words::StartableRun;
 use counted_lock::CountedLock;
 use std::alloc::Global;
 use std::marker::Model;
@@ -25,11 +27,12 @@ pub type Pass = counted_lock::Pass<Entry, Origin>;
 /// A desk that threads call and read, one at a time. Contracts see what tells it from other shared desks, and what it was opened
 /// with.
 #[derive(Drop)]
-pub struct SharedDesk<K: Keeper + Drop> {
+pub struct SharedDesk<K: Keeper + Drop, M: CallMonitor + Drop> {
     pub(crate) lock: CountedLock<OrderedDesk<K>, Entry, Origin>,
+    pub(crate) monitor: M,
 }
 
-impl<K: Keeper + Drop> Model for SharedDesk<K> {
+impl<K: Keeper + Drop, M: CallMonitor + Drop> Model for SharedDesk<K, M> {
     ghost use Rattle.counted_lock.specs.Passes.{LockIdentity};
     ghost use Rattle.shared_desk.specs.Openings.{Opening};
 
@@ -38,10 +41,14 @@ impl<K: Keeper + Drop> Model for SharedDesk<K> {
     ghost view = { λ s. s.lock };
 }
 
-impl<K: Keeper + Drop> SharedDesk<K> {
+impl<K: Keeper + Drop, M: CallMonitor + Drop> SharedDesk<K, M> {
     /// Shares a desk, with the first pass, whose number is 0. The pass has seen the desk's journal, whose calls have no number, and
-    /// has no places. The error returns the desk if memory runs out.
-    pub fn open(alloc: Global, desk: Desk<K>) -> Result<(SharedDesk<K>, Pass), Desk<K>>
+    /// has no places. The monitor hears of each call. The error returns the desk if memory runs out.
+    pub fn open(
+        alloc: Global,
+        desk: Desk<K>,
+        monitor: M,
+    ) -> Result<(SharedDesk<K, M>, Pass), Desk<K>>
         ensures pass { IfOk result (λ r. IsPassOf r.0 r.1) }
         ensures origin { IfOk result (λ r. r.0.origin ≡ opening_of desk) }
         ensures number { IfOk result (λ r. r.1.number ≡ 0) }
@@ -50,9 +57,14 @@ impl<K: Keeper + Drop> SharedDesk<K> {
         ensures err { IfErr result (λ d. d ≡ desk) }
     {
         match CountedLock::open(alloc, OrderedDesk::of(desk)) {
-            Ok((lock, pass)) => Ok((SharedDesk { lock }, pass)),
+            Ok((lock, pass)) => Ok((SharedDesk { lock, monitor }, pass)),
             Err(ordered) => Err(ordered.into_desk()),
         }
+    }
+
+    /// What hears of each call.
+    pub fn monitor(&self) -> &M {
+        &self.monitor
     }
 
     /// Makes a call in a turn, which it waits for: the event, and then due steps, as `Desk::call` does. What the pass has then seen
@@ -107,7 +119,7 @@ impl<K: Keeper + Drop> SharedDesk<K> {
         alloc: Global,
         pass: &mut Pass,
         seat: u8,
-    ) -> Result<Option<QueuedRun>, NoMemory>
+    ) -> Result<Option<StartableRun>, NoMemory>
         requires pass { IsPassOf self.now pass.old }
         ensures pass { IsPassOf self.now pass.new }
         ensures number { pass.new.number ≡ pass.old.number }

@@ -4,14 +4,16 @@ ghost use Rattle.counted_lock.specs.Passes.{IsPassOf};
 ghost use Rattle.shared_desk.specs.Sharing.{Asked, Looks, LooksAt, LooksAsked};
 ghost use Rattle.shared_desk.specs.Turns.{HasTurn};
 
+use crate::monitor::CallMonitor;
 use crate::ordered::{OrderedDesk, Origin};
 use crate::shared::{Pass, SharedDesk};
 use batch_desk::{Answer, Entry};
 use batch_keeper::Keeper;
 use bt_base::{List, Moment, NoMemory};
 use bt_rows::event::Event;
-use bt_rows::reply::{QueuedRun, Reply};
-use counted_lock::Held;
+use bt_rows::reply::Reply;
+use child_words::StartableRun;
+use counted_lock::{Held, Journaled};
 use std::alloc::Global;
 use std::sync::Wait;
 use table_reads::{Read, read_reply};
@@ -19,7 +21,7 @@ use table_reads::{Read, read_reply};
 /// A pass that has the turn.
 type HeldPass<K> = Held<OrderedDesk<K>, Entry, Origin>;
 
-impl<K: Keeper + Drop> SharedDesk<K> {
+impl<K: Keeper + Drop, M: CallMonitor + Drop> SharedDesk<K, M> {
     /// Waits for the turn, and takes the desk. Its tables are those after what the pass has then seen.
     fn begin<R: Wait>(&self, rt: &R, pass: Pass) -> (HeldPass<K>, OrderedDesk<K>)
         requires pass { IsPassOf self.now pass }
@@ -32,7 +34,7 @@ impl<K: Keeper + Drop> SharedDesk<K> {
         (held, desk)
     }
 
-    /// A call in a turn. Its entry is added to the history in the same turn.
+    /// A call in a turn, of which the monitor hears. Its entry is added to the history in the same turn.
     pub(crate) fn asked<R: Wait>(
         &self,
         rt: &R,
@@ -47,7 +49,9 @@ impl<K: Keeper + Drop> SharedDesk<K> {
         ensures asked { Asked self.now.origin pass result.0 moment event result.1 }
     {
         let (held, mut desk) = self.begin(rt, pass);
+        self.monitor.call_begins(moment, &event);
         let answer = desk.call(alloc, moment, event);
+        self.monitor.call_answered(desk.entry_count(), &answer);
         match &answer {
             Answer::Done { .. } => (self.lock.enter(held, desk), answer),
             Answer::KeeperFault => (self.lock.enter(held, desk), answer),
@@ -81,7 +85,7 @@ impl<K: Keeper + Drop> SharedDesk<K> {
         alloc: Global,
         pass: Pass,
         seat: u8,
-    ) -> (Pass, Result<Option<QueuedRun>, NoMemory>)
+    ) -> (Pass, Result<Option<StartableRun>, NoMemory>)
         requires pass { IsPassOf self.now pass }
         ensures pass { IsPassOf self.now result.0 }
         ensures number { result.0.number ≡ pass.number }

@@ -14,8 +14,8 @@ returns-in-Some-clause-opened g c =
     let is : serve_options (command_of c.args.words.now) ≡ Some c.in-Some.options = search rules in
     subst (λ z. IfSome c.serve.result.journal (λ j. IfSome z (λ options. IsOpenedFor options (g.K.Keeper.told c.args.keeper) j))) (sym is) c.serve.ensures.opened
 
-pub returns-clause-served : goal.returns-clause-served
-returns-clause-served g c = let left = c.unopened-in-None.ensures in unopened_is _ _ _ _ _ _ _ refl refl left.journal (inr (inl left.status))
+pub returns-in-None-clause-served : goal.returns-in-None-clause-served
+returns-in-None-clause-served g c = let left = c.unopened-in-None.ensures in unopened_is _ _ _ _ _ _ _ refl refl left.journal (inr (inl left.status))
 
 pub returns-in-Some-clause-promises : goal.returns-in-Some-clause-promises
 returns-in-Some-clause-promises g c = promises _ _ _ _ _ c.serve.ensures.served
