@@ -1,5 +1,5 @@
 use Rattle.batch.specs.Ready.{AreReady}
-use Rattle.batch.proofs.service.push_doors.Given as goal
+use Rattle.batch.proofs.service.workers.push_all_lanes.Given as goal
 
 abbrev pub invariant-loop : goal.invariant-loop
 invariant-loop g l = AreReady l.workers.items

@@ -1,7 +1,0 @@
-use denote.Param.Send.{param_send, arg_send}
-use Rattle.store_keeper.proofs.keeper.StoreKeeper.TheSendSync as keeper
-use Rattle.batch.proofs.Sends.{store_send}
-use Rattle.batch.proofs.service.serve_in_store.Goals as goal
-
-pub serve_over-status-requires-send-K : goal.serve_over-status-requires-send-K
-serve_over-status-requires-send-K g c κs within = search (param_send, arg_send, keeper.the_send, store_send)

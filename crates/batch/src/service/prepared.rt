@@ -1,0 +1,188 @@
+//! What the service makes before it begins.
+ghost use Rattle.std.specs.Prelude.{◌≡◌, false, All, IfOk};
+ghost use Rattle.batch.specs.Ready.{IsHostReady};
+
+use crate::service::host::Host;
+use crate::service::start::StartFault;
+use crate::service::workers::{HostListener, HostWorker, Shared, worker_count, workers};
+use child_programs::{ProgramTable, ServiceFolders};
+use cli_words::ServeOptions;
+use service_host::{
+    CallLog, HostMonitor, LogWriter, PAUSE_MS, Reports, file_instant, has_threads, log_path,
+    make_folders, runs_path,
+};
+use sql_store::StoreHealth;
+use std::alloc::AllocError;
+use std::env;
+use std::sync::Arc;
+use std::sync::atomic::AtomicBool;
+use system_clock::SystemClock;
+use tcp_links::{ListenFlags, ListenOptions, TcpListener, WaitLimits};
+
+/// What a service needs before it begins.
+#[derive(Drop)]
+pub struct Prepared<R: Host> {
+    /// Its workers.
+    pub workers: Vec<HostWorker<R>>,
+    /// What hears of its calls, and how its workers end.
+    pub monitor: HostMonitor<R>,
+    /// What writes the log of its calls after its end.
+    pub log: LogWriter<R>,
+    /// The port on which it listens; None if the system does not tell it.
+    pub port: Option<u16>,
+    /// The folder of its runs.
+    pub runs: String,
+}
+
+/// The store of a service.
+#[derive(Clone, Copy)]
+pub struct StorePlace<'a> {
+    /// The path of its file.
+    pub path: &'a str,
+    /// Whether its writes fail.
+    pub health: &'a StoreHealth,
+}
+
+/// What writes the log of calls, while the service runs and after its end.
+#[derive(Drop)]
+struct Logs<R: Host> {
+    log: Arc<CallLog>,
+    timer: LogWriter<R>,
+    last: LogWriter<R>,
+}
+
+/// A new flag, and another owner of it.
+#[derive(Drop)]
+struct Flag {
+    one: Arc<AtomicBool>,
+    other: Arc<AtomicBool>,
+}
+
+/// Listens on the port.
+fn listen<R: Host>(
+    rt: &R,
+    options: ServeOptions,
+    flags: ListenFlags,
+) -> Result<HostListener<R>, StartFault>
+    ensures { IfOk result (λ listener. listener.is_out ≡ false) }
+{
+    let connections = match options.connections {
+        Some(connections) => u64::from(connections),
+        None => u64::MAX,
+    };
+    let listen = ListenOptions {
+        port: options.port,
+        connections,
+        limits: WaitLimits::default(),
+    };
+    match TcpListener::bind(*rt, rt.alloc(), listen, flags, Reports::new(*rt)) {
+        Ok(listener) => Ok(listener),
+        Err(fault) => Err(StartFault::of_bind(fault, options.port)),
+    }
+}
+
+/// The folders of a service that starts at this instant, which are made if they are not there.
+fn folders<R: Host>(
+    rt: &R,
+    store: Option<&str>,
+    instant: &str,
+) -> Result<ServiceFolders, StartFault> {
+    let service = env::current_dir(rt).map_err(StartFault::of_folder)?;
+    let runs = runs_path(rt.alloc(), store, instant)?;
+    let service = service.as_path().as_str();
+    let folders = ServiceFolders::new(rt.alloc(), service, runs.as_str())?;
+    make_folders(rt, &folders).map_err(StartFault::of_folder)?;
+    Ok(folders)
+}
+
+/// A flag that is not raised, with two owners.
+fn new_flag<R: Host>(rt: &R) -> Result<Flag, StartFault> {
+    let one = Arc::new(rt.alloc(), AtomicBool::new(false)).map_err(AllocError::from)?;
+    let other = Arc::try_clone(&one)?;
+    Ok(Flag { one, other })
+}
+
+/// What writes the log of the calls of a service that starts at this instant.
+fn new_logs<R: Host>(
+    rt: &R,
+    folders: &ServiceFolders,
+    instant: &str,
+) -> Result<Logs<R>, StartFault> {
+    let log = Arc::new(rt.alloc(), CallLog::new(rt.alloc())).map_err(AllocError::from)?;
+    let path = log_path(rt.alloc(), folders, instant)?;
+    let timer = LogWriter::new(rt.alloc(), *rt, &log, folders.runs(), path.as_str())?;
+    let last = LogWriter::new(rt.alloc(), *rt, &log, folders.runs(), path.as_str())?;
+    Ok(Logs { log, timer, last })
+}
+
+/// What the workers of a service share, and what writes its log.
+fn share<R: Host>(
+    rt: &R,
+    ending: &Arc<AtomicBool>,
+    store: Option<StorePlace<'_>>,
+) -> Result<(Shared<R>, Logs<R>), StartFault> {
+    let clock = SystemClock::new(rt.alloc(), *rt, PAUSE_MS, ending)?;
+    let instant = file_instant(rt.alloc(), clock.start_ms())?;
+    let (path, health) = match store {
+        Some(store) => (Some(store.path), Some(store.health.share()?)),
+        None => (None, None),
+    };
+    let folders = folders(rt, path, instant.as_str())?;
+    let logs = new_logs(rt, &folders, instant.as_str())?;
+    let table = Arc::new(rt.alloc(), ProgramTable::new(rt.alloc())?).map_err(AllocError::from)?;
+    let shared = Shared {
+        rt: *rt,
+        clock,
+        table,
+        folders,
+        health,
+    };
+    Ok((shared, logs))
+}
+
+/// Whether the system has threads for so many workers. The error says that it has not, or that memory ran out.
+fn need_threads<R: Host + Send + 'static>(rt: &R, count: usize) -> Result<(), StartFault> {
+    if has_threads(rt, rt.alloc(), count)? {
+        Ok(())
+    } else {
+        Err(StartFault::Threads(count))
+    }
+}
+
+/// Listens, makes the folders, and makes the workers and what hears of them. The error says why the service cannot begin.
+pub fn prepare<R: Host + Send + 'static>(
+    rt: &R,
+    options: ServeOptions,
+    store: Option<StorePlace<'_>>,
+) -> Result<Prepared<R>, StartFault>
+    ensures { IfOk result (λ p. All (λ w. IsHostReady w.kind) p.workers.items) }
+{
+    need_threads(rt, worker_count(options))?;
+    let Flag {
+        one: ending,
+        other: all_ended,
+    } = new_flag(rt)?;
+    let (shared, logs) = share(rt, &ending, store)?;
+    drop(ending);
+    let Flag {
+        one: stopping,
+        other: monitored,
+    } = new_flag(rt)?;
+    let flags = ListenFlags {
+        stopping,
+        all_ended,
+    };
+    let listener = listen(rt, options, flags)?;
+    let port = listener.port();
+    let runs = String::from_str(rt.alloc(), shared.folders.runs())?;
+    let Logs { log, timer, last } = logs;
+    let workers = workers(options, &shared, timer, listener)?;
+    drop(shared);
+    Ok(Prepared {
+        workers,
+        monitor: HostMonitor::new(*rt, log, options.journal, monitored),
+        log: last,
+        port,
+        runs,
+    })
+}
