@@ -135,11 +135,20 @@ fn with_faults(alloc: Global, mut keeper: MemoryKeeper, fails: Vec<u64>) -> Opti
 }
 
 /// What a run gave: its status, its output, and the text of the tables that its keeper keeps after it.
-#[derive(Drop)]
 pub struct Outcome {
     pub status: Status,
     pub output: Vec<u8>,
     pub kept: Text,
+}
+
+impl Drop for Outcome {
+    fn drop(self) {
+        let Outcome {
+            status: _status,
+            output: _output,
+            kept: _kept,
+        } = self;
+    }
 }
 
 impl Outcome {

@@ -16,7 +16,7 @@ use bt_rows::settings::{Settings, TaskSettings};
 use bt_rows::tables::Tables;
 use bt_rows::task::{How, TaskRow};
 use child_runs::{ChildEnding, ChildRun, Ran, SureSpawner, SureStopper};
-use shared_desk::{Pass, SharedDesk};
+use shared_desk::{NoMonitor, Pass, SharedDesk};
 use std::alloc::Global;
 use std::sync::Wait;
 use std::test::Fail;
@@ -99,10 +99,13 @@ fn empty_desk(alloc: Global) -> Result<Desk<SureKeeper>, Fail> {
 }
 
 /// The desk, shared, with its first pass.
-fn share(alloc: Global, desk: Desk<SureKeeper>) -> Result<(SharedDesk<SureKeeper>, Pass), Fail>
+fn share(
+    alloc: Global,
+    desk: Desk<SureKeeper>,
+) -> Result<(SharedDesk<SureKeeper, NoMonitor>, Pass), Fail>
     ensures { IfOk result (λ r. IsPassOf r.0 r.1) }
 {
-    match SharedDesk::open(alloc, desk) {
+    match SharedDesk::open(alloc, desk, NoMonitor) {
         Ok(shared) => Ok(shared),
         Err(desk) => {
             drop(desk);
@@ -125,7 +128,7 @@ fn is_accepted(answer: &Answer) -> bool {
 fn ask<R: Wait>(
     rt: &R,
     alloc: Global,
-    desk: &SharedDesk<SureKeeper>,
+    desk: &SharedDesk<SureKeeper, NoMonitor>,
     pass: &mut Pass,
     moment: Moment,
     event: Event,
@@ -147,7 +150,7 @@ fn ask<R: Wait>(
 fn add_all<R: Wait>(
     rt: &R,
     alloc: Global,
-    desk: &SharedDesk<SureKeeper>,
+    desk: &SharedDesk<SureKeeper, NoMonitor>,
     pass: &mut Pass,
 ) -> Result<(), Fail>
     requires { IsPassOf desk.now pass.old }
@@ -160,7 +163,10 @@ fn add_all<R: Wait>(
 }
 
 /// A desk with the pool, the job and the task.
-fn filled_desk<R: Wait>(rt: &R, alloc: Global) -> Result<(SharedDesk<SureKeeper>, Pass), Fail>
+fn filled_desk<R: Wait>(
+    rt: &R,
+    alloc: Global,
+) -> Result<(SharedDesk<SureKeeper, NoMonitor>, Pass), Fail>
     ensures { IfOk result (λ r. IsPassOf r.0 r.1) }
 {
     let (desk, mut pass) = share(alloc, empty_desk(alloc)?)?;
@@ -177,7 +183,7 @@ fn filled_desk<R: Wait>(rt: &R, alloc: Global) -> Result<(SharedDesk<SureKeeper>
 /// Closes the desk with its only pass.
 fn close(
     alloc: Global,
-    desk: SharedDesk<SureKeeper>,
+    desk: SharedDesk<SureKeeper, NoMonitor>,
     pass: Pass,
 ) -> Result<(SureKeeper, Journal), Fail>
     requires { IsPassOf desk pass }
@@ -265,7 +271,11 @@ fn keeps_failure(alloc: Global, keeper: SureKeeper) -> bool {
 }
 
 /// Whether the journal of the desk has a take and an ending, and its keeper a failed task.
-fn shows_the_run(alloc: Global, desk: SharedDesk<SureKeeper>, pass: Pass) -> Result<bool, Fail>
+fn shows_the_run(
+    alloc: Global,
+    desk: SharedDesk<SureKeeper, NoMonitor>,
+    pass: Pass,
+) -> Result<bool, Fail>
     requires { IsPassOf desk pass }
 {
     let (keeper, journal) = close(alloc, desk, pass)?;
@@ -298,7 +308,11 @@ fn is_tick(entries: &Entries, at: usize) -> bool {
 }
 
 /// Whether the journal of the desk has four calls, and then one tick.
-fn shows_the_tick(alloc: Global, desk: SharedDesk<SureKeeper>, pass: Pass) -> Result<bool, Fail>
+fn shows_the_tick(
+    alloc: Global,
+    desk: SharedDesk<SureKeeper, NoMonitor>,
+    pass: Pass,
+) -> Result<bool, Fail>
     requires { IsPassOf desk pass }
 {
     let (keeper, journal) = close(alloc, desk, pass)?;
@@ -309,7 +323,10 @@ fn shows_the_tick(alloc: Global, desk: SharedDesk<SureKeeper>, pass: Pass) -> Re
 }
 
 /// A desk of which the run 1 was taken after a second.
-fn taken_desk<R: Wait>(rt: &R, alloc: Global) -> Result<(SharedDesk<SureKeeper>, Pass), Fail>
+fn taken_desk<R: Wait>(
+    rt: &R,
+    alloc: Global,
+) -> Result<(SharedDesk<SureKeeper, NoMonitor>, Pass), Fail>
     ensures { IfOk result (λ r. IsPassOf r.0 r.1) }
 {
     let later = moment(1000)?;

@@ -3,17 +3,22 @@
 ghost use Rattle.std.specs.Prelude.{◌≡◌, All, IfOk, ⊤, false};
 ghost use Rattle.batch_serve.specs.Works.{IsReady};
 
+use batch_crew::LaneEnd;
+use batch_desk::{Answer, Journal};
 use batch_keeper::{Keeper, SureKeeper};
-use batch_serve::{ServeStatus, Served, Worker, WorkerKind, serve_words};
+use batch_serve::{ServeStatus, Served, ServiceMonitor, Worker, WorkerKind, serve_words};
 use bt_base::{Moment, NoMemory, Word};
 use bt_clock::Clock;
+use bt_rows::event::Event;
 use bt_rows::run::Ending;
 use bt_rows::tables::Tables;
 use bt_rows::task::{How, TaskRow};
 use byte_streams::SureSink;
-use child_runs::{ChildEnding, Ran, Spawner, Stopper, SureStopper};
+use child_runs::{ChildEnding, Ran, RunIdentity, Spawner, Stopper, SureStopper};
+use http_doors::DoorEnd;
 use http_link::SureLink;
 use link_doors::{Listener, SureListener};
+use shared_desk::CallMonitor;
 use std::alloc::Global;
 use std::sync::Wait;
 use std::sync::atomic::{AtomicU64, Ordering};
@@ -40,11 +45,16 @@ const ADD_TASK_T: &[u8] =
 const ADD_TASK_U: &[u8] =
     b"POST /jobs/j/tasks?api-version=2022-10-01.16.0 HTTP/1.1\r\nHost: localhost\r\nContent-Length: 34\r\n\r\n{\"id\":\"u\",\"commandLine\":\"echo hi\"}";
 
-/// How many child programs have started, and how many have ended.
+/// How many child programs have started, and how many have ended; how many calls the monitor heard begin and answered, the number of entries
+/// that it heard of last, and how many workers it heard end as they were asked to.
 #[derive(Drop)]
 struct Counts {
     started: AtomicU64,
     ended: AtomicU64,
+    calls_begun: AtomicU64,
+    calls_answered: AtomicU64,
+    entries: AtomicU64,
+    workers_ended: AtomicU64,
 }
 
 impl Counts {
@@ -52,7 +62,57 @@ impl Counts {
         Counts {
             started: AtomicU64::new(0),
             ended: AtomicU64::new(0),
+            calls_begun: AtomicU64::new(0),
+            calls_answered: AtomicU64::new(0),
+            entries: AtomicU64::new(0),
+            workers_ended: AtomicU64::new(0),
         }
+    }
+
+    /// Counts a worker, if it ended as it was asked to.
+    fn count_worker(&self, is_asked: bool) {
+        if is_asked {
+            self.workers_ended.fetch_add(1, Ordering::SeqCst);
+        }
+    }
+
+    /// Whether so many calls were heard, each of which entered the journal, and so many workers.
+    fn has_heard(&self, entries: u64, workers: u64) -> bool {
+        self.calls_begun.load(Ordering::SeqCst) == entries
+            && self.calls_answered.load(Ordering::SeqCst) == entries
+            && self.entries.load(Ordering::SeqCst) == entries
+            && self.workers_ended.load(Ordering::SeqCst) == workers
+    }
+}
+
+/// A monitor that counts what it hears.
+#[derive(Clone, Copy)]
+struct CountMonitor<'a> {
+    counts: &'a Counts,
+}
+
+impl<'a> CallMonitor for CountMonitor<'a> {
+    fn call_begins(&self, _moment: Moment, _event: &Event) {
+        self.counts.calls_begun.fetch_add(1, Ordering::SeqCst);
+    }
+
+    fn call_answered(&self, entries: u64, _answer: &Answer) {
+        self.counts.calls_answered.fetch_add(1, Ordering::SeqCst);
+        self.counts.entries.store(entries, Ordering::SeqCst);
+    }
+}
+
+impl<'a> ServiceMonitor for CountMonitor<'a> {
+    fn lane_ended(&self, _seat: u8, end: LaneEnd) {
+        self.counts.count_worker(end == LaneEnd::Ended);
+    }
+
+    fn timer_ended(&self, end: LaneEnd) {
+        self.counts.count_worker(end == LaneEnd::Ended);
+    }
+
+    fn door_ended(&self, end: DoorEnd) {
+        self.counts.count_worker(!end.failed && !end.met_memory);
     }
 }
 
@@ -99,7 +159,7 @@ impl<'a, R: Time + Drop> Spawner for BarrierSpawner<'a, R> {
 
     ghost ran = { λ _ _ _. ⊤ };
 
-    fn run(&mut self, _: Global, _: u64, words: &[Word]) -> Ran {
+    fn run(&mut self, _: Global, _: &RunIdentity, _: u64, words: &[Word]) -> Ran {
         self.counts.started.fetch_add(1, Ordering::SeqCst);
         let met = self.wait();
         self.counts.ended.fetch_add(1, Ordering::SeqCst);
@@ -220,6 +280,7 @@ fn serve_empty<
     rt: &R,
     alloc: Global,
     words: &[Word],
+    counts: &Counts,
     workers: &mut [Worker<WorkerKind<S, P, N, C>>],
 ) -> Served<SureKeeper>
 where
@@ -228,7 +289,8 @@ where
 {
     let mut sink = SureSink::new(alloc);
     let keeper = SureKeeper::new(Tables::empty(alloc));
-    let served = serve_words(rt, alloc, words, &mut sink, keeper, workers);
+    let monitor = CountMonitor { counts };
+    let served = serve_words(rt, alloc, words, &mut sink, keeper, monitor, workers);
     drop(sink);
     served
 }
@@ -261,31 +323,50 @@ fn has_success(tables: &Tables, id: &str) -> bool {
     false
 }
 
-/// The status of the service, and the tables of its keeper.
-fn parts_of(alloc: Global, served: Served<SureKeeper>) -> (ServeStatus, Option<Tables>) {
+/// The number of entries of the journal; 0 if there is none.
+fn entry_count(journal: Option<Journal>) -> u64 {
+    match journal {
+        Some(journal) => {
+            let count = journal.entries.len() as u64;
+            drop(journal);
+            count
+        }
+        None => 0,
+    }
+}
+
+/// The status of the service, the number of its calls, and the tables of its keeper.
+fn parts_of(alloc: Global, served: Served<SureKeeper>) -> (ServeStatus, u64, Option<Tables>) {
     let Served {
         status,
         keeper,
         journal,
     } = served;
-    drop(journal);
+    let calls = entry_count(journal);
     let mut keeper = keeper;
     let loaded = keeper.load(alloc);
     drop(keeper);
     match loaded {
-        Ok(tables) => (status, Some(tables)),
-        Err(_error) => (status, None),
+        Ok(tables) => (status, calls, Some(tables)),
+        Err(_error) => (status, calls, None),
     }
 }
 
-/// Whether the service was done, and its tables have the pool p and a success of each of these tasks.
-fn is_done(alloc: Global, served: Served<SureKeeper>, tasks: &[&str]) -> bool {
-    let (status, tables) = parts_of(alloc, served);
+/// Whether the service was done, its tables have the pool p and a success of each of these tasks, and its monitor heard each call and the end of
+/// each of so many workers.
+fn is_done(
+    alloc: Global,
+    served: Served<SureKeeper>,
+    tasks: &[&str],
+    counts: &Counts,
+    workers: u64,
+) -> bool {
+    let (status, calls, tables) = parts_of(alloc, served);
     match tables {
         Some(tables) => {
             let succeeded = has_pool(&tables) && tasks.iter().all(|id| has_success(&tables, id));
             drop(tables);
-            status == ServeStatus::Done && succeeded
+            status == ServeStatus::Done && succeeded && counts.has_heard(calls, workers)
         }
         None => false,
     }
@@ -302,9 +383,9 @@ fn a_task_that_is_added_over_http_is_run(rt: HostRuntime) -> Result<(), Fail> {
         timer(SureStopper::new(alloc), clock(rt, &counts, 1)),
         door(listener, clock(rt, &counts, 1)),
     ];
-    let served = serve_empty(&rt, alloc, words.as_slice(), &mut workers);
+    let served = serve_empty(&rt, alloc, words.as_slice(), &counts, &mut workers);
     drop(workers);
-    assert!(rt; is_done(alloc, served, &["t"]));
+    assert!(rt; is_done(alloc, served, &["t"], &counts, 3));
     Ok(())
 }
 
@@ -321,8 +402,8 @@ fn the_child_programs_of_two_lanes_run_at_once(rt: HostRuntime) -> Result<(), Fa
         timer(SureStopper::new(alloc), clock(rt, &counts, 2)),
         door(listener, clock(rt, &counts, 2)),
     ];
-    let served = serve_empty(&rt, alloc, words.as_slice(), &mut workers);
+    let served = serve_empty(&rt, alloc, words.as_slice(), &counts, &mut workers);
     drop(workers);
-    assert!(rt; is_done(alloc, served, &["t", "u"]));
+    assert!(rt; is_done(alloc, served, &["t", "u"], &counts, 4));
     Ok(())
 }

@@ -1,12 +1,68 @@
-//! A test over programs of the system: exit codes, files of output, a child program that cannot be started, and stops before and
-//! after the start.
-use bt_base::{NoMemory, Word};
-use child_programs::{ProgramSpawner, ProgramStopper, ProgramTable};
-use child_runs::{ChildEnding, Ran, Spawner, Stopper};
-use std::alloc::Global;
+//! Tests over programs of the system: exit codes, stops before and after the start, folders and environments of child programs,
+//! reasons of child programs that cannot be started, starts that wait, and the list of runs.
+use bt_base::{Id, NoMemory, Word};
+use bt_rows::run::RunKind;
+use child_programs::{ProgramSpawner, ProgramStopper, ProgramTable, ServiceFolders, StartMonitor};
+use child_runs::{ChildEnding, Ran, RunIdentity, Spawner, Stopper};
+use std::alloc::{AllocError, Global};
+use std::fs::Permissions;
+use std::os::unix::fs::PermissionsExt;
+use std::sync::atomic::{AtomicU64, Ordering};
 use std::test::Fail;
 use std::time::Duration;
-use std::{fs, process, thread};
+use std::{fs, io, process, thread};
+
+/// How often the monitor of a test was told of each.
+#[derive(Drop)]
+struct Told {
+    waits: AtomicU64,
+    goes_on: AtomicU64,
+    given_up: AtomicU64,
+    list_fails: AtomicU64,
+}
+
+impl Told {
+    fn new() -> Told {
+        Told {
+            waits: AtomicU64::new(0),
+            goes_on: AtomicU64::new(0),
+            given_up: AtomicU64::new(0),
+            list_fails: AtomicU64::new(0),
+        }
+    }
+
+    /// How often it was told that a start waits, goes on and was given up, and of a fault of the list.
+    fn counts(&self) -> (u64, u64, u64, u64) {
+        (
+            self.waits.load(Ordering::SeqCst),
+            self.goes_on.load(Ordering::SeqCst),
+            self.given_up.load(Ordering::SeqCst),
+            self.list_fails.load(Ordering::SeqCst),
+        )
+    }
+}
+
+/// A monitor that counts.
+#[derive(Clone, Copy)]
+struct CountingMonitor<'a>(&'a Told);
+
+impl StartMonitor for CountingMonitor<'_> {
+    fn start_waits(&self, _number: u64, _cause: io::Error) {
+        self.0.waits.fetch_add(1, Ordering::SeqCst);
+    }
+
+    fn start_goes_on(&self, _number: u64) {
+        self.0.goes_on.fetch_add(1, Ordering::SeqCst);
+    }
+
+    fn start_given_up(&self, _number: u64, _cause: io::Error) {
+        self.0.given_up.fetch_add(1, Ordering::SeqCst);
+    }
+
+    fn list_fails(&self, _cause: io::Error) {
+        self.0.list_fails.fetch_add(1, Ordering::SeqCst);
+    }
+}
 
 /// The words of a command line.
 fn words(alloc: Global, texts: &[&str]) -> Result<Vec<Word>, NoMemory> {
@@ -17,37 +73,369 @@ fn words(alloc: Global, texts: &[&str]) -> Result<Vec<Word>, NoMemory> {
     Ok(words)
 }
 
+/// The run of a pool's start task.
+fn start_run(alloc: Global) -> Result<RunIdentity, Fail> {
+    Ok(RunIdentity {
+        kind: RunKind::Start,
+        pool: Id::read(alloc, "render")?,
+        node: 3,
+        job: None,
+        task: None,
+    })
+}
+
+/// The run of a job's own command line.
+fn job_run(alloc: Global, kind: RunKind) -> Result<RunIdentity, Fail> {
+    Ok(RunIdentity {
+        kind,
+        pool: Id::read(alloc, "render")?,
+        node: 3,
+        job: Some(Id::read(alloc, "film")?),
+        task: None,
+    })
+}
+
+/// The run of a task.
+fn task_run(alloc: Global) -> Result<RunIdentity, Fail> {
+    Ok(RunIdentity {
+        kind: RunKind::Task,
+        pool: Id::read(alloc, "render")?,
+        node: 3,
+        job: Some(Id::read(alloc, "film")?),
+        task: Some(Id::read(alloc, "frame-7")?),
+    })
+}
+
+/// The path of a new folder for a service.
+fn new_folder(rt: &HostRuntime, name: &str) -> Result<String, Fail> {
+    let number = process::id(rt.process());
+    let folder = format!(in rt.alloc(); "/tmp/child_programs-{name}-{number}")?;
+    fs::create_dir(rt, folder.as_str())?;
+    Ok(folder)
+}
+
+/// What the file at this path in the folder has.
+fn content(rt: &HostRuntime, folder: &str, path: &str) -> Result<String, Fail> {
+    let path = format!(in rt.alloc(); "{folder}/{path}")?;
+    Ok(fs::read_to_string(rt, path.as_str())?)
+}
+
+/// Whether the file has the line that these two make.
+fn has_line(alloc: Global, file: &str, name: &str, value: &str) -> Result<bool, AllocError> {
+    let wanted = format!(in alloc; "{name}{value}")?;
+    Ok(file.lines().any(|line| line == wanted.as_str()))
+}
+
 #[test]
 fn programs_run_and_stop(rt: HostRuntime) -> Result<(), Fail> {
     let alloc = rt.alloc();
-    let folder = format!(in alloc; "/tmp/child_programs-{}", process::id(rt.process()))?;
-    fs::create_dir(&rt, folder.as_str())?;
+    let folder = new_folder(&rt, "stop")?;
+    let folders = ServiceFolders::new(alloc, folder.as_str(), "runs")?;
+    let told = Told::new();
     let table = ProgramTable::new(alloc)?;
-    let mut spawner = ProgramSpawner::new(alloc, rt, &table, folder.as_str())?;
+    let mut spawner = ProgramSpawner::new(rt, &table, &folders, CountingMonitor(&told))?;
     let mut stopper = ProgramStopper::new(rt, &table)?;
+    let run = start_run(alloc)?;
     let exits = words(alloc, &["sh", "-c", "echo told; exit 3"])?;
-    let missing = words(alloc, &["/no/such/program"])?;
     let waits = words(alloc, &["/bin/cat"])?;
-    let ended = spawner.run(alloc, 1, exits.as_slice());
-    let not_started = spawner.run(alloc, 2, missing.as_slice());
+    let ended = spawner.run(alloc, &run, 1, exits.as_slice());
     let asked = stopper.stop(3);
-    let stopped_before = spawner.run(alloc, 3, waits.as_slice());
-    let (stopped_after, asked_after) = thread::join(
+    let open_before = table.has_open(&rt);
+    let stopped_before = spawner.run(alloc, &run, 3, waits.as_slice());
+    let (stopped_after, (open_while, asked_after)) = thread::join(
         &rt,
-        || spawner.run(alloc, 4, waits.as_slice()),
+        || spawner.run(alloc, &run, 4, waits.as_slice()),
         || {
-            thread::sleep(&rt, Duration::from_millis(100));
-            stopper.stop(4)
+            thread::sleep(&rt, Duration::from_millis(300));
+            let open = table.has_open(&rt);
+            (open, stopper.stop(4))
         },
     );
-    let output = format!(in alloc; "{}/stdout-1.txt", folder.as_str())?;
-    let told = fs::read_to_string(&rt, output.as_str())?;
+    let output = content(
+        &rt,
+        folder.as_str(),
+        "runs/pool.start/render/node-3/1/stdout.txt",
+    )?;
     fs::remove_dir_all(&rt, folder.as_str())?;
     assert_eq!(rt; ended, Ran::Ended(ChildEnding::Code(3)));
-    assert_eq!(rt; told.as_str(), "told\n");
-    assert_eq!(rt; not_started, Ran::NotStarted);
+    assert_eq!(rt; output.as_str(), "told\n");
     assert_eq!(rt; stopped_before, Ran::Ended(ChildEnding::Code(0)));
     assert_eq!(rt; stopped_after, Ran::Ended(ChildEnding::Code(0)));
     assert!(rt; asked.is_ok() && asked_after.is_ok());
+    assert!(rt; !open_before && open_while && !table.has_open(&rt));
+    assert_eq!(rt; told.counts(), (0, 0, 0, 0));
+    Ok(())
+}
+
+#[test]
+fn a_child_has_its_names_and_folders(rt: HostRuntime) -> Result<(), Fail> {
+    let alloc = rt.alloc();
+    let folder = new_folder(&rt, "names")?;
+    let folders = ServiceFolders::new(alloc, folder.as_str(), "runs")?;
+    let told = Told::new();
+    let table = ProgramTable::new(alloc)?;
+    let mut spawner = ProgramSpawner::new(rt, &table, &folders, CountingMonitor(&told))?;
+    let shows = words(
+        alloc,
+        &["sh", "-c", "env; pwd; ls -d \"$AZ_BATCH_NODE_SHARED_DIR\""],
+    )?;
+    let ended = spawner.run(alloc, &task_run(alloc)?, 12, shows.as_slice());
+    let at_start = spawner.run(alloc, &start_run(alloc)?, 13, shows.as_slice());
+    let task = content(&rt, folder.as_str(), "runs/film/frame-7/12/stdout.txt")?;
+    let start = content(
+        &rt,
+        folder.as_str(),
+        "runs/pool.start/render/node-3/13/stdout.txt",
+    )?;
+    fs::remove_dir_all(&rt, folder.as_str())?;
+    assert_eq!(rt; ended, Ran::Ended(ChildEnding::Code(0)));
+    assert_eq!(rt; at_start, Ran::Ended(ChildEnding::Code(0)));
+    let own = format!(in alloc; "{}/runs/film/frame-7/12", folder.as_str())?;
+    let work = format!(in alloc; "{}/wd", own.as_str())?;
+    let shared = format!(in alloc; "{}/shared", folder.as_str())?;
+    let expected = [
+        ("AZ_BATCH_POOL_ID=", "render"),
+        ("AZ_BATCH_NODE_ID=", "node-3"),
+        ("AZ_BATCH_JOB_ID=", "film"),
+        ("AZ_BATCH_TASK_ID=", "frame-7"),
+        ("AZ_BATCH_TASK_DIR=", own.as_str()),
+        ("AZ_BATCH_TASK_WORKING_DIR=", work.as_str()),
+        ("AZ_BATCH_NODE_ROOT_DIR=", folder.as_str()),
+        ("AZ_BATCH_NODE_SHARED_DIR=", shared.as_str()),
+        ("", work.as_str()),
+        ("", shared.as_str()),
+    ];
+    for (name, value) in expected {
+        assert!(rt;
+            has_line(alloc, task.as_str(), name, value)?,
+            "no line {name}{value}"
+        );
+    }
+    assert!(rt; has_line(alloc, start.as_str(), "AZ_BATCH_POOL_ID=", "render")?);
+    assert!(rt; !start.as_str().contains("AZ_BATCH_JOB_ID"));
+    assert!(rt; !start.as_str().contains("AZ_BATCH_TASK_ID"));
+    Ok(())
+}
+
+#[test]
+fn runs_of_a_job_have_folders(rt: HostRuntime) -> Result<(), Fail> {
+    let alloc = rt.alloc();
+    let folder = new_folder(&rt, "kinds")?;
+    let folders = ServiceFolders::new(alloc, folder.as_str(), "runs")?;
+    let told = Told::new();
+    let table = ProgramTable::new(alloc)?;
+    let mut spawner = ProgramSpawner::new(rt, &table, &folders, CountingMonitor(&told))?;
+    let echoes = words(alloc, &["sh", "-c", "echo $AZ_BATCH_JOB_ID; echo gone >&2"])?;
+    let prepares = job_run(alloc, RunKind::Prep)?;
+    let releases = job_run(alloc, RunKind::Release)?;
+    let prepared = spawner.run(alloc, &prepares, 20, echoes.as_slice());
+    let released = spawner.run(alloc, &releases, 21, echoes.as_slice());
+    let output = content(
+        &rt,
+        folder.as_str(),
+        "runs/film/job.preparation/20/stdout.txt",
+    )?;
+    let errors = content(&rt, folder.as_str(), "runs/film/job.release/21/stderr.txt")?;
+    fs::remove_dir_all(&rt, folder.as_str())?;
+    assert_eq!(rt; prepared, Ran::Ended(ChildEnding::Code(0)));
+    assert_eq!(rt; released, Ran::Ended(ChildEnding::Code(0)));
+    assert_eq!(rt; output.as_str(), "film\n");
+    assert_eq!(rt; errors.as_str(), "gone\n");
+    Ok(())
+}
+
+#[test]
+fn a_relative_program_is_in_the_folder_of_the_service(rt: HostRuntime) -> Result<(), Fail> {
+    let alloc = rt.alloc();
+    let folder = new_folder(&rt, "relative")?;
+    let script = format!(in alloc; "{}/work.sh", folder.as_str())?;
+    fs::write(&rt, script.as_str(), "#!/bin/sh\necho \"$1\"; pwd\n")?;
+    fs::set_permissions(&rt, script.as_str(), Permissions::from_mode(0o755))?;
+    let folders = ServiceFolders::new(alloc, folder.as_str(), "runs")?;
+    let told = Told::new();
+    let table = ProgramTable::new(alloc)?;
+    let mut spawner = ProgramSpawner::new(rt, &table, &folders, CountingMonitor(&told))?;
+    let works = words(alloc, &["./work.sh", "./first"])?;
+    let ended = spawner.run(alloc, &task_run(alloc)?, 30, works.as_slice());
+    let output = content(&rt, folder.as_str(), "runs/film/frame-7/30/stdout.txt")?;
+    fs::remove_dir_all(&rt, folder.as_str())?;
+    assert_eq!(rt; ended, Ran::Ended(ChildEnding::Code(0)));
+    let expected = format!(in alloc; "./first\n{}/runs/film/frame-7/30/wd\n", folder.as_str())?;
+    assert_eq!(rt; output.as_str(), expected.as_str());
+    Ok(())
+}
+
+#[test]
+fn a_reason_stands_in_standard_error(rt: HostRuntime) -> Result<(), Fail> {
+    let alloc = rt.alloc();
+    let folder = new_folder(&rt, "reasons")?;
+    let text = format!(in alloc; "{}/text", folder.as_str())?;
+    fs::write(&rt, text.as_str(), "no program")?;
+    let folders = ServiceFolders::new(alloc, folder.as_str(), "runs")?;
+    let told = Told::new();
+    let table = ProgramTable::new(alloc)?;
+    let mut spawner = ProgramSpawner::new(rt, &table, &folders, CountingMonitor(&told))?;
+    let run = task_run(alloc)?;
+    let cases = [
+        (40, "no-such-program", "no such file or directory"),
+        (41, "/no/such/program", "no such file or directory"),
+        (42, "./text", "permission denied"),
+        (43, "a\0b", "a word of the command line has a zero byte"),
+    ];
+    for (number, program, reason) in cases {
+        let command = words(alloc, &[program, "x"])?;
+        let ran = spawner.run(alloc, &run, number, command.as_slice());
+        let path = format!(in alloc; "runs/film/frame-7/{number}/stderr.txt")?;
+        let errors = content(&rt, folder.as_str(), path.as_str())?;
+        let shown = if number == 43 { "a?b" } else { program };
+        let expected = format!(in alloc; "batch: cannot start {shown}: {reason}\n")?;
+        assert_eq!(rt; ran, Ran::NotStarted);
+        assert_eq!(rt; errors.as_str(), expected.as_str());
+    }
+    let none = spawner.run(alloc, &run, 44, &[]);
+    fs::remove_dir_all(&rt, folder.as_str())?;
+    assert_eq!(rt; none, Ran::NotStarted);
+    assert_eq!(rt; told.counts(), (0, 0, 0, 0));
+    Ok(())
+}
+
+#[test]
+fn folders_are_made_again(rt: HostRuntime) -> Result<(), Fail> {
+    let alloc = rt.alloc();
+    let folder = new_folder(&rt, "again")?;
+    let folders = ServiceFolders::new(alloc, folder.as_str(), "runs")?;
+    let told = Told::new();
+    let table = ProgramTable::new(alloc)?;
+    let mut spawner = ProgramSpawner::new(rt, &table, &folders, CountingMonitor(&told))?;
+    let run = task_run(alloc)?;
+    let echoes = words(alloc, &["echo", "told"])?;
+    let first = spawner.run(alloc, &run, 50, echoes.as_slice());
+    fs::remove_dir_all(&rt, folders.runs())?;
+    fs::remove_dir_all(&rt, folders.shared())?;
+    let second = spawner.run(alloc, &run, 51, echoes.as_slice());
+    let output = content(&rt, folder.as_str(), "runs/film/frame-7/51/stdout.txt")?;
+    let list = content(&rt, folder.as_str(), "runs/runs.csv")?;
+    fs::remove_dir_all(&rt, folder.as_str())?;
+    assert_eq!(rt; first, Ran::Ended(ChildEnding::Code(0)));
+    assert_eq!(rt; second, Ran::Ended(ChildEnding::Code(0)));
+    assert_eq!(rt; output.as_str(), "told\n");
+    assert_eq!(rt; list.as_str().lines().count(), 2);
+    Ok(())
+}
+
+#[test]
+fn a_start_waits_for_what_passes(rt: HostRuntime) -> Result<(), Fail> {
+    let alloc = rt.alloc();
+    let folder = new_folder(&rt, "waits")?;
+    let folders = ServiceFolders::new(alloc, folder.as_str(), "runs")?;
+    let told = Told::new();
+    let table = ProgramTable::new(alloc)?;
+    let mut spawner = ProgramSpawner::new(rt, &table, &folders, CountingMonitor(&told))?;
+    let run = task_run(alloc)?;
+    let echoes = words(alloc, &["echo", "told"])?;
+    let in_the_way = folders.runs();
+    fs::write(&rt, in_the_way, "")?;
+    let (ended, (open, removed)) = thread::join(
+        &rt,
+        || spawner.run(alloc, &run, 60, echoes.as_slice()),
+        || {
+            thread::sleep(&rt, Duration::from_millis(400));
+            let open = table.has_open(&rt);
+            (open, fs::remove_file(&rt, in_the_way))
+        },
+    );
+    let output = content(&rt, folder.as_str(), "runs/film/frame-7/60/stdout.txt")?;
+    fs::remove_dir_all(&rt, folder.as_str())?;
+    removed?;
+    assert!(rt; open && !table.has_open(&rt));
+    assert_eq!(rt; ended, Ran::Ended(ChildEnding::Code(0)));
+    assert_eq!(rt; output.as_str(), "told\n");
+    assert_eq!(rt; told.counts(), (1, 1, 0, 0));
+    Ok(())
+}
+
+/// Whether the text is an instant of this century in UTC, with milliseconds.
+fn is_instant(text: &str) -> bool {
+    let shape = b"20dd-dd-ddTdd:dd:dd.dddZ";
+    let bytes = text.as_bytes();
+    bytes.len() == shape.len()
+        && bytes.iter().zip(shape.iter()).all(|(byte, wanted)| match *wanted {
+            b'd' => byte.is_ascii_digit(),
+            other => *byte == other,
+        })
+}
+
+/// The line without its two instants; None if it has none in their places.
+fn without_instants(alloc: Global, line: &str) -> Result<Option<String>, AllocError> {
+    let mut rest = String::new(alloc);
+    let mut instants = 0u8;
+    for (place, field) in line.split(',').enumerate() {
+        if (place == 6 || place == 7) && is_instant(field) {
+            instants = instants.saturating_add(1);
+        } else {
+            rest.push_str(field)?;
+            rest.push(',')?;
+        }
+    }
+    Ok((instants == 2).then_some(rest))
+}
+
+#[test]
+fn ends_are_listed(rt: HostRuntime) -> Result<(), Fail> {
+    let alloc = rt.alloc();
+    let folder = new_folder(&rt, "list")?;
+    let folders = ServiceFolders::new(alloc, folder.as_str(), "runs")?;
+    let told = Told::new();
+    let table = ProgramTable::new(alloc)?;
+    let mut spawner = ProgramSpawner::new(rt, &table, &folders, CountingMonitor(&told))?;
+    let task = task_run(alloc)?;
+    let exits = words(alloc, &["sh", "-c", "exit 3"])?;
+    let killed = words(alloc, &["sh", "-c", "kill -9 $$"])?;
+    let missing = words(alloc, &["/no/such", "say \"so\""])?;
+    spawner.run(alloc, &task, 70, exits.as_slice());
+    spawner.run(alloc, &start_run(alloc)?, 71, killed.as_slice());
+    spawner.run(
+        alloc,
+        &job_run(alloc, RunKind::Prep)?,
+        72,
+        missing.as_slice(),
+    );
+    let list = content(&rt, folder.as_str(), "runs/runs.csv")?;
+    fs::remove_dir_all(&rt, folder.as_str())?;
+    let expected = [
+        "70,task,render,node-3,film,frame-7,code,3,sh -c exit 3,",
+        "71,start,render,node-3,,,signal,,sh -c kill -9 $$,",
+        "72,preparation,render,node-3,film,,notstarted,,\"/no/such say \"\"so\"\"\",",
+    ];
+    let mut lines = list.as_str().lines();
+    let header = "run,kind,pool,node,job,task,began,ended,ending,code,command";
+    assert_eq!(rt; lines.next(), Some(header));
+    for wanted in expected {
+        let line = without_instants(alloc, lines.next().ok_or("a line")?)?;
+        assert_eq!(rt; line.ok_or("two instants")?.as_str(), wanted);
+    }
+    assert_eq!(rt; lines.next(), None);
+    assert_eq!(rt; told.counts(), (0, 0, 0, 0));
+    Ok(())
+}
+
+#[test]
+fn a_fault_of_the_list_is_told_once(rt: HostRuntime) -> Result<(), Fail> {
+    let alloc = rt.alloc();
+    let folder = new_folder(&rt, "fault")?;
+    let folders = ServiceFolders::new(alloc, folder.as_str(), "runs")?;
+    let in_the_way = format!(in alloc; "{}/runs.csv", folders.runs())?;
+    fs::create_dir_all(&rt, in_the_way.as_str())?;
+    let told = Told::new();
+    let table = ProgramTable::new(alloc)?;
+    let mut spawner = ProgramSpawner::new(rt, &table, &folders, CountingMonitor(&told))?;
+    let run = task_run(alloc)?;
+    let echoes = words(alloc, &["echo", "told"])?;
+    let first = spawner.run(alloc, &run, 80, echoes.as_slice());
+    let second = spawner.run(alloc, &run, 81, echoes.as_slice());
+    fs::remove_dir_all(&rt, folder.as_str())?;
+    assert_eq!(rt; first, Ran::Ended(ChildEnding::Code(0)));
+    assert_eq!(rt; second, Ran::Ended(ChildEnding::Code(0)));
+    assert_eq!(rt; told.counts(), (0, 0, 0, 1));
     Ok(())
 }

@@ -2,12 +2,11 @@
 //! the rule for each name.
 use bt_base::{CommandLine, Id, NoMemory, Text, Word, words};
 use bt_rows::node::{NodeRow, NodeStage};
-use bt_rows::reply::QueuedRun;
 use bt_rows::run::{RunKind, RunRow, RunState};
 use bt_rows::settings::{Settings, TaskSettings};
 use bt_rows::tables::{Change, Tables};
 use bt_rows::task::{Multi, TaskRow, TaskStage};
-use child_words::{Names, fill, with_words};
+use child_words::{Names, StartableRun, fill, with_words};
 use std::alloc::{AllocError, Global};
 use std::test::Fail;
 
@@ -196,10 +195,19 @@ fn put_all(alloc: Global, tables: &mut Tables) -> Result<(), Fail> {
     put_run(alloc, tables, 8, 2, RunState::Taken)
 }
 
+/// Whether it belongs to the node 1 of the pool, and to the task of the job.
+fn is_of_task(run: &StartableRun) -> bool {
+    let identity = run.identity();
+    let job = identity.job.as_ref().map(|id| id.as_str());
+    let task = identity.task.as_ref().map(|id| id.as_str());
+    identity.pool.as_str() == "p" && identity.node == 1 && job == Some("j") && task == Some("t")
+}
+
 /// Whether it is the run 9, with its words.
-fn is_run_9(alloc: Global, run: &QueuedRun) -> Result<bool, Fail> {
-    let words = joined(alloc, run.words.as_slice())?;
-    Ok(run.number == 9 && words.as_slice() == b"p/node-1,node-2;node-1,false,".as_slice())
+fn is_run_9(alloc: Global, run: &StartableRun) -> Result<bool, Fail> {
+    let words = joined(alloc, run.words())?;
+    let has_words = words.as_slice() == b"p/node-1,node-2;node-1,false,".as_slice();
+    Ok(run.number() == 9 && has_words && is_of_task(run))
 }
 
 /// Whether the tables show the run 9 with its words.

@@ -18,4 +18,6 @@ mod shared_desk_tests;
 #[cfg(test)]
 mod system_clock_tests;
 #[cfg(test)]
+mod tcp_accept_tests;
+#[cfg(test)]
 mod tcp_links_tests;

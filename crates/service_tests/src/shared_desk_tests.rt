@@ -10,7 +10,7 @@ use bt_rows::event::{Event, EventKind, PoolSpec};
 use bt_rows::pool::Fill;
 use bt_rows::reply::{Item, Reply};
 use bt_rows::tables::Tables;
-use shared_desk::{NotClosed, Pass, SharedDesk};
+use shared_desk::{NoMonitor, NotClosed, Pass, SharedDesk};
 use std::alloc::Global;
 use std::sync::Wait;
 use std::test::Fail;
@@ -52,10 +52,13 @@ fn empty_desk(alloc: Global) -> Result<Desk<SureKeeper>, Fail> {
 }
 
 /// The desk, shared, with its first pass.
-fn share(alloc: Global, desk: Desk<SureKeeper>) -> Result<(SharedDesk<SureKeeper>, Pass), Fail>
+fn share(
+    alloc: Global,
+    desk: Desk<SureKeeper>,
+) -> Result<(SharedDesk<SureKeeper, NoMonitor>, Pass), Fail>
     ensures { IfOk result (λ r. IsPassOf r.0 r.1) }
 {
-    match SharedDesk::open(alloc, desk) {
+    match SharedDesk::open(alloc, desk, NoMonitor) {
         Ok(shared) => Ok(shared),
         Err(desk) => {
             drop(desk);
@@ -78,7 +81,7 @@ fn is_accepted(answer: &Answer) -> bool {
 fn ask<R: Wait>(
     rt: &R,
     alloc: Global,
-    desk: &SharedDesk<SureKeeper>,
+    desk: &SharedDesk<SureKeeper, NoMonitor>,
     pass: &mut Pass,
     moment: Moment,
     event: Event,
@@ -93,7 +96,12 @@ fn ask<R: Wait>(
 }
 
 /// Whether the pool was added.
-fn adds_pool<R: Wait>(rt: &R, alloc: Global, desk: &SharedDesk<SureKeeper>, pass: &mut Pass) -> bool
+fn adds_pool<R: Wait>(
+    rt: &R,
+    alloc: Global,
+    desk: &SharedDesk<SureKeeper, NoMonitor>,
+    pass: &mut Pass,
+) -> bool
     requires { IsPassOf desk.now pass.old }
     ensures { IsPassOf desk.now pass.new }
 {
@@ -115,7 +123,7 @@ fn is_pool(reply: &Result<Reply, NoMemory>) -> bool {
 fn look<R: Wait>(
     rt: &R,
     alloc: Global,
-    desk: &SharedDesk<SureKeeper>,
+    desk: &SharedDesk<SureKeeper, NoMonitor>,
     pass: Pass,
     read: &Read,
 ) -> (Pass, bool)
@@ -133,7 +141,7 @@ fn look<R: Wait>(
 fn shows_pool<R: Wait>(
     rt: &R,
     alloc: Global,
-    desk: &SharedDesk<SureKeeper>,
+    desk: &SharedDesk<SureKeeper, NoMonitor>,
     pass: Pass,
 ) -> (Pass, bool)
     requires { IsPassOf desk.now pass }
@@ -153,7 +161,7 @@ fn shows_pool<R: Wait>(
 fn has_no_queued<R: Wait>(
     rt: &R,
     alloc: Global,
-    desk: &SharedDesk<SureKeeper>,
+    desk: &SharedDesk<SureKeeper, NoMonitor>,
     pass: &mut Pass,
 ) -> bool
     requires { IsPassOf desk.now pass.old }
@@ -169,7 +177,7 @@ fn has_no_queued<R: Wait>(
 fn has_no_asked<R: Wait>(
     rt: &R,
     alloc: Global,
-    desk: &SharedDesk<SureKeeper>,
+    desk: &SharedDesk<SureKeeper, NoMonitor>,
     pass: &mut Pass,
 ) -> bool
     requires { IsPassOf desk.now pass.old }
@@ -189,7 +197,7 @@ fn has_no_asked<R: Wait>(
 fn use_both<R: Wait>(
     rt: &R,
     alloc: Global,
-    desk: &SharedDesk<SureKeeper>,
+    desk: &SharedDesk<SureKeeper, NoMonitor>,
     first: Pass,
     second: Pass,
 ) -> ((Pass, Pass), bool)
@@ -209,7 +217,11 @@ fn use_both<R: Wait>(
 }
 
 /// Closes the desk with both passes; the number of calls in its journal.
-fn close_both(desk: SharedDesk<SureKeeper>, passes: Vec<Pass>, second: Pass) -> Result<usize, Fail>
+fn close_both(
+    desk: SharedDesk<SureKeeper, NoMonitor>,
+    passes: Vec<Pass>,
+    second: Pass,
+) -> Result<usize, Fail>
     requires first { All (IsPassOf desk) passes.items }
     requires second { IsPassOf desk second }
 {
@@ -233,7 +245,11 @@ fn close_both(desk: SharedDesk<SureKeeper>, passes: Vec<Pass>, second: Pass) -> 
 }
 
 /// Closes the desk with one of two passes, which is refused, and then with both; the number of calls in its journal.
-fn close_twice(desk: SharedDesk<SureKeeper>, passes: Vec<Pass>, second: Pass) -> Result<usize, Fail>
+fn close_twice(
+    desk: SharedDesk<SureKeeper, NoMonitor>,
+    passes: Vec<Pass>,
+    second: Pass,
+) -> Result<usize, Fail>
     requires first { All (IsPassOf desk) passes.items }
     requires second { IsPassOf desk second }
 {
@@ -264,7 +280,11 @@ fn close_twice(desk: SharedDesk<SureKeeper>, passes: Vec<Pass>, second: Pass) ->
 }
 
 /// A list of one pass; None if memory runs out.
-fn one_pass(alloc: Global, desk: &SharedDesk<SureKeeper>, pass: Pass) -> Option<Vec<Pass>>
+fn one_pass(
+    alloc: Global,
+    desk: &SharedDesk<SureKeeper, NoMonitor>,
+    pass: Pass,
+) -> Option<Vec<Pass>>
     requires { IsPassOf desk.now pass }
     ensures { IfSome result (λ passes. All (IsPassOf desk.now) passes.items) }
 {
@@ -279,7 +299,7 @@ fn one_pass(alloc: Global, desk: &SharedDesk<SureKeeper>, pass: Pass) -> Option<
 fn use_and_close<R: Wait>(
     rt: &R,
     alloc: Global,
-    desk: SharedDesk<SureKeeper>,
+    desk: SharedDesk<SureKeeper, NoMonitor>,
     first: Pass,
     second: Pass,
 ) -> Result<usize, Fail>
@@ -301,7 +321,7 @@ fn use_and_close<R: Wait>(
 fn split_and_use<R: Wait>(
     rt: &R,
     alloc: Global,
-    desk: SharedDesk<SureKeeper>,
+    desk: SharedDesk<SureKeeper, NoMonitor>,
     first: Pass,
 ) -> Result<usize, Fail>
     requires { IsPassOf desk first }

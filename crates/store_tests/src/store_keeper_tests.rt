@@ -3,7 +3,7 @@ use batch_keeper::{KeepError, Keeper};
 use bt_base::{Fail as Failure, Id, IdFault, NoMemory, Text};
 use bt_rows::tables::Change;
 use bt_rows::task::TaskKey;
-use keeper_store::{Edit, Entries, MemoryStore, Store, Stored};
+use keeper_store::{Edit, Entries, Entry, MemoryStore, MetaName, Store, Stored};
 use row_fields::RowFault;
 use row_texts::{Row, RowKind, row_of};
 use std::alloc::Global;
@@ -11,9 +11,14 @@ use std::test::Fail;
 use store_keeper::StoreKeeper;
 
 /// A store in memory whose content is not visible to contracts.
-#[derive(Drop)]
 struct HiddenStore {
     inner: MemoryStore,
+}
+
+impl Drop for HiddenStore {
+    fn drop(self) {
+        let HiddenStore { inner: _inner } = self;
+    }
 }
 
 impl Store for HiddenStore {
@@ -33,7 +38,7 @@ impl Store for HiddenStore {
 }
 
 /// A row of each kind: the number of the kind, the text and the key.
-fn rows() -> [(u8, &'static str, &'static str); 8] {
+pub fn rows() -> [(u8, &'static str, &'static str); 8] {
     [
         (
             1,
@@ -81,7 +86,7 @@ fn put(alloc: Global, row: Row) -> Result<Change, NoMemory> {
 }
 
 /// Puts of the rows of these kinds, and the next node's number, the next run's and the moment.
-fn puts(
+pub fn puts(
     alloc: Global,
     kinds: &[u8],
     numbers: (u64, u64, u64),
@@ -114,7 +119,7 @@ fn keeper(alloc: Global, fails: Vec<u64>) -> StoreKeeper<HiddenStore> {
 }
 
 /// What is seen of loaded tables: whether they have a pool, a task and a run, the next run's number and the moment.
-type Seen = (bool, bool, bool, u64, u64);
+pub type Seen = (bool, bool, bool, u64, u64);
 
 /// What is seen of the tables at first and after each of three saves.
 fn expected() -> [Seen; 4] {
@@ -127,7 +132,10 @@ fn expected() -> [Seen; 4] {
 }
 
 /// What is seen of the tables that a load returns.
-fn loaded(alloc: Global, keeper: &mut StoreKeeper<HiddenStore>) -> Result<Seen, KeepError> {
+pub fn loaded<S: Store + Drop>(
+    alloc: Global,
+    keeper: &mut StoreKeeper<S>,
+) -> Result<Seen, KeepError> {
     let tables = keeper.load(alloc)?;
     let has_pool = tables.pools().next().is_some();
     let has_task = tables.tasks().next().is_some();
@@ -202,7 +210,7 @@ fn stored_after(alloc: Global, changes: &[Change]) -> Result<Stored, KeepError> 
 }
 
 /// Whether the first of these entries has this text and this key.
-fn has_first(entries: &Entries, text: &str, key: &str) -> bool {
+pub fn has_first(entries: &Entries, text: &str, key: &str) -> bool {
     match entries.as_slice().first() {
         Some(entry) => entry.text.as_str() == text && entry.key.as_str() == key,
         None => false,
@@ -281,9 +289,91 @@ fn a_run_without_its_task_is_not_loaded(rt: HostRuntime) -> Result<(), Fail> {
     let mut second = StoreKeeper::new(store);
     let seen = loaded(alloc, &mut second);
     let saved_again = second.save(alloc, &[]);
+    let line = line_of(alloc, &second);
     drop(second);
     assert!(rt; saved.is_ok() & written.is_ok());
     assert!(rt; matches!(seen, Err(KeepError::Failed)));
     assert!(rt; matches!(saved_again, Err(KeepError::Failed)));
+    let expected = "the task that a run names has no row, or has not had its attempt: run 1";
+    assert_eq!(rt; line?.as_str(), expected);
+    Ok(())
+}
+
+/// The line of the fault of the content that the keeper read last; empty if there is none.
+pub fn line_of<S: Store + Drop>(
+    alloc: Global,
+    keeper: &StoreKeeper<S>,
+) -> Result<String, NoMemory> {
+    match keeper.load_fault() {
+        None => Ok(String::new(alloc)),
+        Some(fault) => Ok(format!(in alloc; "{fault}")?),
+    }
+}
+
+/// The line of the fault of a store that contains the rows of the pool and the job after this edit.
+fn line_after(alloc: Global, edit: Edit) -> Result<String, Fail> {
+    let changes = puts(alloc, &[1, 3], (1, 1, 9))?;
+    let mut first = keeper(alloc, Vec::new(alloc));
+    let saved = first.save(alloc, changes.as_slice());
+    drop(changes);
+    let mut store = first.into_store();
+    let edits = vec![in alloc; edit]?;
+    let written = store.write(alloc, edits.as_slice());
+    drop(edits);
+    let mut second = StoreKeeper::new(store);
+    let seen = loaded(alloc, &mut second);
+    let line = line_of(alloc, &second);
+    drop(second);
+    if saved.is_ok() & written.is_ok() & matches!(seen, Err(KeepError::Failed)) {
+        Ok(line?)
+    } else {
+        Err("loaded".into())
+    }
+}
+
+/// The edit that puts this text under this key.
+fn edit(alloc: Global, kind: RowKind, key: &str, text: &str) -> Result<Edit, NoMemory> {
+    let entry = Entry {
+        key: Text::of_string(String::from_str(alloc, key)?)?,
+        text: Text::of_string(String::from_str(alloc, text)?)?,
+    };
+    Ok(Edit::Put(kind, entry))
+}
+
+#[test]
+fn faults_of_the_content_are_named(rt: HostRuntime) -> Result<(), Fail> {
+    let alloc = rt.alloc();
+    let line = line_after(alloc, edit(alloc, RowKind::Job, "j", "[1]")?)?;
+    assert_eq!(rt;
+        line.as_str(),
+        "a text is not a row, or has another key: job j"
+    );
+    let line = line_after(alloc, Edit::Meta(MetaName::Version, 2))?;
+    assert_eq!(rt;
+        line.as_str(),
+        "the rows have the version 2, which this program does not know"
+    );
+    let scale = edit(
+        alloc,
+        RowKind::Scale,
+        "q",
+        r#"["Q","x = 1;",900000,0,null]"#,
+    )?;
+    let line = line_after(alloc, scale)?;
+    assert_eq!(rt;
+        line.as_str(),
+        "the pool that a row names has no row: scaling q"
+    );
+    let sample = edit(
+        alloc,
+        RowKind::Sample,
+        "p/CpuPercent/31000",
+        r#"["P","CpuPercent",31000,42500000]"#,
+    )?;
+    let line = line_after(alloc, sample)?;
+    assert_eq!(rt;
+        line.as_str(),
+        "a value is out of its range, or a moment is after the last one: sample p/CpuPercent/31000"
+    );
     Ok(())
 }
