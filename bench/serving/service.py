@@ -35,8 +35,8 @@ class Checks:
 class Client:
     """A kept connection."""
 
-    def __init__(self, port):
-        self.connection = http.client.HTTPConnection("127.0.0.1", port, timeout=PATIENCE)
+    def __init__(self, port, patience=PATIENCE):
+        self.connection = http.client.HTTPConnection("127.0.0.1", port, timeout=patience)
 
     def __enter__(self):
         return self
@@ -60,17 +60,17 @@ class Client:
 
 
 class Service:
-    """A running service, in a folder of its own."""
+    """A running service, in a folder of its own. `wrap` are the words of a program that becomes the service, before those of the service."""
 
     started = []
 
-    def __init__(self, path, folder, *words, port=0):
+    def __init__(self, path, folder, *words, port=0, wrap=()):
         self.path, self.folder = path, folder
         self.log = os.path.join(folder, "service.txt")
         begin = os.path.getsize(self.log) if os.path.exists(self.log) else 0
         with open(self.log, "ab") as log:
             self.process = subprocess.Popen(
-                [path, "serve", "--port", str(port), *words], cwd=folder, stdin=subprocess.DEVNULL, stdout=subprocess.PIPE, stderr=log,
+                [*wrap, path, "serve", "--port", str(port), *words], cwd=folder, stdin=subprocess.DEVNULL, stdout=subprocess.PIPE, stderr=log,
                 env={**os.environ, "BENCH_SERVE": "a word"})
         Service.started.append(self)
         self.port = self.port_told(begin)
@@ -83,19 +83,23 @@ class Service:
             log.seek(begin)
             told = log.read()
         port = re.search(r"batch: serves http://127\.0\.0\.1:(\d+)\n", told)
-        if line != b"listening\n" or port is None or "batch-runs" not in told:
+        if line != b"listening\n" or port is None:
             since, status = time.monotonic() - since, self.process.poll()
             self.kill()
             raise RuntimeError(f"the service did not begin in {since:.1f} s, status {status}: {line} {told!r}")
         return int(port[1])
 
-    def client(self):
-        return Client(self.port)
+    def client(self, patience=PATIENCE):
+        return Client(self.port, patience)
 
-    def ask(self, method, path, body=None):
+    def ask(self, method, path, body=None, patience=PATIENCE):
         """One request over a connection of its own."""
-        with self.client() as client:
+        with self.client(patience) as client:
             return client.ask(method, path, body)
+
+    def told(self):
+        """What the service, and those before it in this folder, have written to standard error."""
+        return text_of(self.log)
 
     def counts(self, job):
         return self.ask("GET", f"/jobs/{job}/taskcounts")[1]["taskCounts"]
@@ -137,9 +141,9 @@ class Service:
         for service in cls.started:
             service.kill()
 
-    def ended(self):
+    def ended(self, patience=PATIENCE):
         """Waits for the end of the program: its status, and what it wrote after its first line."""
-        status = self.process.wait(PATIENCE)
+        status = self.process.wait(patience)
         with self.process.stdout as output:
             return status, output.read()
 
@@ -152,6 +156,16 @@ class Service:
         with open(f"/proc/{self.process.pid}/stat", encoding="utf-8") as stat:
             fields = stat.read().rsplit(")", 1)[1].split()
         return (int(fields[11]) + int(fields[12])) / os.sysconf("SC_CLK_TCK")
+
+
+def finished(path, folder, *words, seconds=60):
+    """Runs the program without input to its end: its status, None if it does not end within these seconds, its output, and its lines on
+    standard error."""
+    try:
+        done = subprocess.run([path, *words], cwd=folder, input="", capture_output=True, text=True, timeout=seconds, check=False)
+    except subprocess.TimeoutExpired:
+        return None, "", []
+    return done.returncode, done.stdout, done.stderr.splitlines()
 
 
 def wait_for(is_done, seconds=PATIENCE, pause=0.05):
@@ -186,3 +200,8 @@ def quoted(word):
 def shell(line):
     """A command line that gives the line to the shell."""
     return f"sh -c {quoted(line)}"
+
+
+def at_root(line):
+    """The same, in the folder of the service."""
+    return shell(f"cd $AZ_BATCH_NODE_ROOT_DIR; {line}")

@@ -7,7 +7,7 @@ import subprocess
 import threading
 import time
 
-from service import PATIENCE, Service, is_there, quoted, shell, text_of, wait_for
+from service import PATIENCE, Service, at_root, is_there, quoted, shell, text_of, wait_for
 
 NIGHT, FREE, SHORT = 200, 10, 1000
 
@@ -21,7 +21,7 @@ def parents(n):
 
 def night_task(n):
     stamps = "date +%s%N; echo $AZ_BATCH_POOL_ID $AZ_BATCH_NODE_ID $AZ_BATCH_JOB_ID; date +%s%N"
-    task = {"id": str(n), "commandLine": shell(f"({stamps}) > night/$AZ_BATCH_TASK_ID.txt")}
+    task = {"id": str(n), "commandLine": at_root(f"({stamps}) > night/$AZ_BATCH_TASK_ID.txt")}
     needs = parents(n)
     if len(needs) == 1:
         task["dependsOn"] = {"taskIds": [str(needs[0])]}
@@ -53,7 +53,7 @@ def overlaps(stamps):
 def night(checks, service):
     """The night: half of its tasks are added one by one, and half together."""
     os.mkdir(os.path.join(service.folder, "night"))
-    start_task = {"commandLine": shell("echo $AZ_BATCH_NODE_ID >> night/nodes.txt"), "waitForSuccess": True}
+    start_task = {"commandLine": at_root("echo $AZ_BATCH_NODE_ID >> night/nodes.txt"), "waitForSuccess": True}
     with service.client() as client:
         client.add("/pools", {"id": "p", "targetDedicatedNodes": 4, "startTask": start_task})
         client.add("/jobs", {"id": "night", "poolInfo": {"poolId": "p"}, "usesTaskDependencies": True})
@@ -83,14 +83,14 @@ def condition_tasks():
     """Tasks that end in each way, and for each one that depends on it, which writes a file."""
     tries = "echo try >> ends/tries.txt; test $(wc -l < ends/tries.txt) -ge 3"
     tasks = [
-        {"id": "code", "commandLine": shell("exit 5"), "exitConditions": {"exitCodes": [{"code": 5, "exitOptions": no_action(True)}]}},
-        {"id": "range", "commandLine": shell("exit 7"),
+        {"id": "code", "commandLine": at_root("exit 5"), "exitConditions": {"exitCodes": [{"code": 5, "exitOptions": no_action(True)}]}},
+        {"id": "range", "commandLine": at_root("exit 7"),
          "exitConditions": {"exitCodeRanges": [{"start": 6, "end": 9, "exitOptions": no_action(False)}], "default": no_action(True)}},
         {"id": "missing", "commandLine": "/no/such/program", "exitConditions": {"preProcessingError": no_action(True), "default": no_action(False)}},
-        {"id": "signal", "commandLine": shell("kill -9 $$"), "exitConditions": {"default": no_action(True)}},
-        {"id": "tries", "commandLine": shell(tries), "constraints": {"maxTaskRetryCount": 5}},
+        {"id": "signal", "commandLine": at_root("kill -9 $$"), "exitConditions": {"default": no_action(True)}},
+        {"id": "tries", "commandLine": at_root(tries), "constraints": {"maxTaskRetryCount": 5}},
     ]
-    afters = [{"id": f"after-{task['id']}", "commandLine": shell("echo ran > ends/$AZ_BATCH_TASK_ID.txt"), "dependsOn": {"taskIds": [task["id"]]}}
+    afters = [{"id": f"after-{task['id']}", "commandLine": at_root("echo ran > ends/$AZ_BATCH_TASK_ID.txt"), "dependsOn": {"taskIds": [task["id"]]}}
               for task in tasks]
     return tasks + afters
 
@@ -104,8 +104,8 @@ def conditions(checks, service):
         for name in ("ends", "ending", "pausing"):
             client.add("/jobs", {"id": name, **job})
         client.add("/jobs/ends/addtaskcollection", {"value": condition_tasks()})
-        client.add("/jobs/ending/tasks", {"id": "t", "commandLine": shell("exit 3")})
-        client.add("/jobs/pausing/tasks", {"id": "t", "commandLine": shell("exit 3"), "exitConditions": disables})
+        client.add("/jobs/ending/tasks", {"id": "t", "commandLine": at_root("exit 3")})
+        client.add("/jobs/pausing/tasks", {"id": "t", "commandLine": at_root("exit 3"), "exitConditions": disables})
     done, rows = service.settled("ends", active=1), {row["id"]: row for row in service.tasks("ends")}
     checks.check("the tasks of the exit conditions end", done, rows)
     found = {name: rows[name].get("exit") for name in ("code", "range", "missing", "signal", "tries")}
@@ -123,47 +123,56 @@ def conditions(checks, service):
     checks.check("a code disables its job", is_paused, job)
 
 
-def numbers_of(folder, name, text):
-    """The numbers of the runs whose files of this name have the text."""
-    names = os.listdir(os.path.join(folder, "batch-runs"))
-    return [it.split("-")[1] for it in names if it.startswith(name) and text_of(folder, "batch-runs", it) == text]
+def runs_with(service, name, text):
+    """The runs of the job `told` whose file of this name has the text, as TASK/RUN."""
+    places = [place for place, _, names in os.walk(os.path.join(service.folder, "night.db-runs", "told")) if name in names]
+    return sorted("/".join(place.split("/")[-2:]) for place in places if text_of(place, name) == text)
 
 
 def surroundings(checks, service):
     """What a child program gets."""
     line = shell("pwd; echo $BENCH_SERVE; printf '[%s]' \"$@\"; echo told >&2") + ' sh "a b" "" "\\"" c"d e"f'
-    told = f"{os.path.realpath(service.folder)}\na word\n[a b][][\"][cd ef]"
+    names = ("POOL_ID", "NODE_ID", "JOB_ID", "TASK_ID", "TASK_DIR", "TASK_WORKING_DIR", "NODE_ROOT_DIR", "NODE_SHARED_DIR")
+    variables = shell("; ".join(f"echo ${{AZ_BATCH_{name}}}" for name in names) + "; cd ${AZ_BATCH_NODE_SHARED_DIR} && pwd")
     with service.client() as client:
         client.add("/jobs", {"id": "told", "poolInfo": {"poolId": "p"}})
         client.add("/jobs/told/tasks", {"id": "t", "commandLine": line})
+        client.add("/jobs/told/tasks", {"id": "names", "commandLine": variables})
         client.add("/jobs/told/tasks", {"id": "files", "commandLine": "ls /proc/self/fd"})
         client.add("/jobs/told/tasks", {"id": "signals", "commandLine": "grep -E ^Sig(Blk|Ign) /proc/self/status"})
         client.add("/jobs/told/tasks", {"id": "child", "commandLine": f"{quoted(service.path)} child 259"})
-    done = service.settled("told")
-    outputs = numbers_of(service.folder, "stdout", told)
-    checks.check("a child program has its words, the folder and the environment of the service", done and len(outputs) == 1, outputs)
-    errors = numbers_of(service.folder, "stderr", "told\n")
+    done, root = service.settled("told"), os.path.realpath(service.folder)
+    run = max(os.listdir(os.path.join(root, "night.db-runs", "told", "t")), key=int, default="0")
+    folder = f"{root}/night.db-runs/told/t/{run}"
+    outputs = runs_with(service, "stdout.txt", f"{folder}/wd\na word\n[a b][][\"][cd ef]")
+    checks.check("a child program has its words, a working folder of its run, and the environment of the service", done and outputs == [f"t/{run}"], outputs)
+    errors = runs_with(service, "stderr.txt", "told\n")
     checks.check("what it writes is in two files of its run", errors == outputs, errors)
-    alone = numbers_of(service.folder, "stdout", "0\n1\n2\n3\n")
+    run = max(os.listdir(os.path.join(root, "night.db-runs", "told", "names")), key=int, default="0")
+    text, folder = text_of(root, "night.db-runs", "told", "names", run, "stdout.txt").split("\n"), f"{root}/night.db-runs/told/names/{run}"
+    wanted = ["p", "told", "names", folder, f"{folder}/wd", root, f"{root}/shared", f"{root}/shared", ""]
+    is_so = text[:1] + text[2:] == wanted and re.fullmatch(r"node-\d+", text[1]) is not None
+    checks.check("and the names of its pool, node, job, task and folders", is_so, text)
+    alone = runs_with(service, "stdout.txt", "0\n1\n2\n3\n")
     checks.check("it has its standard streams, and no other open file", len(alone) == 1, alone)
     # the C library may ignore signals 32 and 33, which it keeps for itself
     none, own = "0" * 16, "0000000180000000"
     texts = [f"SigBlk:\t{none}\nSigIgn:\t{ignored}\n" for ignored in (none, own)]
-    signals = [it for text in texts for it in numbers_of(service.folder, "stdout", text)]
+    signals = [it for text in texts for it in runs_with(service, "stdout.txt", text)]
     checks.check("no signal is blocked for it, or ignored but by the C library", len(signals) == 1, signals)
-    child, exit_text = numbers_of(service.folder, "stdout", "child 259\n"), service.task("told", "child").get("exit")
+    child, exit_text = runs_with(service, "stdout.txt", "child 259\n"), service.task("told", "child").get("exit")
     checks.check("`batch child 259` writes that, and ends with code 3", len(child) == 1 and exit_text == "3", (child, exit_text))
 
 
 def waiting(name):
     """A command line that waits for the end of its input, and then writes a file."""
-    return shell(f"echo begun > stops/{name}-begun.txt; cat; echo closed > stops/{name}.txt")
+    return at_root(f"echo begun > stops/{name}-begun.txt; cat; echo closed > stops/{name}.txt")
 
 
 def ended_around(name):
     """The same, around a program that does not read its input."""
     ends = f"cat <&3; echo closed > stops/{name}.txt; kill $$ 2> /dev/null"
-    return shell(f"echo begun > stops/{name}-begun.txt; exec 3<&0; ({ends}) & exec sleep 1000")
+    return at_root(f"echo begun > stops/{name}-begun.txt; exec 3<&0; ({ends}) & exec sleep 1000")
 
 
 def stopped(checks, service, name, exit_text, ask, **job):
@@ -189,8 +198,8 @@ def stops(checks, service):
     stopped(checks, service, "wall", "wall", None)
     stopped(checks, service, "task", "terminated", "/jobs/task/tasks/t/terminate")
     stopped(checks, service, "around", "terminated", "/jobs/around/terminate")
-    around = {"jobPreparationTask": {"commandLine": shell("echo $AZ_BATCH_NODE_ID >> stops/prepared.txt")},
-              "jobReleaseTask": {"commandLine": shell("echo $AZ_BATCH_NODE_ID >> stops/released.txt")}}
+    around = {"jobPreparationTask": {"commandLine": at_root("echo $AZ_BATCH_NODE_ID >> stops/prepared.txt")},
+              "jobReleaseTask": {"commandLine": at_root("echo $AZ_BATCH_NODE_ID >> stops/released.txt")}}
     stopped(checks, service, "job", "terminated", "/jobs/job/terminate", **around)
     is_ended, job = service.comes_to("job", "completed")
     checks.check("the terminated job is completed", is_ended and job.get("terminateReason") == "UserTerminate", job)
@@ -203,7 +212,7 @@ def add_until_gone(service, prefix, added):
     with contextlib.suppress(OSError, http.client.HTTPException), service.client() as client:
         for n in range(1, 501):
             name = f"{prefix}-{n}"
-            line = shell("echo run >> kills/$AZ_BATCH_TASK_ID.txt")
+            line = at_root("echo run >> kills/$AZ_BATCH_TASK_ID.txt")
             if client.ask("POST", "/jobs/kills/tasks", {"id": name, "commandLine": line})[0] == 201:
                 added.append(name)
 
@@ -215,7 +224,7 @@ def killed(service, number, count):
     with service.client() as client:
         for name in added:
             # it waits for the end of its input, the first time that it is run
-            client.add("/jobs/kills/tasks", {"id": name, "commandLine": shell(f"echo run >> {told}; test $(wc -l < {told}) = 2 || cat")})
+            client.add("/jobs/kills/tasks", {"id": name, "commandLine": at_root(f"echo run >> {told}; test $(wc -l < {told}) = 2 || cat")})
     begun = all([is_there(service.folder, "kills", f"{name}.txt") for name in added])
     clients = [threading.Thread(target=add_until_gone, args=(service, f"{number}-{n}", added)) for n in range(4)]
     for each in clients:
@@ -265,7 +274,7 @@ def last(checks, path, folder):
     service = Service(path, folder, "--store", "night.db", "--connections", "1")
     with service.client() as client:
         client.add("/jobs", {"id": "last", "poolInfo": {"poolId": "p"}})
-        client.add("/jobs/last/tasks", {"id": "t", "commandLine": shell("echo begun > begun.txt; sleep 2; echo ended > ended.txt")})
+        client.add("/jobs/last/tasks", {"id": "t", "commandLine": at_root("echo begun > begun.txt; sleep 2; echo ended > ended.txt")})
         begun = is_there(folder, "begun.txt")
     status, output = service.ended()
     checks.check("a service of one connection ends with status 0", (status, output) == (0, b""), (status, output))
