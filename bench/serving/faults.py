@@ -120,12 +120,13 @@ def over_small(checks, service, folder, small):
     kinds = {status: statuses.count(status) for status in set(statuses)}
     checks.check(f"disk: while it is full, tasks are refused or acknowledged ({kinds})", set(statuses) <= {201, 500}, statuses)
     checks.check(f"disk: the service takes {share:.1f} % of a processor meanwhile, under 5 ({rest:.1f} % before)", share < 5)
-    room = time.time() * 1000
     os.remove(os.path.join(small, "fill"))
     made_room(checks, service, acknowledged, before)
-    first = min((place for place, moment in places(runs) if moment >= room), default=0)
-    entries = (first - last - len(statuses)) / seconds * 60
-    checks.check(f"disk: {entries:.0f} entries a minute were made meanwhile beside the requests, at most 200", 0 < first and entries <= 200, (last, first))
+    # the log has the place of each call in the journal, and is written a moment after it
+    time.sleep(1)
+    end = max(places(runs), default=(0, 0))[0]
+    entries = (end - last - len(statuses)) / seconds * 60
+    checks.check(f"disk: {entries:.0f} entries a minute were made meanwhile beside the requests, at most 200", last < end and entries <= 200, (last, end))
     service.kill()
     tables = exported(service.path, os.path.join(small, "night.db"))
     lost = [name for name in acknowledged if f"\ntask j {name} completed success" not in tables]
