@@ -7,7 +7,9 @@ use Rattle.httparse.specs.Pieces.{Stops, is_newline}
 use Rattle.httparse.proofs.PieceLemmas.{Stops_token}
 use Rattle.httparse.proofs.GrammarLemmas.{print_request-append, request_prefix_free}
 use Rattle.http_head.specs.declared.heads.TheConstants.{FIELD_LIMIT}
+use Rattle.http_head.specs.Heads.{HasManyFields}
 use Rattle.http_head.specs.Lines.{is_line_byte, is_line_feed, skip_empty_lines, lines_ended}
+use Rattle.http_head.proofs.FewLines.{HasManyLines}
 
 -- how many line feeds there are
 abbrev pub feeds : List ℕ → ℕ
@@ -97,3 +99,13 @@ front_has_lines front h reads many =
       ap lines_ended reads.1,
       lines_of_head h reads.0.method.0 (Stops_token h.method _ reads.0.method.0 reads.0.method.1),
     )
+
+-- fields that are too many are lines that are too many
+pub many_lines_of : {bytes : List ℕ} → HasManyFields bytes → HasManyLines bytes
+many_lines_of {bytes} (front, rest, cut, h, reads, many) = record {
+  front = front;
+  rest = rest;
+  cut = cut;
+  no_head = front_has_no_head front h reads;
+  many = front_has_lines front h reads many;
+}

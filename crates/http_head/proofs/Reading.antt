@@ -1,17 +1,19 @@
 -- What stands at the front of bytes stands there whatever follows.
-use Rattle.std.proofs.Common.{◌≡◌, ◌≤◌, ◌<◌, ◌+◌, ◌-◌, ◌⊎◌, inl, inr, ℕ, zero, suc, List, [], ◌∷◌, ◌++◌, length, take, drop, refl, sym, ap, ◌∙◌, arith, subst, append_assoc, length-drop, length-take, min}
-use Rattle.std.proofs.lemmas.List.{take-append-drop, take-append-le, drop-append-le, take_all, append-nil}
-use Rattle.httparse.specs.Grammar.{ReadsRequest, NeverHasRequest, HasNoRequest, MayBecomeRequest}
-use Rattle.httparse.specs.Spans.{span_bytes, IsWithin, RequestExceeds}
+use Rattle.std.proofs.Common.{◌≡◌, ◌≢◌, ◌≤◌, ◌<◌, ◌+◌, ◌-◌, ◌⊎◌, inl, inr, ℕ, zero, suc, List, [], ◌∷◌, ◌++◌, length, take, drop, refl, sym, ap, ◌∙◌, arith, subst, append_assoc, length-drop, length-take, min}
+use Rattle.std.proofs.lemmas.List.{take-append-drop, take-append-le, drop-append-le, take_all}
+use Rattle.httparse.specs.Grammar.{ReadsRequest, NeverHasRequest, HasNoRequest, MayBecomeRequest, EndsInTarget}
+use Rattle.httparse.specs.Spans.{span_bytes, IsWithin}
 use Rattle.httparse.specs.declared.spans.Span.{Span}
 use Rattle.httparse.proofs.GrammarLemmas.{ReadsRequest-append}
 use Rattle.http_head.specs.declared.heads.Head.{Head}
 use Rattle.http_head.specs.declared.heads.HeadRead.{HeadRead}
 use Rattle.http_head.specs.declared.heads.HeadRead.TheVariants.{Found, More, Bad, TooLong}
-use Rattle.http_head.specs.Heads.{IsHead, HasLongHead, NeverHasHead, IsHeadRead, StaysRead}
+use Rattle.http_head.specs.Heads.{IsHead, HasManyFields, HasLongHead, NeverHasHead, IsOpen, IsHeadRead, StaysRead}
 use Rattle.http_head.specs.declared.heads.TheConstants.{HEAD_LIMIT, FIELD_LIMIT}
-use Rattle.http_head.specs.Lines.{HasManyLines, lines_ended}
-use Rattle.http_head.proofs.LineCounts.{front_has_no_head, front_has_lines}
+use Rattle.http_head.specs.Lines.{lines_ended}
+use Rattle.http_head.proofs.FewLines.{lines_grow}
+use Rattle.http_head.proofs.LineCounts.{many_lines_of}
+use Rattle.http_head.proofs.TargetEnds.{target_never}
 
 -- a longer list is no shorter
 length_grows : (xs ys : List ℕ) → length xs ≤ length (xs ++ ys)
@@ -49,15 +51,11 @@ head_on {front} {head} tail (h, at) = (
 pub never_on : (front tail : List ℕ) → NeverHasRequest front → NeverHasRequest (front ++ tail)
 never_on front tail never more h rest reads = never (tail ++ more) h rest (subst (λ w. ReadsRequest w h rest) (append_assoc front tail more) reads)
 
--- what the parser says of too many fields is said by lines
-pub many_lines_of : {bytes : List ℕ} → RequestExceeds FIELD_LIMIT bytes → HasManyLines bytes
-many_lines_of {bytes} (front, rest, cut, h, reads, many) = record {
-  front = front;
-  rest = rest;
-  cut = cut;
-  no_head = front_has_no_head front h reads;
-  many = front_has_lines front h reads many;
-}
+-- few lines are few fields
+few_by_lines : (bytes : List ℕ) → lines_ended bytes ≤ FIELD_LIMIT + 1 → ¬ HasManyFields bytes
+few_by_lines bytes few x =
+    let m = many_lines_of x in
+    omega (arith, few, m.many, lines_grow m.front m.rest, ap lines_ended m.cut)
 
 -- the front that is looked at
 pub front_is : (n m : ℕ) (bytes : List ℕ) → m ≡ min (length bytes) n → take m bytes ≡ take n bytes
@@ -86,13 +84,23 @@ long_by_bytes bytes m e full open_yet =
     let same = front_is HEAD_LIMIT m bytes e in
     inl (omega (arith, e, full, length-take m bytes), subst HasNoRequest same open_yet.0, subst MayBecomeRequest same open_yet.1)
 
--- a head is too long by its lines
-pub long_by_lines : (bytes : List ℕ) (m : ℕ) → m ≡ min (length bytes) HEAD_LIMIT → HasManyLines (take m bytes) → HasLongHead bytes
-long_by_lines bytes m e many = inr (subst HasManyLines (front_is HEAD_LIMIT m bytes e) many)
+-- a head is too long by its fields
+pub long_by_fields : (bytes : List ℕ) (m : ℕ) → m ≡ min (length bytes) HEAD_LIMIT → HasManyFields (take m bytes) → HasLongHead bytes
+long_by_fields bytes m e many = inr (subst HasManyFields (front_is HEAD_LIMIT m bytes e) many)
 
--- all lines of the bytes are too many
-pub lines_here : (bytes : List ℕ) → HasNoRequest bytes → FIELD_LIMIT + 1 < lines_ended bytes → HasManyLines bytes
-lines_here bytes none many = record { front = bytes; rest = []; cut = sym (append-nil bytes); no_head = none; many = many }
+-- a head may still come
+pub open_here : (bytes : List ℕ) (m : ℕ) → m ≡ min (length bytes) HEAD_LIMIT → length (take m bytes) ≢ HEAD_LIMIT →
+    HasNoRequest (take m bytes) × MayBecomeRequest (take m bytes) → lines_ended (take m bytes) ≤ FIELD_LIMIT + 1 → IsOpen bytes
+open_here bytes m e part open_yet few =
+    let short : length bytes < HEAD_LIMIT = omega (arith, e, part, length-take m bytes) in
+    let whole : length bytes ≤ m = omega (arith, e, short) in
+    let same = take_all m bytes whole in
+    record {
+      short = short;
+      no_head = subst HasNoRequest same open_yet.0;
+      may_become = subst MayBecomeRequest same open_yet.1;
+      few = few_by_lines bytes (subst (λ w. lines_ended w ≤ FIELD_LIMIT + 1) same few);
+    }
 
 -- the first n bytes of two texts
 take_on : (n : ℕ) (front tail : List ℕ) → take n (front ++ tail) ≡ take n front ++ take (n - length front) tail
@@ -104,24 +112,20 @@ take_on (suc k) (x ∷ front) tail =
 
 -- the same three for what is at the front within the limit
 pub bad_on : (front tail : List ℕ) → NeverHasHead front → NeverHasHead (front ++ tail)
-bad_on front tail never =
-    subst NeverHasRequest (sym (take_on HEAD_LIMIT front tail)) (never_on (take HEAD_LIMIT front) (take (HEAD_LIMIT - length front) tail) never)
+bad_on front tail (never, outside) =
+    let seen = take HEAD_LIMIT front in
+    let more = take (HEAD_LIMIT - length front) tail in
+    subst (λ w. NeverHasRequest w × ¬ EndsInTarget w) (sym (take_on HEAD_LIMIT front tail)) (never_on seen more never, target_never seen more never outside)
 
-many_on : (front tail : List ℕ) → HasManyLines front → HasManyLines (front ++ tail)
-many_on front tail m = record {
-  front = m.front;
-  rest = m.rest ++ tail;
-  cut = ap (λ w. w ++ tail) m.cut ∙ append_assoc m.front m.rest tail;
-  no_head = m.no_head;
-  many = m.many;
-}
+many_on : (front tail : List ℕ) → HasManyFields front → HasManyFields (front ++ tail)
+many_on front tail (fields, rest, cut, h, reads, many) = (fields, rest ++ tail, ap (λ w. w ++ tail) cut ∙ append_assoc fields rest tail, h, reads, many)
 
 pub long_on : (front tail : List ℕ) → HasLongHead front → HasLongHead (front ++ tail)
 long_on front tail (inl h) =
     let same = sym (take-append-le HEAD_LIMIT front tail h.0) in
     inl (omega (arith, h.0, length_grows front tail), subst HasNoRequest same h.1, subst MayBecomeRequest same h.2)
 long_on front tail (inr h) =
-    inr (subst HasManyLines (sym (take_on HEAD_LIMIT front tail)) (many_on (take HEAD_LIMIT front) (take (HEAD_LIMIT - length front) tail) h))
+    inr (subst HasManyFields (sym (take_on HEAD_LIMIT front tail)) (many_on (take HEAD_LIMIT front) (take (HEAD_LIMIT - length front) tail) h))
 
 -- what was read of some bytes is read of more bytes too, unless a head may still come
 pub stays_read : (bytes : List ℕ) (read : HeadRead) → IsHeadRead bytes read → StaysRead bytes read

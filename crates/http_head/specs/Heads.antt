@@ -1,6 +1,6 @@
 -- What is at the front of bytes: a head, the beginning of one, or neither (RFC 9112, section 2, as the kit's `httparse` states it).
 use Rattle.std.specs.Prelude.{◌≡◌, ℕ, ◌<◌, ◌≤◌, ◌+◌, ◌⊎◌, List, length, take, drop, ◌++◌, ⊤}
-use Rattle.httparse.specs.Grammar.{RequestHead, print_request, ReadsRequest, HasNoRequest, NeverHasRequest, MayBecomeRequest}
+use Rattle.httparse.specs.Grammar.{RequestHead, print_request, ReadsRequest, HasNoRequest, NeverHasRequest, MayBecomeRequest, EndsInTarget}
 use Rattle.httparse.specs.Spans.{span_bytes, IsWithin, RequestExceeds}
 use Rattle.http_head.specs.declared.heads.TheConstants.{HEAD_LIMIT, FIELD_LIMIT}
 use Rattle.http_head.specs.declared.heads.Head.{Head}
@@ -10,7 +10,6 @@ use Rattle.http_head.specs.declared.heads.HeadRead.{HeadRead}
 use Rattle.http_head.specs.declared.heads.HeadRead.TheVariants.{Found, More, Bad, TooLong}
 use Rattle.http_head.specs.Fields.{fields_of, has_origin}
 use Rattle.http_head.specs.Framing.{framing_of, is_last}
-use Rattle.http_head.specs.Lines.{HasManyLines, lines_ended}
 
 -- the head of the grammar at the front of the bytes, and what is kept of it
 pub record IsHeadAt (bytes : List ℕ) (head : Head) (h : RequestHead) : Type 0 where
@@ -30,29 +29,40 @@ pub record IsHeadAt (bytes : List ℕ) (head : Head) (h : RequestHead) : Type 0 
 abbrev pub IsHead : List ℕ → Head → Type 0
 IsHead bytes head = (h : RequestHead) × IsHeadAt bytes head h
 
--- what the parser answered
+-- more fields than the limit have come: a prefix of the bytes, and then an empty line, are a head that has more
+abbrev pub HasManyFields : List ℕ → Type 0
+HasManyFields bytes = RequestExceeds FIELD_LIMIT bytes
+
+-- what the kit's parser answered; it does not say of an invalid head whether the bytes end inside a target
+abbrev pub IsAnswer : List ℕ → Parsed → Type 0
+IsAnswer bytes (Whole head) = IsHead bytes head
+IsAnswer bytes Partial = HasNoRequest bytes × MayBecomeRequest bytes
+IsAnswer bytes TooMany = HasManyFields bytes
+IsAnswer bytes Invalid = NeverHasRequest bytes
+
+-- what was parsed: bytes that end inside a target are the beginning of a head, whatever the target is
 abbrev pub IsParsed : List ℕ → Parsed → Type 0
 IsParsed bytes (Whole head) = IsHead bytes head
 IsParsed bytes Partial = HasNoRequest bytes × MayBecomeRequest bytes
-IsParsed bytes TooMany = RequestExceeds FIELD_LIMIT bytes
-IsParsed bytes Invalid = NeverHasRequest bytes
+IsParsed bytes TooMany = HasManyFields bytes
+IsParsed bytes Invalid = NeverHasRequest bytes × ¬ EndsInTarget bytes
 
--- no bytes can follow that make a head within the limit of bytes
+-- no bytes can follow that make a head within the limit of bytes, and those that are looked at do not end inside a target
 abbrev pub NeverHasHead : List ℕ → Type 0
-NeverHasHead bytes = NeverHasRequest (take HEAD_LIMIT bytes)
+NeverHasHead bytes = NeverHasRequest (take HEAD_LIMIT bytes) × ¬ EndsInTarget (take HEAD_LIMIT bytes)
 
 -- the first bytes, as many as the limit, hold no head though they could become one, or more fields than their limit have come
 abbrev pub HasLongHead : List ℕ → Type 0
 HasLongHead bytes =
     ((HEAD_LIMIT ≤ length bytes) × HasNoRequest (take HEAD_LIMIT bytes) × MayBecomeRequest (take HEAD_LIMIT bytes))
-    ⊎ HasManyLines (take HEAD_LIMIT bytes)
+    ⊎ HasManyFields (take HEAD_LIMIT bytes)
 
 -- a head may still come
 pub record IsOpen (bytes : List ℕ) : Type 0 where
   pub short : length bytes < HEAD_LIMIT
   pub no_head : HasNoRequest bytes
   pub may_become : MayBecomeRequest bytes
-  pub lines : lines_ended bytes ≤ FIELD_LIMIT + 1
+  pub few : ¬ HasManyFields bytes
 
 -- what is at the front of bytes, as far as they have come
 abbrev pub IsHeadRead : List ℕ → HeadRead → Type 0

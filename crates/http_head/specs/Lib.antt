@@ -3,3 +3,4 @@ pub mod Framing
 pub mod Heads
 pub mod Items
 pub mod Lines
+pub mod Targets

@@ -3,11 +3,12 @@ ghost use Rattle.std.specs.Prelude.{◌≡◌, ◌≤◌, length, map, All, take
 ghost use Rattle.httparse.specs.Spans.{IsHeaderWithin, IsRequestWithin, IsRequestAt, IsRequestOf, header_bytes};
 ghost use Rattle.http_head.specs.Fields.{has_origin};
 ghost use Rattle.http_head.specs.Framing.{framing_of, is_last};
-ghost use Rattle.http_head.specs.Heads.{IsHead, IsParsed, IsHeadRead, StaysRead};
+ghost use Rattle.http_head.specs.Heads.{IsHead, IsAnswer, IsParsed, IsHeadRead, StaysRead};
 ghost use Rattle.http_head.specs.Lines.{lines_ended};
 
 use crate::fields::has_origin;
 use crate::framing::{Framing, ends_after, frame};
+use crate::targets::ends_in_target;
 use httparse::spans::{EMPTY_HEADER_SPAN, HeaderSpan, RequestSpans, Span, parse_request};
 use httparse::{Error, Status};
 
@@ -80,9 +81,9 @@ fn head_of(buf: &[u8], spans: &RequestSpans, fields: &[HeaderSpan]) -> Head
     }
 }
 
-/// Parses the bytes.
-fn parse(buf: &[u8]) -> Parsed
-    ensures { IsParsed buf.now result }
+/// What the kit's parser makes of the bytes.
+pub(crate) fn ask_parser(buf: &[u8]) -> Parsed
+    ensures { IsAnswer buf.now result }
 {
     let mut fields = [EMPTY_HEADER_SPAN; FIELD_LIMIT];
     match parse_request(buf, &mut fields) {
@@ -94,6 +95,25 @@ fn parse(buf: &[u8]) -> Parsed
         Ok(Status::Partial) => Parsed::Partial,
         Err(Error::TooManyHeaders) => Parsed::TooMany,
         Err(_) => Parsed::Invalid,
+    }
+}
+
+/// Parses the bytes. Those that end inside a target are the beginning of a head, whether or not it is UTF-8.
+#[tactic(auto, using(crate::proofs::TargetEnds::begun))]
+fn parse(buf: &[u8]) -> Parsed
+    ensures { IsParsed buf.now result }
+{
+    match ask_parser(buf) {
+        Parsed::Whole(head) => Parsed::Whole(head),
+        Parsed::Partial => Parsed::Partial,
+        Parsed::TooMany => Parsed::TooMany,
+        Parsed::Invalid => {
+            if ends_in_target(buf) {
+                Parsed::Partial
+            } else {
+                Parsed::Invalid
+            }
+        }
     }
 }
 
@@ -128,8 +148,8 @@ fn read_front(buf: &[u8]) -> HeadRead
 }
 
 /// Reads the head at the front of the bytes, as far as they have come. Only the first `HEAD_LIMIT` bytes are looked at. Once a
-/// head is found, or cannot come any more, further bytes do not change that. More fields than the limit are known by the lines
-/// that have ended, also if the head has no end yet.
+/// head is found, or cannot come any more, further bytes do not change that. More fields than the limit are known once they have
+/// come, also if the head has no end yet. Bytes that end inside a target are the beginning of a head, whether or not it is UTF-8.
 pub fn read_head(buf: &[u8]) -> HeadRead
     ensures read { IsHeadRead buf.now result }
     ensures stays { StaysRead buf.now result }

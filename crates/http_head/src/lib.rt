@@ -10,6 +10,7 @@ mod framing;
 mod heads;
 mod items;
 mod names;
+mod targets;
 
 pub use framing::{BODY_LIMIT, Framing};
 pub use heads::{FIELD_LIMIT, HEAD_LIMIT, Head, HeadRead, read_head};

@@ -1,17 +1,18 @@
 -- Two ends that the same bytes allow.
-use Rattle.std.proofs.Common.{◌≡◌, ◌-◌, ◌+◌, ◌<◌, ◌≤◌, ◌⊎◌, ℕ, false, List, [], ◌∷◌, length, take, refl, sym, ap, ◌∙◌, subst, arith, rules, inl, inr}
+use Rattle.std.proofs.Common.{◌≡◌, ◌-◌, ◌<◌, ◌⊎◌, ℕ, false, List, [], ◌∷◌, length, take, refl, sym, ap, ◌∙◌, subst, arith, rules, inl, inr}
 use Rattle.std.proofs.lemmas.List.{append-nil, take_all}
 use Rattle.std.proofs.lemmas.Str.{IsUtf8-from_ascii}
 use Rattle.std.proofs.lemmas.List.Elements.{All-cons, All-nil}
 use Rattle.httparse.specs.Grammar.{lf, RequestHead, IsRequestHead, print_request, ReadsRequest, EndsInTarget, NeverHasRequest, MayBecomeRequest, is_token_byte}
 use Rattle.http_head.specs.declared.framing.Framing.TheVariants.{Bad, TooLong, Body}
-use Rattle.http_head.specs.declared.heads.TheConstants.{HEAD_LIMIT, FIELD_LIMIT}
-use Rattle.http_head.specs.Heads.{NeverHasHead, HasLongHead, IsOpen}
-use Rattle.http_head.specs.Lines.{HasManyLines, lines_ended}
+use Rattle.http_head.specs.declared.heads.TheConstants.{HEAD_LIMIT}
+use Rattle.http_head.specs.Heads.{NeverHasHead, HasManyFields, HasLongHead, IsOpen}
+use Rattle.http_head.specs.Lines.{lines_ended}
+use Rattle.http_head.proofs.FewLines.{not_many, lines_grow}
+use Rattle.http_head.proofs.LineCounts.{many_lines_of}
 use Rattle.http_serving.specs.declared.end.End.{End}
 use Rattle.http_serving.specs.declared.end.End.TheVariants.{Closed, Asked, Spent, Truncated, BadHead, BadFraming, OriginRefused, HeadTooLong, BodyTooLong, LinkFault, Memory}
 use Rattle.http_serving.specs.Reading.{BeginsWith, framing, names_origin, IsRefused, IsLong, AllowsEnd, IsFault}
-use Rattle.http_laws.proofs.FewLines.{not_many, lines_grow}
 use Rattle.http_laws.proofs.Telling.{same_head, in_front, some_byte, kind_of, tells_apart}
 use Rattle.http_laws.specs.Ends.{Agree, IsInDoubt, EndsAgree}
 
@@ -39,9 +40,9 @@ by_body {bytes} {h} {rest} Spent x s = absurd s
 by_body {bytes} {h} {rest} Closed x s = absurd (omega (arith, some_byte x, ap length s))
 by_body {bytes} {h} {rest} BadHead x s =
     let after = take (HEAD_LIMIT - length (print_request h)) rest in
-    absurd (s [] h after (subst (λ w. ReadsRequest w h after) (sym (append-nil (take HEAD_LIMIT bytes))) (in_front x)))
+    absurd (s.0 [] h after (subst (λ w. ReadsRequest w h after) (sym (append-nil (take HEAD_LIMIT bytes))) (in_front x)))
 by_body {bytes} {h} {rest} HeadTooLong x (inl l) = absurd (l.1 h _ (in_front x))
-by_body {bytes} {h} {rest} HeadTooLong x (inr m) = absurd (not_many _ (in_front x) x.few m)
+by_body {bytes} {h} {rest} HeadTooLong x (inr m) = absurd (not_many _ (in_front x) x.few (many_lines_of m))
 by_body {bytes} {h} {rest} Truncated x (inl o) = absurd (o.1.no_head h rest x.reads)
 by_body {bytes} {h} {rest} Truncated x (inr t) =
     let same = same_head x t.begins in
@@ -93,35 +94,34 @@ is_head = record {
 }
 
 can_come : NeverHasHead [] → ⊥
-can_come n = n (print_request witness) witness [] (is_head, sym (append-nil (print_request witness)))
+can_come n = n.0 (print_request witness) witness [] (is_head, sym (append-nil (print_request witness)))
 
--- an open head that can never come ends in its target
-open_never : {bytes : List ℕ} → MayBecomeRequest bytes → NeverHasRequest bytes → EndsInTarget bytes
-open_never {bytes} (inl (more, h, reads)) n = absurd (n more h [] reads)
-open_never {bytes} (inr t) n = t
+-- a head that may come is not one that never can
+open_never : {bytes : List ℕ} → MayBecomeRequest bytes → NeverHasRequest bytes × ¬ EndsInTarget bytes → ⊥
+open_never {bytes} (inl (more, h, reads)) n = n.0 more h [] reads
+open_never {bytes} (inr t) n = n.1 t
 
-short_front : (bytes : List ℕ) → length bytes < HEAD_LIMIT → take HEAD_LIMIT bytes ≡ bytes
+pub short_front : (bytes : List ℕ) → length bytes < HEAD_LIMIT → take HEAD_LIMIT bytes ≡ bytes
 short_front bytes less = take_all HEAD_LIMIT bytes (omega (arith, less))
-
-no_lines : {bytes : List ℕ} → lines_ended bytes ≤ FIELD_LIMIT + 1 → HasManyLines bytes → ⊥
-no_lines {bytes} few m = omega (arith, few, m.many, lines_grow m.front m.rest, ap lines_ended m.cut)
 
 open_long : {bytes : List ℕ} → IsOpen bytes → HasLongHead bytes → ⊥
 open_long {bytes} o (inl l) = omega (arith, o.short, l.0)
-open_long {bytes} o (inr m) = no_lines o.lines (subst HasManyLines (short_front bytes o.short) m)
+open_long {bytes} o (inr m) = o.few (subst HasManyFields (short_front bytes o.short) m)
 
 none_long : {bytes : List ℕ} → bytes ≡ [] → HasLongHead bytes → ⊥
 none_long {bytes} e (inl l) = omega (arith, ap length e, l.0)
-none_long {bytes} e (inr m) = no_lines (let z : lines_ended (take HEAD_LIMIT bytes) ≡ 0 = ap (λ w. lines_ended (take HEAD_LIMIT w)) e in omega (arith, z)) m
+none_long {bytes} e (inr m) =
+    let lines = many_lines_of m in
+    let none : lines_ended (take HEAD_LIMIT bytes) ≡ 0 = ap (λ w. lines_ended (take HEAD_LIMIT w)) e in
+    omega (arith, none, lines.many, lines_grow lines.front lines.rest, ap lines_ended lines.cut)
 
-doubt_open : {bytes : List ℕ} → IsOpen bytes → NeverHasHead bytes → IsInDoubt bytes
-doubt_open {bytes} o n =
-    let same = short_front bytes o.short in
-    inl (subst EndsInTarget (sym same) (open_never o.may_become (subst NeverHasRequest same n)))
+open_is_not_never : {bytes : List ℕ} → IsOpen bytes → NeverHasHead bytes → ⊥
+open_is_not_never {bytes} o n =
+    open_never o.may_become (subst (λ w. NeverHasRequest w × ¬ EndsInTarget w) (short_front bytes o.short) n)
 
 doubt_long : (bytes : List ℕ) → HasLongHead bytes → NeverHasHead bytes → IsInDoubt bytes
-doubt_long bytes (inl l) n = inl (open_never l.2 n)
-doubt_long bytes (inr m) n = inr (n, m)
+doubt_long bytes (inl l) n = absurd (open_never l.2 n)
+doubt_long bytes (inr m) n = (n, m)
 
 heads_agree : {bytes : List ℕ} {e f : End} → ByHead bytes e → ByHead bytes f → Agree bytes e f
 heads_agree (nothing x) (nothing y) = inl refl
@@ -130,10 +130,10 @@ heads_agree (nothing x) (never n) = absurd (can_come (subst NeverHasHead x n))
 heads_agree (nothing x) (long y) = absurd (none_long x y)
 heads_agree (open_yet l o) (nothing y) = absurd (omega (arith, l, ap length y))
 heads_agree (open_yet l o) (open_yet k p) = inl refl
-heads_agree (open_yet l o) (never n) = inr (inr (doubt_open o n))
+heads_agree (open_yet l o) (never n) = absurd (open_is_not_never o n)
 heads_agree (open_yet l o) (long y) = absurd (open_long o y)
 heads_agree (never n) (nothing y) = absurd (can_come (subst NeverHasHead y n))
-heads_agree (never n) (open_yet l o) = inr (inr (doubt_open o n))
+heads_agree (never n) (open_yet l o) = absurd (open_is_not_never o n)
 heads_agree (never n) (never m) = inl refl
 heads_agree (never n) (long y) = inr (inr (doubt_long _ y n))
 heads_agree (long x) (nothing y) = absurd (none_long y x)

@@ -1,4 +1,4 @@
 pub mod Agreeing
-pub mod FewLines
 pub mod Refusing
 pub mod Telling
+pub mod Truncating

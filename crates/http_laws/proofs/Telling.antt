@@ -8,7 +8,8 @@ use Rattle.httparse.proofs.GrammarLemmas.{request_unique, print_request-append}
 use Rattle.http_head.specs.declared.framing.Framing.{Framing}
 use Rattle.http_head.specs.declared.framing.Framing.TheVariants.{Bad, TooLong, Body}
 use Rattle.http_head.specs.declared.heads.TheConstants.{HEAD_LIMIT}
-use Rattle.http_laws.proofs.FewLines.{not_many}
+use Rattle.http_head.proofs.FewLines.{not_many}
+use Rattle.http_head.proofs.LineCounts.{many_lines_of}
 use Rattle.http_laws.specs.Messages.{OneMessage, OnlyFaultsBeforeMessage, MessagesAreAnswered}
 use Rattle.http_serving.specs.declared.end.End.TheVariants.{Closed, Asked, Spent, Truncated, BadHead, BadFraming, OriginRefused, HeadTooLong, BodyTooLong, LinkFault, Memory}
 use Rattle.http_serving.specs.Reading.{BeginsWith, framing, names_origin}
@@ -79,9 +80,9 @@ only_faults bytes h body rest Spent x e = absurd e
 only_faults bytes h body rest Closed x e = absurd (omega (arith, some_byte x.begins, ap length e))
 only_faults bytes h body rest BadHead x e =
     let after = take (HEAD_LIMIT - length (print_request h)) (body ++ rest) in
-    absurd (e [] h after (subst (λ w. ReadsRequest w h after) (sym (append-nil (take HEAD_LIMIT bytes))) (in_front x.begins)))
+    absurd (e.0 [] h after (subst (λ w. ReadsRequest w h after) (sym (append-nil (take HEAD_LIMIT bytes))) (in_front x.begins)))
 only_faults bytes h body rest HeadTooLong x (inl long) = absurd (long.1 h _ (in_front x.begins))
-only_faults bytes h body rest HeadTooLong x (inr many) = absurd (not_many _ (in_front x.begins) x.begins.few many)
+only_faults bytes h body rest HeadTooLong x (inr many) = absurd (not_many _ (in_front x.begins) x.begins.few (many_lines_of many))
 only_faults bytes h body rest Truncated x (inl o) = absurd (o.1.no_head h _ x.begins.reads)
 only_faults bytes h body rest Truncated x (inr t) =
     let same = same_head x.begins t.begins in

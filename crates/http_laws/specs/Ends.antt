@@ -1,17 +1,13 @@
 -- Two ends that the same bytes allow.
 use Rattle.std.specs.Prelude.{◌≡◌, ℕ, ◌⊎◌, List, take}
-use Rattle.httparse.specs.Grammar.{EndsInTarget}
 use Rattle.http_head.specs.declared.heads.TheConstants.{HEAD_LIMIT}
-use Rattle.http_head.specs.Heads.{NeverHasHead}
-use Rattle.http_head.specs.Lines.{HasManyLines}
+use Rattle.http_head.specs.Heads.{NeverHasHead, HasManyFields}
 use Rattle.http_serving.specs.declared.end.End.{End}
 use Rattle.http_serving.specs.Reading.{AllowsEnd, IsFault}
 
--- The bytes that are looked at end inside a target, where the kit's `httparse` does not say whether a head can still come; or no
--- head can come, and the lines of more fields than the limit have come, so that either of two ends is right.
+-- no head can come, and more fields than the limit have come, so that either of two ends is right
 abbrev pub IsInDoubt : List ℕ → Type 0
-IsInDoubt bytes =
-    EndsInTarget (take HEAD_LIMIT bytes) ⊎ (NeverHasHead bytes × HasManyLines (take HEAD_LIMIT bytes))
+IsInDoubt bytes = NeverHasHead bytes × HasManyFields (take HEAD_LIMIT bytes)
 
 -- they are the same, or one is a fault, or the bytes are in doubt
 abbrev pub Agree : List ℕ → End → End → Type 0

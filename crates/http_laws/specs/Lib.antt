@@ -1,3 +1,4 @@
 pub mod Ends
 pub mod Messages
 pub mod Origins
+pub mod Targets

@@ -2,6 +2,7 @@
 ghost use Rattle.http_laws.specs.Ends.{EndsAgree};
 ghost use Rattle.http_laws.specs.Messages.{OneMessage, OnlyFaultsBeforeMessage, MessagesAreAnswered};
 ghost use Rattle.http_laws.specs.Origins.{OriginsAreRefused, OnlyOriginsAreRefused};
+ghost use Rattle.http_laws.specs.Targets.{TargetsAreTruncated};
 
 use http_serving::Service;
 
@@ -21,8 +22,8 @@ pub fn every_message_is_answered<S: Service>(_service: &S)
     ensures { MessagesAreAnswered S }
 {}
 
-/// Two ends that the same bytes allow are the same, or one is a fault of the link or running out of memory, or the bytes that
-/// are looked at end inside a target, or cannot become a head and have the lines of more fields than the limit.
+/// Two ends that the same bytes allow are the same, or one is a fault of the link or running out of memory, or no head can come of
+/// the bytes and more fields than the limit have come.
 pub fn ends_agree()
     ensures { EndsAgree }
 {}
@@ -36,4 +37,10 @@ pub fn origins_are_refused()
 /// Bytes that begin with a head and allow the end `OriginRefused` have a field `Origin` in that head.
 pub fn only_origins_are_refused()
     ensures { OnlyOriginsAreRefused }
+{}
+
+/// Input that ends inside the target of a request, whatever bytes the target has, ends the connection as `Truncated`, but for a
+/// fault of the link and running out of memory, as long as it has fewer bytes than the limit of a head.
+pub fn targets_are_truncated()
+    ensures { TargetsAreTruncated }
 {}

@@ -3,7 +3,8 @@ ghost use Rattle.std.specs.Prelude.{◌≡◌, ◌<◌, ◌≤◌, ◌+◌, ◌-
 ghost use Rattle.std.specs.Io.{ReadsAtMost, WritesAtMost};
 ghost use Rattle.std.specs.Io.KnownBytes.{ReadConsumes};
 ghost use Rattle.bt_base.specs.Causes.{HasCause};
-ghost use Rattle.byte_streams.specs.Content.{Gains, Takes, GainsFront};
+ghost use Rattle.byte_streams.specs.Content.{Gains, Takes};
+ghost use Rattle.http_link.specs.Writing.{GainsPart};
 
 use byte_streams::Failed;
 
@@ -36,10 +37,11 @@ pub trait Link {
         ensures cause { HasCause (faults self.old) (faults self.new) result };
 }
 
-/// Writes all bytes of a piece. Returns `Failed` only if the link failed in this call; then a prefix of the piece was taken.
+/// Writes all bytes of a piece. Returns `Failed` only if the link failed in this call; then a prefix of the piece was taken, and
+/// not all of it.
 pub fn write_all<L: Link>(link: &mut L, piece: &[u8]) -> Result<(), Failed>
     ensures ok { OnOk result (Gains (L.taken link.old) (L.taken link.new) piece.now) }
-    ensures err { OnErr result (GainsFront (L.taken link.old) (L.taken link.new) piece.now) }
+    ensures err { OnErr result (GainsPart (L.taken link.old) (L.taken link.new) piece.now) }
     ensures same_left { L.left link.new ≡ L.left link.old }
     ensures cause { HasCause (L.faults link.old) (L.faults link.new) result }
 {

@@ -3,7 +3,7 @@ use Rattle.std.proofs.Common.{◌≡◌, ◌+◌, ◌<◌, ℕ, Bool, true, fals
 use Rattle.std.proofs.lemmas.List.{append-nil}
 use Rattle.std.proofs.lemmas.Grind.{flat_map-append}
 use Rattle.std.specs.Io.KnownBytes.{Consumes}
-use Rattle.byte_streams.specs.Content.{Gains, GainsFront}
+use Rattle.byte_streams.specs.Content.{Gains}
 use Rattle.byte_streams.proofs.Gaining.{gains_nothing, gains_more}
 use Rattle.http_serving.specs.declared.connection.TheConstants.{MESSAGE_LIMIT}
 use Rattle.http_serving.specs.declared.end.End.{End}
@@ -11,7 +11,7 @@ use Rattle.http_serving.specs.declared.end.End.TheVariants.{Closed, Asked, Spent
 use Rattle.http_serving.specs.declared.response.Response.{Response}
 use Rattle.http_serving.specs.Services.{Request}
 use Rattle.http_serving.specs.Reading.{AllowsEnd, IsFault, unread}
-use Rattle.http_serving.specs.Connection.{Position, Exchange, IsExchange, Exchanges, exchange_text, exchanges_text, last_text, AreTold, EndsAs, IsWritten, EndsAt, Served}
+use Rattle.http_serving.specs.Connection.{Position, Exchange, IsExchange, Exchanges, exchange_text, exchanges_text, last_text, AreTold, AnswerCut, IsClosed, BreaksBefore, BreaksWithin, Ended, Served}
 use Rattle.http_serving.specs.Stages.{ExchangedBy, Steps, EndsBefore, EndsWithin, Ends}
 use Rattle.http_serving.proofs.Buffers.{consumes_none, consumes_more}
 
@@ -27,57 +27,58 @@ text_snoc xs x = flat_map-append exchange_text xs (x ∷ []) ∙ ap (λ w. excha
 gained_by : (a b c : Option (List ℕ)) (xs : List Exchange) (x : Exchange) → Gains a b (exchanges_text xs) → Gains b c (exchange_text x) → Gains a c (exchanges_text (xs ++ x ∷ []))
 gained_by a b c xs x f g = subst (λ text. Gains a c text) (sym (text_snoc xs x)) (gains_more a b c (exchanges_text xs) (exchange_text x) f g)
 
-front_more : (a b c : Option (List ℕ)) (x y : List ℕ) → Gains a b x → GainsFront b c y → GainsFront a c (x ++ y)
-front_more a b c x y f g = record {
-  front = x ++ g.front;
-  rest = g.rest;
-  cut = ap (λ w. x ++ w) g.cut ∙ sym (append_assoc x g.front g.rest);
-  gained = gains_more a b c x g.front f g.gained;
-}
-
--- the answer before an end, or a prefix of it, after all responses
-written_more : (end : End) (a b c : Option (List ℕ)) (x y : List ℕ) → Gains a b x → IsWritten end b c y → IsWritten end a c (x ++ y)
-written_more LinkFault a b c x y f g = front_more a b c x y f g
-written_more Memory a b c x y f g = front_more a b c x y f g
-written_more Closed a b c x y f g = gains_more a b c x y f g
-written_more Asked a b c x y f g = gains_more a b c x y f g
-written_more Spent a b c x y f g = gains_more a b c x y f g
-written_more Truncated a b c x y f g = gains_more a b c x y f g
-written_more BadHead a b c x y f g = gains_more a b c x y f g
-written_more BadFraming a b c x y f g = gains_more a b c x y f g
-written_more OriginRefused a b c x y f g = gains_more a b c x y f g
-written_more HeadTooLong a b c x y f g = gains_more a b c x y f g
-written_more BodyTooLong a b c x y f g = gains_more a b c x y f g
-
--- a fault may come at any position
-fault_end : {S : Type 0} (end : End) (p : Position S) (before took : Option (List ℕ)) (text : List ℕ) → IsFault end → GainsFront before took (text ++ []) → EndsAs end end × EndsAt p end × IsWritten end before took (text ++ last_text end)
-fault_end LinkFault p before took text h w = (tt, tt, w)
-fault_end Memory p before took text h w = (tt, tt, w)
-fault_end Closed p before took text h w = absurd h
-fault_end Asked p before took text h w = absurd h
-fault_end Spent p before took text h w = absurd h
-fault_end Truncated p before took text h w = absurd h
-fault_end BadHead p before took text h w = absurd h
-fault_end BadFraming p before took text h w = absurd h
-fault_end OriginRefused p before took text h w = absurd h
-fault_end HeadTooLong p before took text h w = absurd h
-fault_end BodyTooLong p before took text h w = absurd h
-
-ends_here : {S : Type 0} (end : End) (answered : ℕ) (service : S) (left : List ℕ) → answered < MESSAGE_LIMIT → AllowsEnd left end → EndsAt (record { asked = false; answered = answered; service = service; left = left }) end
-ends_here LinkFault answered service left less s = tt
-ends_here Memory answered service left less s = tt
-ends_here Closed answered service left less s = (refl, less, s)
-ends_here Asked answered service left less s = absurd s
-ends_here Spent answered service left less s = absurd s
-ends_here Truncated answered service left less s = (refl, less, s)
-ends_here BadHead answered service left less s = (refl, less, s)
-ends_here BadFraming answered service left less s = (refl, less, s)
-ends_here OriginRefused answered service left less s = (refl, less, s)
-ends_here HeadTooLong answered service left less s = (refl, less, s)
-ends_here BodyTooLong answered service left less s = (refl, less, s)
-
 abbrev pub position_at : {S : Type 0} → Bool → ℕ → S → List ℕ → Position S
 position_at asked answered service left = record { asked = asked; answered = answered; service = service; left = left }
+
+-- a fault cut the last response short
+ended_within : {S : Type 0} (end : End) (p : Position S) (exchanges : List Exchange) (before now : Option (List ℕ)) → IsFault end → BreaksWithin exchanges before now → Ended p exchanges before now end
+ended_within LinkFault p exchanges before now h b = inr b
+ended_within Memory p exchanges before now h b = inr b
+ended_within Closed p exchanges before now h b = absurd h
+ended_within Asked p exchanges before now h b = absurd h
+ended_within Spent p exchanges before now h b = absurd h
+ended_within Truncated p exchanges before now h b = absurd h
+ended_within BadHead p exchanges before now h b = absurd h
+ended_within BadFraming p exchanges before now h b = absurd h
+ended_within OriginRefused p exchanges before now h b = absurd h
+ended_within HeadTooLong p exchanges before now h b = absurd h
+ended_within BodyTooLong p exchanges before now h b = absurd h
+
+-- no further request was answered
+module _ {S : Type 0} (planned : End) (answered : ℕ) (service : S) (left : List ℕ) (exchanges : List Exchange) (before middle now : Option (List ℕ))
+    (less : answered < MESSAGE_LIMIT) (allows : AllowsEnd left planned) (gained : Gains before middle (exchanges_text exchanges)) where
+  abbrev here : Position S
+  here = position_at false answered service left
+
+  breaks_before : AnswerCut planned middle now → BreaksBefore here exchanges before now
+  breaks_before cut = record {
+    planned = planned;
+    not_asked = refl;
+    more = less;
+    allows = allows;
+    middle = middle;
+    responses = gained;
+    answer = cut;
+  }
+
+  as_planned : (end : End) → planned ≡ end → AllowsEnd left end
+  as_planned end same = subst (AllowsEnd left) same allows
+
+  all_written : (end : End) → Gains middle now (last_text end) → Gains before now (exchanges_text exchanges ++ last_text end)
+  all_written end answer = gains_more before middle now (exchanges_text exchanges) (last_text end) gained answer
+
+  ended_before : (end : End) → IsClosed planned end middle now → Ended here exchanges before now end
+  ended_before LinkFault c = inl (breaks_before c)
+  ended_before Memory c = inl (breaks_before c)
+  ended_before Asked c = absurd (as_planned Asked c.0)
+  ended_before Spent c = absurd (as_planned Spent c.0)
+  ended_before Closed c = record { ends = (refl, less, as_planned Closed c.0); written = all_written Closed c.1 }
+  ended_before Truncated c = record { ends = (refl, less, as_planned Truncated c.0); written = all_written Truncated c.1 }
+  ended_before BadHead c = record { ends = (refl, less, as_planned BadHead c.0); written = all_written BadHead c.1 }
+  ended_before BadFraming c = record { ends = (refl, less, as_planned BadFraming c.0); written = all_written BadFraming c.1 }
+  ended_before OriginRefused c = record { ends = (refl, less, as_planned OriginRefused c.0); written = all_written OriginRefused c.1 }
+  ended_before HeadTooLong c = record { ends = (refl, less, as_planned HeadTooLong c.0); written = all_written HeadTooLong c.1 }
+  ended_before BodyTooLong c = record { ends = (refl, less, as_planned BodyTooLong c.0); written = all_written BodyTooLong c.1 }
 
 module _ {S : Type 0} (answers : S → Request → Response → S → Type 0) where
   exchanges_snoc : (p q r : Position S) (xs : List Exchange) (x : Exchange) → Exchanges answers p xs q → IsExchange answers q x r → Exchanges answers p (xs ++ x ∷ []) r
@@ -127,19 +128,15 @@ module _ {S : Type 0} (answers : S → Request → Response → S → Type 0) wh
       position = position_at true (answered + 1) next (after ++ unread last_left);
       leads = leads_by less s.exchanged (unread last_left);
       service = refl;
-      planned = Asked;
-      cut = refl;
-      ends = refl;
-      written = subst (λ w. Gains before took w) (sym (append-nil (exchanges_text (g.exchanges ++ s.exchanged.exchange ∷ [])))) (gained_by before taken took g.exchanges s.exchanged.exchange g.gained s.written);
+      ended = record {
+        ends = refl;
+        written = subst (λ w. Gains before took w) (sym (append-nil (exchanges_text (g.exchanges ++ s.exchanged.exchange ∷ [])))) (gained_by before taken took g.exchanges s.exchanged.exchange g.gained s.written);
+      };
     }
 
     -- a fault while a response is written
     served_within : {last_left took : Option (List ℕ)} (end : End) → answered < MESSAGE_LIMIT → EndsWithin answers now next later last_left buffer taken took end → Served answers old next left before took end
     served_within {last_left} {took} end less e =
-        let front : GainsFront before took (exchanges_text (g.exchanges ++ e.exchanged.exchange ∷ []) ++ []) =
-        subst (λ w. GainsFront before took w) (ap (λ w. exchanges_text g.exchanges ++ w) (sym (append-nil (exchange_text e.exchanged.exchange))) ∙ sym (append_assoc (exchanges_text g.exchanges) (exchange_text e.exchanged.exchange) []) ∙ ap (λ w. w ++ []) (sym (text_snoc g.exchanges e.exchanged.exchange)))
-        (front_more before taken took (exchanges_text g.exchanges) (exchange_text e.exchanged.exchange) g.gained e.written) in
-        let kept = fault_end end (position_at e.last (answered + 1) next (e.after ++ unread last_left)) before took (exchanges_text (g.exchanges ++ e.exchanged.exchange ∷ [])) e.fault front in
         record {
           bytes = (g.read ++ e.exchanged.piece) ++ unread last_left;
           told = told_of left last_left (g.read ++ e.exchanged.piece) (consumes_more left later last_left g.read e.exchanged.piece g.given e.exchanged.given);
@@ -147,10 +144,14 @@ module _ {S : Type 0} (answers : S → Request → Response → S → Type 0) wh
           position = position_at e.last (answered + 1) next (e.after ++ unread last_left);
           leads = leads_by less e.exchanged (unread last_left);
           service = refl;
-          planned = end;
-          cut = kept.0;
-          ends = kept.1;
-          written = kept.2;
+          ended = ended_within end (position_at e.last (answered + 1) next (e.after ++ unread last_left)) (g.exchanges ++ e.exchanged.exchange ∷ []) before took e.fault (record {
+            earlier = g.exchanges;
+            last = e.exchanged.exchange;
+            cut = refl;
+            middle = taken;
+            responses = g.gained;
+            response = e.written;
+          });
         }
 
     -- the end before a message
@@ -163,10 +164,7 @@ module _ {S : Type 0} (answers : S → Request → Response → S → Type 0) wh
       leads = subst (λ w. Exchanges answers (position_at false 0 old w) g.exchanges (position_at false answered now ((buffer ++ e.piece) ++ unread last_left))) (sym (append_assoc g.read e.piece (unread last_left)))
           (subst (λ w. Exchanges answers (position_at false 0 old (g.read ++ (e.piece ++ unread last_left))) g.exchanges (position_at false answered now w)) (sym (append_assoc buffer e.piece (unread last_left))) (g.leads (e.piece ++ unread last_left)));
       service = sym e.same;
-      planned = e.planned;
-      cut = e.cut;
-      ends = ends_here e.planned answered now ((buffer ++ e.piece) ++ unread last_left) less e.allows;
-      written = written_more end before taken took (exchanges_text g.exchanges) (last_text e.planned) g.gained e.written;
+      ended = ended_before e.planned answered now ((buffer ++ e.piece) ++ unread last_left) g.exchanges before taken took less e.allows g.gained end e.closed;
     }
 
     pub served_end : {last_left took : Option (List ℕ)} (end : End) → answered < MESSAGE_LIMIT → Ends answers now next later last_left buffer taken took end → Served answers old next left before took end
@@ -181,8 +179,8 @@ module _ {S : Type 0} (answers : S → Request → Response → S → Type 0) wh
     position = position_at false answered now (buffer ++ unread later);
     leads = g.leads (unread later);
     service = refl;
-    planned = Spent;
-    cut = refl;
-    ends = (refl, full);
-    written = subst (λ w. Gains before taken w) (sym (append-nil (exchanges_text g.exchanges))) g.gained;
+    ended = record {
+      ends = (refl, full);
+      written = subst (λ w. Gains before taken w) (sym (append-nil (exchanges_text g.exchanges))) g.gained;
+    };
   }

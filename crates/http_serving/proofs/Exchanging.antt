@@ -5,8 +5,9 @@ use Rattle.std.specs.Io.KnownBytes.{Consumes}
 use Rattle.httparse.specs.Grammar.{RequestHead, ReadsRequest}
 use Rattle.httparse.specs.Spans.{span_bytes}
 use Rattle.httparse.proofs.GrammarLemmas.{ReadsRequest-append}
-use Rattle.byte_streams.specs.Content.{Gains, GainsFront}
+use Rattle.byte_streams.specs.Content.{Gains}
 use Rattle.byte_streams.proofs.Gaining.{gains_nothing}
+use Rattle.http_link.specs.Writing.{GainsPart}
 use Rattle.http_head.specs.declared.framing.Framing.TheVariants.{Body}
 use Rattle.http_serving.specs.declared.connection.TheConstants.{MESSAGE_LIMIT}
 use Rattle.http_serving.specs.declared.end.End.{End}
@@ -15,7 +16,7 @@ use Rattle.http_serving.specs.declared.messages.Message.{Message}
 use Rattle.http_serving.specs.declared.response.Response.{Response}
 use Rattle.http_serving.specs.Services.{Request}
 use Rattle.http_serving.specs.Reading.{BeginsWith, IsMessage, FoundMessage, Stops, AllowsEnd, IsFault, unread}
-use Rattle.http_serving.specs.Connection.{IsExchange, last_text, EndsAs, IsWritten}
+use Rattle.http_serving.specs.Connection.{IsExchange, IsClosed}
 use Rattle.http_serving.specs.Stages.{request_in, text_to, Answers, BreaksOff, ExchangedBy, Steps, Ends}
 use Rattle.http_serving.proofs.Bodies.{begins}
 use Rattle.http_serving.proofs.Buffers.{allows_fault}
@@ -78,50 +79,48 @@ module _ {S : Type 0} (answers : S → Request → Response → S → Type 0) (o
         (subst (λ w. Gains mid took (text_to (record { method = w; target = found.h.target; body = body_in grown m }) answered.response)) found.is_message.head.method answered.written);
   }
 
-  -- nothing of a response was written
-  cut_short : (end : End) (taken took : Option (List ℕ)) → IsFault end → took ≡ taken → EndsAs end end × IsWritten end taken took (last_text end)
-  cut_short LinkFault taken took h e = (tt, record { front = []; rest = []; cut = refl; gained = subst (λ w. Gains taken w []) (sym e) (gains_nothing taken) })
-  cut_short Memory taken took h e = (tt, record { front = []; rest = []; cut = refl; gained = subst (λ w. Gains taken w []) (sym e) (gains_nothing taken) })
-  cut_short Closed taken took h e = absurd h
-  cut_short Asked taken took h e = absurd h
-  cut_short Spent taken took h e = absurd h
-  cut_short Truncated taken took h e = absurd h
-  cut_short BadHead taken took h e = absurd h
-  cut_short BadFraming taken took h e = absurd h
-  cut_short OriginRefused taken took h e = absurd h
-  cut_short HeadTooLong taken took h e = absurd h
-  cut_short BodyTooLong taken took h e = absurd h
+  -- nothing was written
+  unwritten : (end : End) (taken took : Option (List ℕ)) → IsFault end → took ≡ taken → IsClosed end end taken took
+  unwritten LinkFault taken took h e = subst (λ w. Gains taken w []) (sym e) (gains_nothing taken)
+  unwritten Memory taken took h e = subst (λ w. Gains taken w []) (sym e) (gains_nothing taken)
+  unwritten Closed taken took h e = absurd h
+  unwritten Asked taken took h e = absurd h
+  unwritten Spent taken took h e = absurd h
+  unwritten Truncated taken took h e = absurd h
+  unwritten BadHead taken took h e = absurd h
+  unwritten BadFraming taken took h e = absurd h
+  unwritten OriginRefused taken took h e = absurd h
+  unwritten HeadTooLong taken took h e = absurd h
+  unwritten BodyTooLong taken took h e = absurd h
 
   pub breaks_off : {a b : Option (List ℕ)} {before grown : List ℕ} {m : Message} {taken mid : Option (List ℕ)} {end : End} (c took : Option (List ℕ)) → FoundMessage a b before grown m → c ≡ b → mid ≡ taken → BreaksOff answers old new (request_in grown m) mid took end → Ends answers old new a c before taken took end
   unfolding exchanged_by
   breaks_off {a} {b} {before} {grown} {m} {taken} {mid} {end} c took found same untouched broken = elim broken.part [
-    | inl none ↦ (let cut = cut_short end taken took broken.fault (none.1 ∙ untouched) in inl (record {
+    | inl none ↦ inl (record {
       piece = found.grows.piece;
       given = subst (λ w. Consumes a w found.grows.piece) (sym same) found.grows.given;
       same = none.0;
       planned = end;
-      cut = cut.0;
       allows = allows_fault end ((before ++ found.grows.piece) ++ unread c) broken.fault;
-      written = cut.1;
-    }))
+      closed = unwritten end taken took broken.fault (none.1 ∙ untouched);
+    })
     | inr some ↦ inr (record {
       after = drop m.len grown;
       last = m.head.is_last;
       exchanged = exchanged_by c (drop m.len grown) some.response found same some.answer refl;
       fault = broken.fault;
-      written = subst (λ w. GainsFront w took (text_to (record { method = found.h.method; target = found.h.target; body = body_in grown m }) some.response)) untouched
-          (subst (λ w. GainsFront mid took (text_to (record { method = w; target = found.h.target; body = body_in grown m }) some.response)) found.is_message.head.method some.written);
+      written = subst (λ w. GainsPart w took (text_to (record { method = found.h.method; target = found.h.target; body = body_in grown m }) some.response)) untouched
+          (subst (λ w. GainsPart mid took (text_to (record { method = w; target = found.h.target; body = body_in grown m }) some.response)) found.is_message.head.method some.written);
     })
   ]
 
   -- no message came
-  pub ends_before : {a b : Option (List ℕ)} {before : List ℕ} {taken mid : Option (List ℕ)} {planned : End} (c took : Option (List ℕ)) (end : End) → Stops a b before planned → c ≡ b → mid ≡ taken → new ≡ old → EndsAs planned end → IsWritten end mid took (last_text planned) → Ends answers old new a c before taken took end
-  ends_before {a} {b} {before} {taken} {mid} {planned} c took end stops same untouched kept cut written = inl (record {
+  pub ends_before : {a b : Option (List ℕ)} {before : List ℕ} {taken mid : Option (List ℕ)} {planned : End} (c took : Option (List ℕ)) (end : End) → Stops a b before planned → c ≡ b → mid ≡ taken → new ≡ old → IsClosed planned end mid took → Ends answers old new a c before taken took end
+  ends_before {a} {b} {before} {taken} {mid} {planned} c took end stops same untouched kept closed = inl (record {
     piece = stops.piece;
     given = subst (λ w. Consumes a w stops.piece) (sym same) stops.given;
     same = kept;
     planned = planned;
-    cut = cut;
     allows = subst (λ w. AllowsEnd ((before ++ stops.piece) ++ unread w) planned) (sym same) stops.allows;
-    written = subst (λ w. IsWritten end w took (last_text planned)) untouched written;
+    closed = subst (λ w. IsClosed planned end w took) untouched closed;
   })

@@ -1,4 +1,5 @@
 pub mod Advancing
 pub mod Bodies
 pub mod Buffers
+pub mod Cutting
 pub mod Exchanging

@@ -1,10 +1,11 @@
 -- A connection: requests one after the other, each with its response, and an end. It is a relation between all the bytes that the
 -- link had, the exchanges, the bytes that were written, and the end; how the bytes came is no part of it.
-use Rattle.std.specs.Prelude.{◌≡◌, ℕ, ◌+◌, ◌<◌, Bool, true, false, List, [], ◌∷◌, ◌++◌, Option, Some, None, ⊤}
+use Rattle.std.specs.Prelude.{◌≡◌, ℕ, ◌+◌, ◌<◌, ◌⊎◌, Bool, true, false, List, [], ◌∷◌, ◌++◌, Option, Some, None, ⊤}
 use Rattle.std.specs.List.{flat_map}
 use Rattle.std.specs.Str.{bytes_eq}
 use Rattle.httparse.specs.Grammar.{RequestHead}
-use Rattle.byte_streams.specs.Content.{Gains, GainsFront}
+use Rattle.byte_streams.specs.Content.{Gains}
+use Rattle.http_link.specs.Writing.{GainsPart}
 use Rattle.http_head.specs.Fields.{fields_of}
 use Rattle.http_head.specs.Framing.{is_last}
 use Rattle.http_serving.specs.declared.connection.TheConstants.{MESSAGE_LIMIT}
@@ -64,10 +65,8 @@ last_text LinkFault = []
 last_text Memory = []
 last_text end = end_text end
 
--- a connection may end so at this position
+-- a connection may end so at this position; a fault, as all ends but Asked and Spent, comes only while a further request may come
 abbrev pub EndsAt : {S : Type 0} → Position S → End → Type 0
-EndsAt p LinkFault = ⊤
-EndsAt p Memory = ⊤
 EndsAt p Asked = p.asked ≡ true
 EndsAt p Spent = (p.asked ≡ false) × (p.answered ≡ MESSAGE_LIMIT)
 EndsAt p end = (p.asked ≡ false) × (p.answered < MESSAGE_LIMIT) × AllowsEnd p.left end
@@ -77,17 +76,48 @@ abbrev pub AreTold : Option (List ℕ) → List ℕ → Type 0
 AreTold None bytes = ⊤
 AreTold (Some told) bytes = told ≡ bytes
 
--- at LinkFault and Memory a prefix of the text was written, and at each other end all of it
-abbrev pub IsWritten : End → Option (List ℕ) → Option (List ℕ) → List ℕ → Type 0
-IsWritten LinkFault before now text = GainsFront before now text
-IsWritten Memory before now text = GainsFront before now text
-IsWritten end before now text = Gains before now text
+-- what was written of the answer before an end, if a fault came in its place: not all of it; a fault itself has no answer
+abbrev pub AnswerCut : End → Option (List ℕ) → Option (List ℕ) → Type 0
+AnswerCut LinkFault before now = Gains before now []
+AnswerCut Memory before now = Gains before now []
+AnswerCut end before now = GainsPart before now (last_text end)
 
--- a fault may come at any position, also while the answer before another end is written
-abbrev pub EndsAs : End → End → Type 0
-EndsAs planned LinkFault = ⊤
-EndsAs planned Memory = ⊤
-EndsAs planned end = planned ≡ end
+-- this end was to come, and came after its answer, or a fault cut that answer short
+abbrev pub IsClosed : End → End → Option (List ℕ) → Option (List ℕ) → Type 0
+IsClosed planned LinkFault before now = AnswerCut planned before now
+IsClosed planned Memory before now = AnswerCut planned before now
+IsClosed planned end before now = (planned ≡ end) × Gains before now (last_text end)
+
+-- an end that is no fault: all responses were written, and its answer
+pub record EndsWhole {S : Type 0} (p : Position S) (exchanges : List Exchange) (before now : Option (List ℕ)) (end : End) : Type 0 where
+  pub ends : EndsAt p end
+  pub written : Gains before now (exchanges_text exchanges ++ last_text end)
+
+-- a fault came while a further request might come: all responses were written, and not all of the answer before the end that was to
+-- come, which may be the fault
+pub record BreaksBefore {S : Type 0} (p : Position S) (exchanges : List Exchange) (before now : Option (List ℕ)) : Type 0 where
+  pub planned : End
+  pub not_asked : p.asked ≡ false
+  pub more : p.answered < MESSAGE_LIMIT
+  pub allows : AllowsEnd p.left planned
+  pub middle : Option (List ℕ)
+  pub responses : Gains before middle (exchanges_text exchanges)
+  pub answer : AnswerCut planned middle now
+
+-- a fault cut the last response short: those before it were written whole, and of its own text not all
+pub record BreaksWithin (exchanges : List Exchange) (before now : Option (List ℕ)) : Type 0 where
+  pub earlier : List Exchange
+  pub last : Exchange
+  pub cut : exchanges ≡ earlier ++ last ∷ []
+  pub middle : Option (List ℕ)
+  pub responses : Gains before middle (exchanges_text earlier)
+  pub response : GainsPart middle now (exchange_text last)
+
+-- how a connection ended after these exchanges, which led to this position, and what was written
+abbrev pub Ended : {S : Type 0} → Position S → List Exchange → Option (List ℕ) → Option (List ℕ) → End → Type 0
+Ended p exchanges before now LinkFault = BreaksBefore p exchanges before now ⊎ BreaksWithin exchanges before now
+Ended p exchanges before now Memory = BreaksBefore p exchanges before now ⊎ BreaksWithin exchanges before now
+Ended p exchanges before now end = EndsWhole p exchanges before now end
 
 -- what a connection was: the bytes of the link, the exchanges from the first position on, and what was written
 pub record Served {S : Type 0} (answers : S → Request → Response → S → Type 0) (old new : S) (left before now : Option (List ℕ)) (end : End) : Type 0 where
@@ -97,7 +127,4 @@ pub record Served {S : Type 0} (answers : S → Request → Response → S → T
   pub position : Position S
   pub leads : Exchanges answers (record { asked = false; answered = 0; service = old; left = bytes }) exchanges position
   pub service : position.service ≡ new
-  pub planned : End
-  pub cut : EndsAs planned end
-  pub ends : EndsAt position planned
-  pub written : IsWritten end before now (exchanges_text exchanges ++ last_text planned)
+  pub ended : Ended position exchanges before now end

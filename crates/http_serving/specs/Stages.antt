@@ -2,7 +2,8 @@
 use Rattle.std.specs.Prelude.{◌≡◌, ℕ, ◌+◌, ◌<◌, ◌⊎◌, Bool, false, List, ◌++◌, Option, slice_range}
 use Rattle.std.specs.Io.KnownBytes.{Consumes}
 use Rattle.std.specs.Str.{bytes_eq}
-use Rattle.byte_streams.specs.Content.{Gains, GainsFront}
+use Rattle.byte_streams.specs.Content.{Gains}
+use Rattle.http_link.specs.Writing.{GainsPart}
 use Rattle.httparse.specs.Spans.{span_bytes}
 use Rattle.http_serving.specs.declared.connection.TheConstants.{MESSAGE_LIMIT}
 use Rattle.http_serving.specs.declared.end.End.{End}
@@ -11,7 +12,7 @@ use Rattle.http_serving.specs.declared.response.Response.{Response}
 use Rattle.http_serving.specs.Services.{Request}
 use Rattle.http_serving.specs.Responses.{head_text, text_of}
 use Rattle.http_serving.specs.Reading.{AllowsEnd, IsFault, unread}
-use Rattle.http_serving.specs.Connection.{Position, Exchange, IsExchange, exchange_text, last_text, EndsAs, IsWritten}
+use Rattle.http_serving.specs.Connection.{Position, Exchange, IsExchange, exchange_text, IsClosed}
 
 -- the text of a response to this request
 abbrev pub text_to : Request → Response → List ℕ
@@ -32,16 +33,16 @@ module _ {S : Type 0} (answers : S → Request → Response → S → Type 0) (o
     pub answer : answers old request response new
     pub written : Gains before now (text_to request response)
 
-  -- it was answered, and a prefix of its response was written
-  pub record AnswersFront (request : Request) (before now : Option (List ℕ)) : Type 0 where
+  -- it was answered, and not all of its response was written
+  pub record AnswersPart (request : Request) (before now : Option (List ℕ)) : Type 0 where
     pub response : Response
     pub answer : answers old request response new
-    pub written : GainsFront before now (text_to request response)
+    pub written : GainsPart before now (text_to request response)
 
   -- a fault came before the response was written whole
   pub record BreaksOff (request : Request) (before now : Option (List ℕ)) (end : End) : Type 0 where
     pub fault : IsFault end
-    pub part : ((new ≡ old) × (now ≡ before)) ⊎ AnswersFront request before now
+    pub part : ((new ≡ old) × (now ≡ before)) ⊎ AnswersPart request before now
 
   -- one exchange more, whatever bytes follow
   pub record ExchangedBy (left now : Option (List ℕ)) (before after : List ℕ) (last : Bool) : Type 0 where
@@ -63,9 +64,8 @@ module _ {S : Type 0} (answers : S → Request → Response → S → Type 0) (o
     pub given : Consumes left now piece
     pub same : new ≡ old
     pub planned : End
-    pub cut : EndsAs planned end
     pub allows : AllowsEnd ((before ++ piece) ++ unread now) planned
-    pub written : IsWritten end taken took (last_text planned)
+    pub closed : IsClosed planned end taken took
 
   -- the connection ends while a response is written
   pub record EndsWithin (left now : Option (List ℕ)) (before : List ℕ) (taken took : Option (List ℕ)) (end : End) : Type 0 where
@@ -73,7 +73,7 @@ module _ {S : Type 0} (answers : S → Request → Response → S → Type 0) (o
     pub last : Bool
     pub exchanged : ExchangedBy left now before after last
     pub fault : IsFault end
-    pub written : GainsFront taken took (exchange_text exchanged.exchange)
+    pub written : GainsPart taken took (exchange_text exchanged.exchange)
 
   abbrev pub Ends : Option (List ℕ) → Option (List ℕ) → List ℕ → Option (List ℕ) → Option (List ℕ) → End → Type 0
   Ends left now before taken took end =

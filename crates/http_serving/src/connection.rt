@@ -14,9 +14,10 @@ pub const MESSAGE_LIMIT: u64 = 10_000;
 
 /// Answers the requests of a connection in order, and returns how it ended. However the link cuts the bytes, the exchanges, what
 /// is written and the end are those that all its bytes allow; a request is read whole, answered, and its response written before
-/// the next one is looked at. Returns `LinkFault` only if the link failed in this call, and `Memory` if memory ran out. With
-/// either, a prefix of the text of the exchanges was written, and of the answer before an end; with every other end, all of it.
-/// Each read takes a byte of the link at least, or meets the end of its bytes.
+/// the next one is looked at. Returns `LinkFault` only if the link failed in this call, and `Memory` if memory ran out. Either cuts
+/// one text short at most, the last one: that of a response, or the answer before an end; all responses before it were written
+/// whole. With every other end all was written. No fault comes any more once the last response before `Asked` or `Spent` is
+/// written. Each read takes a byte of the link at least, or meets the end of its bytes.
 pub fn serve_link<L: Link, S: Service>(alloc: Global, link: &mut L, service: &mut S) -> End
     ensures served { Served S.answers service.old service.new (L.left link.old) (L.taken link.old) (L.taken link.new) result }
     ensures later { L.faults link.old ≤ L.faults link.new }

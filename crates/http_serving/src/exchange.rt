@@ -3,10 +3,11 @@ ghost use Rattle.std.specs.Prelude.{◌≡◌, ◌≤◌, ◌⊎◌, drop, lengt
 ghost use Rattle.std.specs.Str.{bytes_eq};
 ghost use Rattle.httparse.specs.Spans.{IsWithin, span_bytes};
 ghost use Rattle.bt_base.specs.Causes.{Rose};
-ghost use Rattle.byte_streams.specs.Content.{Gains, GainsFront};
+ghost use Rattle.byte_streams.specs.Content.{Gains};
+ghost use Rattle.http_link.specs.Writing.{GainsPart};
 ghost use Rattle.http_serving.specs.Responses.{head_text, text_of};
 ghost use Rattle.http_serving.specs.Reading.{IsFault};
-ghost use Rattle.http_serving.specs.Connection.{last_text, EndsAs, IsWritten};
+ghost use Rattle.http_serving.specs.Connection.{IsClosed};
 ghost use Rattle.http_serving.specs.Stages.{request_in, Answers, BreaksOff, Steps, Ends};
 
 use crate::end::End;
@@ -37,7 +38,7 @@ fn write_response<L: Link>(
 ) -> Result<(), End>
     ensures written { MatchResult result
         (λ _. Gains (L.taken link.old) (L.taken link.new) (text_of to_head response.now))
-        (λ end. GainsFront (L.taken link.old) (L.taken link.new) (text_of to_head response.now) × IsFault end) }
+        (λ end. GainsPart (L.taken link.old) (L.taken link.new) (text_of to_head response.now) × IsFault end) }
     ensures same_left { L.left link.new ≡ L.left link.old }
     ensures later { L.faults link.old ≤ L.faults link.new }
     ensures failed { IsErrOf result End.LinkFault → Rose (L.faults link.old) (L.faults link.new) }
@@ -103,8 +104,7 @@ fn answer_message<L: Link, S: Service>(
 
 /// Writes the answer before an end, if there is one, and returns how the connection ends then.
 fn end_with<L: Link>(alloc: Global, link: &mut L, end: End) -> End
-    ensures cut { EndsAs end result }
-    ensures written { IsWritten result (L.taken link.old) (L.taken link.new) (last_text end) }
+    ensures closed { IsClosed end result (L.taken link.old) (L.taken link.new) }
     ensures same_left { L.left link.new ≡ L.left link.old }
     ensures later { L.faults link.old ≤ L.faults link.new }
     ensures failed { result ≡ End.LinkFault → (end ≡ End.LinkFault) ⊎ Rose (L.faults link.old) (L.faults link.new) }

@@ -264,6 +264,12 @@ const CONNECTIONS: &[(&[u8], &[u8], End)] = &[
         End::HeadTooLong,
     ),
     (b"GET /poo", b"", End::Truncated),
+    (b"GET /\xff", b"", End::Truncated),
+    (
+        b"GET /\xff HTTP/1.1\r\nHost: a\r\n\r\n",
+        BAD_HEAD,
+        End::BadHead,
+    ),
 ];
 
 #[test]

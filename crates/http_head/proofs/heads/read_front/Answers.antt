@@ -1,7 +1,8 @@
 use Rattle.std.proofs.Common.{subst, arith}
-use Rattle.httparse.specs.Grammar.{NeverHasRequest}
+use Rattle.httparse.specs.Grammar.{NeverHasRequest, EndsInTarget}
 use Rattle.http_head.specs.declared.heads.TheConstants.{HEAD_LIMIT}
-use Rattle.http_head.proofs.Reading.{found_in, front_is, long_by_bytes, long_by_lines, lines_here, many_lines_of}
+use Rattle.http_head.proofs.FieldCounts.{many_by_lines}
+use Rattle.http_head.proofs.Reading.{found_in, front_is, long_by_bytes, long_by_fields, open_here}
 use Rattle.http_head.proofs.heads.read_front.Goals as goal
 
 pub returns-in-Whole : goal.returns-in-Whole
@@ -13,13 +14,18 @@ returns-in-Partial c =
 
 pub returns-in-Partial-2 : goal.returns-in-Partial-2
 returns-in-Partial-2 c =
-    long_by_lines c.args.buf.now c.min.result c.min.ensures
-    (lines_here _ c.in-Partial.ensures.0 (omega (arith, c.count_lines.ensures, c.if-count_lines.true)))
+    long_by_fields c.args.buf.now c.min.result c.min.ensures
+    (many_by_lines _ c.in-Partial.ensures.0 c.in-Partial.ensures.1 (omega (arith, c.count_lines.ensures, c.if-count_lines.true)))
+
+pub returns-in-Partial-3 : goal.returns-in-Partial-3
+returns-in-Partial-3 c =
+    open_here c.args.buf.now c.min.result c.min.ensures c.if-front-eq-HEAD_LIMIT.false c.in-Partial.ensures
+    (omega (arith, c.count_lines.ensures, c.if-count_lines.false))
 
 pub returns-in-TooMany : goal.returns-in-TooMany
 returns-in-TooMany c =
-    long_by_lines c.args.buf.now c.min.result c.min.ensures (many_lines_of c.in-TooMany.ensures)
+    long_by_fields c.args.buf.now c.min.result c.min.ensures c.in-TooMany.ensures
 
 pub returns-in-Invalid : goal.returns-in-Invalid
 returns-in-Invalid c =
-    subst NeverHasRequest (front_is HEAD_LIMIT c.min.result c.args.buf.now c.min.ensures) c.in-Invalid.ensures
+    subst (λ w. NeverHasRequest w × ¬ EndsInTarget w) (front_is HEAD_LIMIT c.min.result c.args.buf.now c.min.ensures) c.in-Invalid.ensures
