@@ -8,7 +8,6 @@
 mod environment;
 mod fault;
 mod folders;
-mod host;
 mod inputs;
 mod instants;
 mod list_file;
@@ -23,7 +22,6 @@ mod table;
 mod waits;
 
 pub use folders::ServiceFolders;
-pub use host::ProgramHost;
 pub use monitor::StartMonitor;
 pub use spawner::ProgramSpawner;
 pub use stopper::ProgramStopper;

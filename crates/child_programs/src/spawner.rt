@@ -3,7 +3,6 @@ ghost use Rattle.std.specs.Prelude.{◌≡◌, ◌≤◌, ⊤, IfOk};
 
 use crate::fault::StartFault;
 use crate::folders::ServiceFolders;
-use crate::host::ProgramHost;
 use crate::instants::now;
 use crate::monitor::StartMonitor;
 use crate::not_started::{NotStarted, reason_line};
@@ -15,14 +14,21 @@ use crate::waits::{WAITS, wait_after};
 use bt_base::{NoMemory, Word};
 use child_runs::{ChildEnding, Ran, RunIdentity, Spawner};
 use std::alloc::Global;
+use std::fs::File;
 use std::marker::Model;
-use std::process::Child;
+use std::process::{Child, Processes, SystemProcess};
+use std::rt::Files;
+use std::sync::Wait;
+use std::time::Clock;
 use std::{fs, io, thread};
 
 /// What starts programs of the system. It counts a fault for each child program that could not be started, and for each of which
 /// the end could not be told; the latter has ended without an exit code. Contracts see it as its count of faults.
 #[derive(Drop)]
-pub struct ProgramSpawner<R: ProgramHost, M: StartMonitor + Drop> {
+pub struct ProgramSpawner<
+    R: Processes<Started = SystemProcess> + Files<File = File> + Clock + Wait + Drop,
+    M: StartMonitor + Drop,
+> {
     rt: R,
     table: ProgramTable,
     folders: ServiceFolders,
@@ -30,7 +36,10 @@ pub struct ProgramSpawner<R: ProgramHost, M: StartMonitor + Drop> {
     faults: u64,
 }
 
-impl<R: ProgramHost, M: StartMonitor + Drop> Model for ProgramSpawner<R, M> {
+impl<
+    R: Processes<Started = SystemProcess> + Files<File = File> + Clock + Wait + Drop,
+    M: StartMonitor + Drop,
+> Model for ProgramSpawner<R, M> {
     ghost use Rattle.std.specs.Prelude.{ℕ};
 
     ghost Value = { ℕ };
@@ -38,7 +47,10 @@ impl<R: ProgramHost, M: StartMonitor + Drop> Model for ProgramSpawner<R, M> {
     ghost view = { λ s. s.faults };
 }
 
-impl<R: ProgramHost, M: StartMonitor + Drop> ProgramSpawner<R, M> {
+impl<
+    R: Processes<Started = SystemProcess> + Files<File = File> + Clock + Wait + Drop,
+    M: StartMonitor + Drop,
+> ProgramSpawner<R, M> {
     /// A spawner whose child programs stand in this table and have their folders among these; the monitor is told of starts that wait
     /// and of the list of runs. The only error is out of memory.
     pub fn new(
@@ -175,7 +187,10 @@ impl<R: ProgramHost, M: StartMonitor + Drop> ProgramSpawner<R, M> {
     }
 }
 
-impl<R: ProgramHost, M: StartMonitor + Drop> Spawner for ProgramSpawner<R, M> {
+impl<
+    R: Processes<Started = SystemProcess> + Files<File = File> + Clock + Wait + Drop,
+    M: StartMonitor + Drop,
+> Spawner for ProgramSpawner<R, M> {
     ghost faults = { λ s. s };
 
     ghost ran = { λ _ _ _. ⊤ };

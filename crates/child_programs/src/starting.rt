@@ -2,14 +2,17 @@
 use crate::environment::set_environment;
 use crate::fault::StartFault;
 use crate::folders::{ServicePaths, path_in};
-use crate::host::ProgramHost;
 use crate::not_started::{NotStarted, lies_in_command};
 use crate::run_paths::RunPaths;
 use bt_base::{Word, text_of};
 use child_runs::RunIdentity;
 use std::alloc::{AllocError, Global};
 use std::fs;
-use std::process::{Child, Command, Stdio};
+use std::fs::File;
+use std::process::{Child, Command, Processes, Stdio, SystemProcess};
+use std::rt::Files;
+use std::sync::Wait;
+use std::time::Clock;
 
 /// A run whose child program is to be started.
 #[derive(Drop)]
@@ -57,7 +60,9 @@ impl Start<'_> {
     }
 
     /// Makes the folders and the files, and starts the child program.
-    pub fn attempt<R: ProgramHost>(&self, rt: &R, alloc: Global) -> Result<Child, StartFault> {
+    pub fn attempt<
+        R: Processes<Started = SystemProcess> + Files<File = File> + Clock + Wait + Drop,
+    >(&self, rt: &R, alloc: Global) -> Result<Child, StartFault> {
         self.paths.make_folders(rt)?;
         fs::create_dir_all(rt, self.service.shared.as_str())?;
         let (stdout, stderr) = self.paths.outputs(rt)?;
