@@ -8,7 +8,7 @@ use Rattle.atomic_table.specs.Seated.{TableId}
 use Rattle.atomic_table.specs.Table.{Me}
 use Rattle.counted_lock.specs.declared.views.Stamped.{Stamped}
 use Rattle.counted_lock.specs.declared.views.View.{View}
-use Rattle.counted_lock.specs.Views.{places_of, longer_if, longer, note, joined, caught_up}
+use Rattle.counted_lock.specs.Views.{places_of, unnumbered, longer_if, longer, note, joined, caught_up}
 use Rattle.counted_lock.specs.Plays.{CaughtUp, Numbered}
 use Rattle.counted_lock.specs.Turns.{CatchesUp, TakesNumber}
 use Rattle.counted_lock.specs.Passes.{PassState, pass_of}
@@ -35,6 +35,15 @@ module _ {S E O : Type 0} where
       let placed : places_of n told ≡ places_of n me.0.seen = ap (places_of n) (sym whole) ∙ up.placed n own in
       ap (λ m. places_of m told) number ∙ (placed ∙ (ap (places_of n) (sym seen) ∙ ap (λ m. places_of m p.seen) (sym number)))
 
+  -- nor has that history other entries without a number
+  pub told_opened : (t : TableId) (told : List (Stamped E)) (me after : Me S (View E O)) (p : PassState E O) → CatchesUp told me after
+      → p ≡ pass_of t (me.0 ∷ []) → ((o : O) × (p.origin ≡ Some o)) → IsPrefix p.seen told → unnumbered told ≡ unnumbered p.seen
+  told_opened t told me after p up is real begins =
+      let from : me.0.origin ≡ Some real.0 = sym (ap (λ q. q.origin) is) ∙ real.1 in
+      let seen : p.seen ≡ me.0.seen = ap (λ q. q.seen) is in
+      let whole : longer me.0.seen told ≡ told = longer_told me.0.seen told (subst (λ xs. IsPrefix xs told) seen begins) in
+      ap unnumbered (sym whole) ∙ (up.opened real.0 from ∙ ap unnumbered (sym seen))
+
   pub caught : (me mid after : Me S (View E O)) (t : View E O) (n : ℕ) → mid ≡ (joined me.0 (note [] t), me.1) → CaughtUp mid n after → CatchesUp t.seen me after
   caught me mid after t n is up =
       let c = subst (λ (m : Me S (View E O)). CaughtUp m n after) is up in let p : me.0.parts ++ [] ≡ me.0.parts = append_nil me.0.parts in
@@ -60,7 +69,7 @@ module _ {S E O : Type 0} where
         stage = me.0.stage;
       }) p in
       let now = view ∙ fixed in
-      record { view = λ i. (now i, carried i); begins = c.begins; heard = c.heard; placed = c.placed }
+      record { view = λ i. (now i, carried i); begins = c.begins; heard = c.heard; placed = c.placed; opened = c.opened }
 
   pub took : (me after : Me S (View E O)) (found old : ℕ) → found ≡ old → Numbered me found after old → TakesNumber me after (Some old)
   took me after found old same n = let view = n.made same in let carried = n.carried in ((λ i. (view i, carried i)), n.above same, n.unused same)

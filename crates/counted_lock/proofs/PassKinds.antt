@@ -15,12 +15,12 @@ use Rattle.atomic_table.proofs.Lists.{at_set, at_snoc, set_else, exchanged}
 use Rattle.counted_lock.specs.declared.views.Stage.TheVariants.{Free}
 use Rattle.counted_lock.specs.declared.views.Stamped.{Stamped}
 use Rattle.counted_lock.specs.declared.views.View.{View}
-use Rattle.counted_lock.specs.Views.{turn_of, hold_of, is_fresh, total, is_number, one_if, places_of, turn_in, hold_in, parts_in, listed_in, owned_in, times_in}
+use Rattle.counted_lock.specs.Views.{turn_of, hold_of, is_fresh, total, is_number, one_if, places_of, unnumbered, turn_in, hold_in, parts_in, listed_in, owned_in, times_in}
 use Rattle.counted_lock.specs.Views.{first_of, rest_of, with_spare, without_spare, new_pass, with_parts, note, spent, as_sole, longer_if, longer, joined, caught_up}
 use Rattle.counted_lock.specs.Rule.{Sees, Fits, Kept, IsKept}
 use Rattle.counted_lock.specs.Plays.{Numbered, Counted, CaughtUp}
 use Rattle.counted_lock.proofs.Prefixes.{prefix_self, prefix_shorter}
-use Rattle.counted_lock.proofs.Places.{places_between, places_none}
+use Rattle.counted_lock.proofs.Places.{places_between, places_none, unnumbered_between}
 use Rattle.counted_lock.proofs.Totals.{total_set, total_snoc, total_at, total_two}
 use Rattle.counted_lock.proofs.Numbers.{first_rest_length, first_rest_times, times_append}
 use Rattle.counted_lock.proofs.Kept.{changed, quiet, allowed}
@@ -76,6 +76,7 @@ module _ {D E O : Type 0} (entries : D → List E) (origin : D → O) (about : D
         heard = sees.heard;
         whole = sees.whole;
         placed = sees.placed;
+        opened = sees.opened;
         unused = λ n e. (let m : made ≡ n = cc e in (k.unmade n (subst (λ (z : ℕ). made ≤ z) m (omega arith))).1);
         seated = let a = sees.seated in
             omega arith;
@@ -87,6 +88,7 @@ module _ {D E O : Type 0} (entries : D → List E) (origin : D → O) (about : D
         heard = s.heard;
         whole = s.whole;
         placed = s.placed;
+        opened = s.opened;
         unused = s.unused;
         seated = s.seated;
         alone = λ e. (let a = s.alone e in let b = total_two parts_in views id j v u at au ne in let c = k.parts in absurd (omega arith));
@@ -179,6 +181,7 @@ module _ {D E O : Type 0} (entries : D → List E) (origin : D → O) (about : D
                 heard = sees.heard;
                 whole = sees.whole;
                 placed = sees.placed;
+                opened = sees.opened;
                 unused = sees.unused;
                 seated = sees.seated;
                 alone = λ _. sym same;
@@ -256,6 +259,7 @@ module _ {D E O : Type 0} (entries : D → List E) (origin : D → O) (about : D
         heard = sees.heard;
         whole = sees.whole;
         placed = sees.placed;
+        opened = sees.opened;
         unused = λ n e. absurd (cc e);
         seated = (omega arith);
         alone = λ e. absurd (cc (not_sole, e));
@@ -267,6 +271,7 @@ module _ {D E O : Type 0} (entries : D → List E) (origin : D → O) (about : D
         whole = λ e. absurd (cc e);
         placed = λ n e. sees.unused n e
             ∙ sym (places_none n v.seen h sees.begins (sees.unused n e));
+        opened = sees.opened;
         unused = λ n e. absurd (cc e);
         seated = omega arith;
         alone = λ e. absurd (cc e);
@@ -284,6 +289,7 @@ module _ {D E O : Type 0} (entries : D → List E) (origin : D → O) (about : D
         heard = sees.heard;
         whole = sees.whole;
         placed = sees.placed;
+        opened = sees.opened;
         unused = sees.unused;
         seated = (omega arith);
         alone = λ e. absurd (cc e);
@@ -294,6 +300,7 @@ module _ {D E O : Type 0} (entries : D → List E) (origin : D → O) (about : D
         heard = (h, refl);
         whole = λ e. absurd (cc e);
         placed = λ n e. absurd (cc e);
+        opened = sees.opened;
         unused = λ n e. absurd (cc e);
         seated = omega arith;
         alone = λ e. absurd (cc e);
@@ -310,6 +317,7 @@ module _ {D E O : Type 0} (entries : D → List E) (origin : D → O) (about : D
         heard = (h, refl);
         whole = λ e. absurd (cc e);
         placed = λ n e. absurd (cc e);
+        opened = sees.opened;
         unused = λ n e. absurd (cc e);
         seated = omega arith;
         alone = λ e. absurd (cc e);
@@ -323,6 +331,7 @@ module _ {D E O : Type 0} (entries : D → List E) (origin : D → O) (about : D
     heard = (h, refl);
     whole = λ e. absurd (cc e);
     placed = λ n e. absurd (cc e);
+    opened = λ x e. absurd (cc e);
     unused = λ n e. absurd (cc e);
     seated = omega arith;
     alone = λ e. absurd (cc e);
@@ -376,6 +385,7 @@ module _ {D E O : Type 0} (entries : D → List E) (origin : D → O) (about : D
         heard = sw.begins;
         whole = λ e. absurd (cc (held, e));
         placed = sv.placed;
+        opened = sv.opened;
         unused = sv.unused;
         seated = (omega arith);
         alone = λ e. absurd (cc e);
@@ -391,6 +401,7 @@ module _ {D E O : Type 0} (entries : D → List E) (origin : D → O) (about : D
         heard = sv.heard;
         whole = λ e. absurd (cc (held, e));
         placed = sv.placed;
+        opened = sv.opened;
         unused = sv.unused;
         seated = (omega arith);
         alone = λ e. absurd (cc e);
@@ -402,6 +413,8 @@ module _ {D E O : Type 0} (entries : D → List E) (origin : D → O) (about : D
       let v : V = me.0 in let sees = k.each id v at in let long = longer_begins v.seen v.told h sees.begins sees.heard in let w : V = caught_up v in
       let same : (n : ℕ) → v.number ≡ Some n → places_of n (longer v.seen v.told) ≡ places_of n v.seen =
       λ n e. places_between n v.seen (longer v.seen v.told) h long.0 long.2 (sees.placed n e) in
+      let same_opened : (x : O) → v.origin ≡ Some x → unnumbered (longer v.seen v.told) ≡ unnumbered v.seen =
+      λ x e. unnumbered_between v.seen (longer v.seen v.told) h long.0 long.2 (sees.opened x e) in
       let held : is_fresh v.stage ≡ false = ap is_fresh free in (
         w,
         keeps,
@@ -421,6 +434,7 @@ module _ {D E O : Type 0} (entries : D → List E) (origin : D → O) (about : D
                 whole = λ e. absurd (cc (held, e));
                 placed = λ n e. sees.placed n e
                     ∙ sym (same n e);
+                opened = λ x e. sees.opened x e ∙ sym (same_opened x e);
                 unused = sees.unused;
                 seated = sees.seated;
                 alone = sees.alone;
@@ -428,7 +442,15 @@ module _ {D E O : Type 0} (entries : D → List E) (origin : D → O) (about : D
               (omega arith) k.gate_small refl (λ n. refl)
               (slot_same h (total hold_in views) (total hold_in (set views id w)) home (let a = total_set hold_in views id v w at in omega arith) k.slot);
         },
-        record { carried = refl; view = refl; begins = long.0; heard = long.1; placed = same },
+        record {
+          carried = refl;
+          view = refl;
+          begins = long.0;
+          heard = long.1;
+          placed = same;
+          opened = same_opened;
+          distinct = λ n. (let a = total_at (listed_in n) views id v at in let b = k.listed_once n in omega arith);
+        },
       ))
 
   -- a new seat, which knows nothing

@@ -14,12 +14,12 @@ use Rattle.atomic_table.proofs.Lists.{at_set}
 use Rattle.counted_lock.specs.declared.views.Stage.TheVariants.{Free, Turn, Fresh, Holding}
 use Rattle.counted_lock.specs.declared.views.Stamped.{Stamped}
 use Rattle.counted_lock.specs.declared.views.View.{View}
-use Rattle.counted_lock.specs.Views.{turn_of, hold_of, is_fresh, total, is_number, one_if, places_of, entry_of, stamped, turn_in, hold_in, parts_in}
+use Rattle.counted_lock.specs.Views.{turn_of, hold_of, is_fresh, total, is_number, one_if, places_of, unnumbered, entry_of, stamped, turn_in, hold_in, parts_in}
 use Rattle.counted_lock.specs.Views.{listed_in, owned_in, staged, with_seen}
 use Rattle.counted_lock.specs.Rule.{Sees, Fits, Kept, IsKept}
 use Rattle.counted_lock.specs.Plays.{TurnTaken, Looked, SlotTaken, Released, GivenBack, Entered}
 use Rattle.counted_lock.proofs.Prefixes.{prefix_self, prefix_more, last_same}
-use Rattle.counted_lock.proofs.Places.{append_nil, places_other}
+use Rattle.counted_lock.proofs.Places.{append_nil, places_other, unnumbered_same}
 use Rattle.counted_lock.proofs.Totals.{total_set, total_at, total_two, total_below, total_below_in}
 use Rattle.counted_lock.proofs.Kept.{hold_below, fresh_turn, quiet, sees_staged, allowed}
 
@@ -117,6 +117,7 @@ module _ {D E O : Type 0} (entries : D → List E) (origin : D → O) (about : D
                 heard = sees.heard;
                 whole = λ _. refl;
                 placed = λ n _. refl;
+                opened = λ x _. refl;
                 unused = sees.unused;
                 seated = let a = sees.seated in omega arith;
                 alone = sees.alone;
@@ -124,7 +125,7 @@ module _ {D E O : Type 0} (entries : D → List E) (origin : D → O) (about : D
               (omega arith) k.gate_small refl (λ n. refl)
               (slot_stays h views id me.0 w home at (sym (ap hold_of turn)) k.slot);
         },
-        record { history = h; carried = refl; view = refl; begins = sees.begins; placed = sees.placed; counted = refl },
+        record { history = h; carried = refl; view = refl; begins = sees.begins; placed = sees.placed; opened = sees.opened; counted = refl },
       ))
 
   -- a load by which the slot is taken
@@ -299,6 +300,7 @@ module _ {D E O : Type 0} (entries : D → List E) (origin : D → O) (about : D
         heard = prefix_more v.told h (x ∷ []) sees.heard;
         whole = λ _. ap (λ (z : List (Stamped E)). z ++ x ∷ []) whole;
         placed = λ n own. ap (λ (z : List (Stamped E)). places_of n (z ++ x ∷ [])) (sym whole);
+        opened = λ y o. ap (λ (z : List (Stamped E)). unnumbered (z ++ x ∷ [])) (sym whole);
         unused = λ n own. unmoved n h x m numbered.1 (λ same. (let a : one_if (is_number v.spare n) ≡ 1 = ap one_if (one_of_same v.spare n own) in
             let b : one_if (is_number v.number n) ≡ 1 = ap one_if (one_of_same v.number n (numbered.1 ∙ ap Some same)) in
             let c = total_at (owned_in n) views id v at in let o = k.once n in omega arith)) ∙ sees.unused n own;
@@ -313,6 +315,7 @@ module _ {D E O : Type 0} (entries : D → List E) (origin : D → O) (about : D
             let g = k.gate_small in absurd (omega arith));
         placed = λ n own. unmoved n h x m numbered.1 (apart views id j v y m n k.once at ay ne numbered.1
             (let a : one_if (is_number y.number n) ≡ 1 = ap one_if (one_of_same y.number n own) in omega arith)) ∙ s.placed n own;
+        opened = λ z o. unnumbered_same h x m numbered.1 ∙ s.opened z o;
         unused = λ n own. unmoved n h x m numbered.1 (apart views id j v y m n k.once at ay ne numbered.1
             (let a : one_if (is_number y.spare n) ≡ 1 = ap one_if (one_of_same y.spare n own) in omega arith)) ∙ s.unused n own;
         seated = s.seated;

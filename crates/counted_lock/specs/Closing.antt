@@ -6,7 +6,7 @@ use Rattle.atomic_table.specs.Seated.{TableId}
 use Rattle.counted_lock.specs.declared.views.Stage.TheVariants.{Free}
 use Rattle.counted_lock.specs.declared.views.Stamped.{Stamped}
 use Rattle.counted_lock.specs.declared.views.View.{View}
-use Rattle.counted_lock.specs.Views.{places_of, entry_of, times_in}
+use Rattle.counted_lock.specs.Views.{places_of, unnumbered, entry_of, times_in}
 use Rattle.counted_lock.specs.Passes.{PassState, numbers_of, lent}
 
 module _ {S E O : Type 0} where
@@ -15,12 +15,13 @@ module _ {S E O : Type 0} where
     pub free : me.0.stage ≡ Free
     pub carries : me.1 ≡ []
 
-  -- a pass has lent its part to the seat, which has then seen what the pass has seen
+  -- a pass has lent its part to the seat, which has then seen what the pass has seen, and has no number twice in its parts
   pub record Lends (p : PassState E O) (me after : Me S (View E O)) : Type 0 where
     pub gatherer : IsGatherer after
     pub more : after.0.parts ≡ me.0.parts ++ p.number ∷ []
     pub kept : IsPrefix me.0.seen after.0.seen
     pub heard : IsPrefix p.seen after.0.seen
+    pub distinct : (n : ℕ) → times_in n after.0.parts ≤ 1
 
 module _ {E O : Type 0} where
   -- a pass of the lock with this table, which stands for itself alone
@@ -54,12 +55,13 @@ module _ {E O : Type 0} where
     pub each : (k : ℕ) (d : PassState E O) → k < length ps → slice_index_or qs k d ≡ whole (slice_index_or ps k d)
 
 -- What `close` returns: the journal of the object is the history without numbers. The history begins with what each of the passes has
--- seen, and has no entry under the number of a pass that this pass has not seen. No two of the passes have the same number, and the
--- history has no entries under any other number.
+-- seen, and has no entry under the number of a pass that this pass has not seen, and none without a number. No two of the passes have the
+-- same number, and the history has no entries under any other number.
 pub record IsShared {D E O : Type 0} (entries : D → List E) (object : D) (ps : List (PassState E O)) : Type 0 where
   pub history : List (Stamped E)
   pub journal : entries object ≡ map entry_of history
   pub seen : All (λ p. IsPrefix p.seen history) ps
   pub placed : All (λ p. places_of p.number history ≡ places_of p.number p.seen) ps
+  pub opened : All (λ p. unnumbered history ≡ unnumbered p.seen) ps
   pub distinct : (n : ℕ) → times_in n (numbers_of ps) ≤ 1
   pub others : (n : ℕ) → times_in n (numbers_of ps) ≡ 0 → places_of n history ≡ []

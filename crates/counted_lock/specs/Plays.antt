@@ -6,7 +6,7 @@ use Rattle.atomic_table.specs.Table.{Me}
 use Rattle.counted_lock.specs.declared.views.Stage.TheVariants.{Free, Turn, Fresh, Holding}
 use Rattle.counted_lock.specs.declared.views.Stamped.{Stamped}
 use Rattle.counted_lock.specs.declared.views.View.{View}
-use Rattle.counted_lock.specs.Views.{places_of, entry_of, stamped, staged, with_seen, with_spare, as_sole, longer, caught_up}
+use Rattle.counted_lock.specs.Views.{places_of, unnumbered, entry_of, stamped, staged, with_seen, with_spare, as_sole, times_in, longer, caught_up}
 
 module _ {S E O : Type 0} (me : Me S (View E O)) (found : ℕ) (after : Me S (View E O)) where
   -- a swap of 1 into the gate: if the word was 0, the seat has the turn. It was 0 if the seat is known to stand for all passes
@@ -16,13 +16,15 @@ module _ {S E O : Type 0} (me : Me S (View E O)) (found : ℕ) (after : Me S (Vi
     pub busy : found ≢ 0 → after.0 ≡ me.0
     pub alone : me.0.sole ≡ true → found ≡ 0
 
-  -- a load of the count in the turn: the seat has then seen the whole history, in which it has no entries that it had not seen
+  -- a load of the count in the turn: the seat has then seen the whole history, in which it has no entries that it had not seen,
+  -- and which has no others without a number
   pub record Looked : Type 0 where
     pub history : List (Stamped E)
     pub carried : after.1 ≡ me.1
     pub view : after.0 ≡ with_seen Fresh history me.0
     pub begins : IsPrefix me.0.seen history
     pub placed : (n : ℕ) → me.0.number ≡ Some n → places_of n history ≡ places_of n me.0.seen
+    pub opened : (x : O) → me.0.origin ≡ Some x → unnumbered history ≡ unnumbered me.0.seen
     pub counted : found ≡ length history
 
   -- a store of 0 into the gate: the seat does not have the turn any more
@@ -45,13 +47,15 @@ module _ {S E O : Type 0} (me : Me S (View E O)) (found : ℕ) (after : Me S (Vi
     pub unused : found ≡ old → places_of old me.0.seen ≡ []
 
   -- a load of the count outside of a turn: what a note has brought is seen. Of what was seen and what was brought, one is a prefix of
-  -- the other, and the longer one stays
+  -- the other, and the longer one stays. No number is twice in the parts of the seat
   pub record CaughtUp : Type 0 where
     pub carried : after.1 ≡ me.1
     pub view : after.0 ≡ caught_up me.0
     pub begins : IsPrefix me.0.seen (longer me.0.seen me.0.told)
     pub heard : IsPrefix me.0.told (longer me.0.seen me.0.told)
     pub placed : (n : ℕ) → me.0.number ≡ Some n → places_of n (longer me.0.seen me.0.told) ≡ places_of n me.0.seen
+    pub opened : (x : O) → me.0.origin ≡ Some x → unnumbered (longer me.0.seen me.0.told) ≡ unnumbered me.0.seen
+    pub distinct : (n : ℕ) → times_in n me.0.parts ≤ 1
 
   -- a load of the passes made: whether the seat stands for all of them
   pub record Counted : Type 0 where

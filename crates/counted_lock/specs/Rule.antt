@@ -10,7 +10,7 @@ use Rattle.atomic_table.specs.Table.{State}
 use Rattle.counted_lock.specs.declared.views.Stage.TheVariants.{Free}
 use Rattle.counted_lock.specs.declared.views.Stamped.{Stamped}
 use Rattle.counted_lock.specs.declared.views.View.{View}
-use Rattle.counted_lock.specs.Views.{turn_of, is_fresh, total, places_of, entry_of, stamped, turn_in, hold_in, parts_in, listed_in, owned_in}
+use Rattle.counted_lock.specs.Views.{turn_of, is_fresh, total, places_of, unnumbered, entry_of, stamped, turn_in, hold_in, parts_in, listed_in, owned_in}
 
 -- the view of the first pass, which has seen the object's journal
 abbrev pub first_view : {E O : Type 0} → O → List E → View E O
@@ -27,6 +27,8 @@ pub record Sees {E O : Type 0} (o : O) (h : List (Stamped E)) (made : ℕ) (v : 
   pub whole : is_fresh v.stage ≡ true → v.seen ≡ h
   -- it has seen all entries under its number
   pub placed : (n : ℕ) → v.number ≡ Some n → places_of n h ≡ places_of n v.seen
+  -- it has seen all entries without a number, if it knows the origin
+  pub opened : (x : O) → v.origin ≡ Some x → unnumbered h ≡ unnumbered v.seen
   -- no entry has the number that it has for a new pass
   pub unused : (n : ℕ) → v.spare ≡ Some n → places_of n h ≡ []
   -- it has the turn only if it stands for a pass

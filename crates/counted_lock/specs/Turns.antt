@@ -9,7 +9,7 @@ use Rattle.atomic_table.specs.declared.shared.Shared.{Shared}
 use Rattle.counted_lock.specs.declared.views.Stage.TheVariants.{Fresh, Holding}
 use Rattle.counted_lock.specs.declared.views.Stamped.{Stamped}
 use Rattle.counted_lock.specs.declared.views.View.{View}
-use Rattle.counted_lock.specs.Views.{places_of, entry_of, stamped, staged, with_seen, with_spare, times_in, longer}
+use Rattle.counted_lock.specs.Views.{places_of, unnumbered, entry_of, stamped, staged, with_seen, with_spare, times_in, longer}
 
 -- the table `t` has three words and one slot, and `z` is the same table
 abbrev pub IsTable : TableId → TableId → Type 0
@@ -29,13 +29,14 @@ module _ {E O : Type 0} where
   abbrev pub HasOrigin : View E O → Type 0
   HasOrigin v = (o : O) × (v.origin ≡ Some o)
 
--- the seat has seen a whole history, in which the pass has no entries that it had not seen
+-- the seat has seen a whole history, in which the pass has no entries that it had not seen, and which has no others without a number
 pub record SeesWhole {S E O : Type 0} (me after : Me S (View E O)) : Type 0 where
   pub history : List (Stamped E)
   pub carried : after.1 ≡ me.1
   pub view : after.0 ≡ with_seen Fresh history me.0
   pub begins : IsPrefix me.0.seen history
   pub placed : (n : ℕ) → me.0.number ≡ Some n → places_of n history ≡ places_of n me.0.seen
+  pub opened : (x : O) → me.0.origin ≡ Some x → unnumbered history ≡ unnumbered me.0.seen
 
 module _ {D E O : Type 0} (entries : D → List E) (origin : D → O) where
   -- the object is out, and the seat holds the empty slot. The journal of the object is what the seat has seen
@@ -99,6 +100,7 @@ module _ {S E O : Type 0} where
     pub begins : IsPrefix me.0.seen (longer me.0.seen told)
     pub heard : IsPrefix told (longer me.0.seen told)
     pub placed : (n : ℕ) → me.0.number ≡ Some n → places_of n (longer me.0.seen told) ≡ places_of n me.0.seen
+    pub opened : (x : O) → me.0.origin ≡ Some x → unnumbered (longer me.0.seen told) ≡ unnumbered me.0.seen
 
 module _ {D E O : Type 0} (entries : D → List E) (origin : D → O) where
   -- the same of the object that was taken out of the slot

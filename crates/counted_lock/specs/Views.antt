@@ -80,6 +80,17 @@ module _ {E : Type 0} where
   stamped n e = record { entry = e; maker = n }
 
 module _ {E : Type 0} where
+  -- the entry before the others, if it has no number
+  abbrev pub opened_if : Option ℕ → E → List E → List E
+  opened_if None e rest = e ∷ rest
+  opened_if (Some n) e rest = rest
+
+  -- the entries without a number, in order: those of the journal at the opening
+  abbrev pub unnumbered : List (Stamped E) → List E
+  unnumbered [] = []
+  unnumbered (x ∷ xs) = opened_if x.maker x.entry (unnumbered xs)
+
+module _ {E : Type 0} where
   -- the second list if it is true, else the first
   abbrev pub longer_if : Bool → List (Stamped E) → List (Stamped E) → List (Stamped E)
   longer_if true xs ys = ys

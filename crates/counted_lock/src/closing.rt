@@ -6,7 +6,7 @@
 ghost use Rattle.std.specs.Prelude.{◌≡◌, true, ◌<◌, ◌≤◌, ℕ, List, [], ◌∷◌, ◌++◌, map, length, All, Some, None, IfOk, IfErr};
 ghost use mathlib.Core.List.{IsPrefix};
 ghost use Rattle.counted_lock.specs.declared.views.Stage.TheVariants.{Free, Fresh};
-ghost use Rattle.counted_lock.specs.Views.{places_of, entry_of};
+ghost use Rattle.counted_lock.specs.Views.{places_of, unnumbered, entry_of};
 ghost use Rattle.counted_lock.specs.Turns.{IsBoard, SeesWhole, LeavesObject};
 ghost use Rattle.counted_lock.specs.Passes.{IsPassOf, numbers_of, lent};
 ghost use Rattle.counted_lock.specs.Closing.{IsGatherer, Lends, TakesPart, IsAt, IsLentAt, AreLent, AreBack, IsShared};
@@ -72,6 +72,26 @@ fn give_back<E, O, D: Journaled<E, O>>(
     Pass::of(number, seat)
 }
 
+/// Two passes have different numbers: both lend their parts to a new seat, which has no number twice, and get them back.
+pub(crate) fn hold_apart<E, O, D: Journaled<E, O>>(
+    board: &Board<D, E, O>,
+    one: Pass<E, O>,
+    other: Pass<E, O>,
+) -> (Pass<E, O>, Pass<E, O>)
+    requires board { IsBoard board.now one.table }
+    requires one { IsAt one.table one }
+    requires other { IsAt one.table other }
+    ensures same { (result.0 ≡ one) × (result.1 ≡ other) }
+    ensures apart { one.number ≡ other.number → ⊥ }
+{
+    let mut all = board.load_new_seat::<NewSeat>(COUNT).1;
+    let first = lend(board, &mut all, one);
+    let second = lend(board, &mut all, other);
+    let first = give_back(board, &mut all, first);
+    let second = give_back(board, &mut all, second);
+    (first, second)
+}
+
 /// All passes lend their parts, in order.
 fn lend_all<E, O, D: Journaled<E, O>>(
     board: &Board<D, E, O>,
@@ -124,7 +144,8 @@ fn see_whole<E, O, D: Journaled<E, O>>(board: &Board<D, E, O>, all: &mut Place<D
     steps::look(board, all);
 }
 
-/// Tells a pass what the seat has seen, which begins with what the pass has seen: the pass has no entries in it that it had not seen.
+/// Tells a pass what the seat has seen, which begins with what the pass has seen: the pass has no entries in it that it had not seen, and it
+/// has no others without a number.
 fn tell_pass<E, O, D: Journaled<E, O>>(
     board: &Board<D, E, O>,
     all: &mut Place<D, E, O>,
@@ -135,6 +156,7 @@ fn tell_pass<E, O, D: Journaled<E, O>>(
     requires begins { IsPrefix pass.seen all.old.me.0.seen }
     ensures same { (all.new.table_id ≡ all.old.table_id) × (all.new.me ≡ all.old.me) }
     ensures placed { places_of pass.number all.old.me.0.seen ≡ places_of pass.number pass.seen }
+    ensures opened { unnumbered all.old.me.0.seen ≡ unnumbered pass.seen }
 {
     let (number, mut seat) = pass.into_seat();
     tell(board, all, &mut seat);
@@ -152,6 +174,7 @@ fn tell_all<E, O, D: Journaled<E, O>>(
     requires begins { All (λ p. IsPrefix p.seen all.old.me.0.seen) passes.old.items }
     ensures same { (all.new.table_id ≡ all.old.table_id) × (all.new.me ≡ all.old.me) }
     ensures placed { All (λ p. places_of p.number all.old.me.0.seen ≡ places_of p.number p.seen) passes.old.items }
+    ensures opened { All (λ p. unnumbered all.old.me.0.seen ≡ unnumbered p.seen) passes.old.items }
 {
     for pass in passes.iter_mut() {
         let mine = mem::replace(pass, Pass::blank());
@@ -176,7 +199,8 @@ fn take_out<D: Journaled<E, O>, E, O>(lock: CountedLock<D, E, O>, all: Place<D, 
 impl<D: Journaled<E, O>, E, O> CountedLock<D, E, O> {
     /// Closes the lock if all passes that were made are handed in, and returns the object. Its journal is the history without
     /// numbers. The history begins with what each pass has seen, and has no entry under the number of a pass that this pass has not
-    /// seen. No two of the passes have the same number, and there are no entries under any other number. Otherwise the error returns
+    /// seen, and no others without a number. No two of the passes have the same number, and there are no entries under any other
+    /// number. Otherwise the error returns
     /// lock and passes as they were, and says how many passes were handed in and how many were made. It does not allocate, and does
     /// not wait.
     pub fn close(self, mut passes: Vec<Pass<E, O>>) -> Result<D, PassesOut<D, E, O>>

@@ -1,7 +1,7 @@
 //! The lock, and its turns.
 ghost use Rattle.std.specs.Prelude.{◌≡◌, ◌<◌, ◌^◌, [], ◌∷◌, ◌++◌, map, length, Some, None};
 ghost use mathlib.Core.List.{IsPrefix};
-ghost use Rattle.counted_lock.specs.Views.{places_of, entry_of, stamped};
+ghost use Rattle.counted_lock.specs.Views.{places_of, unnumbered, entry_of, stamped};
 ghost use Rattle.counted_lock.specs.Passes.{IsPassOf};
 
 use crate::pass::{Held, Pass};
@@ -33,13 +33,14 @@ impl<D: Journaled<E, O>, E, O> Model for CountedLock<D, E, O> {
 
 impl<D: Journaled<E, O>, E, O> CountedLock<D, E, O> {
     /// Waits for the turn, and takes the object out of the lock. The journal of the object is the whole history, and the pass has
-    /// seen it. `enter` or `leave` ends the turn; a turn that is not ended keeps all other passes waiting.
+    /// seen it. It has no entries under the number of the pass, and none without a number, that the pass had not seen. `enter` or `leave` ends the turn; a turn that is not ended keeps all other passes waiting.
     pub fn begin<R: Wait>(&self, rt: &R, pass: Pass<E, O>) -> (Held<D, E, O>, D)
         requires pass { IsPassOf self.now pass }
         ensures pass { IsPassOf self.now result.0 }
         ensures number { result.0.number ≡ pass.number }
         ensures seen { IsPrefix pass.seen result.0.seen }
         ensures placed { places_of pass.number result.0.seen ≡ places_of pass.number pass.seen }
+        ensures opened { unnumbered result.0.seen ≡ unnumbered pass.seen }
         ensures journal { D.entries result.1 ≡ map entry_of result.0.seen }
         ensures origin { D.origin result.1 ≡ self.now.origin }
     {

@@ -2,10 +2,11 @@
 ghost use Rattle.std.specs.Prelude.{◌≡◌, ◌<◌, ℕ, true, false, [], length, Some, None, IfSome};
 ghost use mathlib.Core.List.{IsPrefix};
 ghost use Rattle.counted_lock.specs.declared.views.Stage.TheVariants.{Free};
-ghost use Rattle.counted_lock.specs.Views.{places_of, with_spare, joined, caught_up};
+ghost use Rattle.counted_lock.specs.Views.{places_of, unnumbered, with_spare, joined, caught_up};
 ghost use Rattle.counted_lock.specs.Turns.{IsBoard, TakesNumber, CatchesUp};
 ghost use Rattle.counted_lock.specs.Passes.{IsPassOf, IsIdleView, IsNew};
 
+use crate::closing::hold_apart;
 use crate::lock::CountedLock;
 use crate::pass::Pass;
 use crate::plays::{CatchUp, CopySeen, GiveNumber, JoinNote, Number};
@@ -73,8 +74,8 @@ impl<D: Journaled<E, O>, E, O> CountedLock<D, E, O> {
         (Pass::of(number, seat), Some(Pass::of(next, other)))
     }
 
-    /// Tells each pass what the other has seen: both have then seen one history that begins with what each had seen. It does not
-    /// allocate.
+    /// Tells each pass what the other has seen: both have then seen one history that begins with what each had seen. The two have
+    /// different numbers. It does not allocate.
     pub fn meet(&self, one: Pass<E, O>, other: Pass<E, O>) -> (Pass<E, O>, Pass<E, O>)
         requires one { IsPassOf self.now one }
         requires other { IsPassOf self.now other }
@@ -82,9 +83,12 @@ impl<D: Journaled<E, O>, E, O> CountedLock<D, E, O> {
         ensures numbers { (result.0.number ≡ one.number) × (result.1.number ≡ other.number) }
         ensures places { (places_of one.number result.0.seen ≡ places_of one.number one.seen)
             × (places_of other.number result.1.seen ≡ places_of other.number other.seen) }
+        ensures opened { (unnumbered result.0.seen ≡ unnumbered one.seen) × (unnumbered result.1.seen ≡ unnumbered other.seen) }
         ensures seen { IsPrefix one.seen result.0.seen × IsPrefix other.seen result.0.seen × (result.1.seen ≡ result.0.seen) }
+        ensures apart { one.number ≡ other.number → ⊥ }
     {
         let board = &self.table.shared;
+        let (one, other) = hold_apart(board, one, other);
         let (one_number, mut first) = one.into_seat();
         let (other_number, mut second) = other.into_seat();
         tell(board, &mut second, &mut first);

@@ -13,6 +13,7 @@ shared_journal d journal passes shared same = record {
   journal = same ∙ shared.journal;
   seen = shared.seen;
   placed = shared.placed;
+  opened = shared.opened;
   distinct = shared.distinct;
   others = shared.others;
 }

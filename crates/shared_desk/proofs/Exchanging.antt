@@ -56,6 +56,7 @@ adds_none old new x none same more = record {
   added = [];
   places = more.places ∙ sym (append-nil (places_of old.pass.number old.pass.seen));
   calls = subst (λ es. StandAt old.pass.number new.pass.seen [] (es ++ [])) (sym none) tt;
+  opened = more.opened;
 }
 
 -- a call that adds its entry
@@ -72,6 +73,7 @@ adds_one old new moment event answer e one same extends = record {
         (get_last extends.before (stamped (Some old.pass.number) e)),
     tt,
   );
+  opened = extends.opened;
 }
 
 -- a call
@@ -96,6 +98,7 @@ nothing a = record {
   added = [];
   places = sym (append-nil (places_of a.pass.number a.pass.seen));
   calls = tt;
+  opened = refl;
 }
 
 -- an exchange, and then others
@@ -116,6 +119,7 @@ more old middle new x xs first rest =
       places = places ∙ (ap (λ z. z ++ rest.added) first.places ∙ append_assoc (places_of n old.pass.seen) first.added rest.added);
       calls = stand_append n new.pass.seen first.added rest.added (entries_of x) (flat_map entries_of xs)
           (stand_more n middle.pass.seen new.pass.seen first.added (entries_of x) rest.begins calls) later;
+      opened = rest.opened ∙ first.opened;
     }
 
 -- all exchanges

@@ -16,8 +16,8 @@ use Rattle.batch_desk.specs.Kept.{Desk}
 use Rattle.batch_desk.specs.History.{IsLegal, after_all}
 use Rattle.batch_desk.specs.Answers.{entry_answer, Enters, HasSameOpening, IsInOrder}
 use Rattle.counted_lock.specs.declared.views.Stamped.{Stamped}
-use Rattle.counted_lock.specs.Views.{places_of, entry_of, stamped}
-use Rattle.counted_lock.proofs.Places.{places_last}
+use Rattle.counted_lock.specs.Views.{places_of, unnumbered, entry_of, stamped}
+use Rattle.counted_lock.proofs.Places.{places_last, unnumbered_same}
 use Rattle.shared_desk.specs.Openings.{Opening, opening_of}
 use Rattle.shared_desk.specs.Sharing.{Caller, calls_of, tables_after, IsLegalFrom, Extends, SeesLegal, Looks, LooksAt, LooksAsked}
 use Rattle.shared_desk.specs.Turns.{HasTurn}
@@ -35,10 +35,10 @@ module _ {K : Type 0} (told : K → Option State) (faults : K → ℕ) (o : Open
 
   -- a pass that has the turn of a desk in order
   pub has_turn : (p h : Caller) (d : Desk K) → h.number ≡ p.number → IsPrefix p.seen h.seen → places_of p.number h.seen ≡ places_of p.number p.seen →
-      d.entries ≡ calls_of h.seen → opening_of d ≡ o → IsInOrder told faults d → HasTurn told faults o p h d
-  has_turn p h d same begins placed journal from order = record {
+      unnumbered h.seen ≡ unnumbered p.seen → d.entries ≡ calls_of h.seen → opening_of d ≡ o → IsInOrder told faults d → HasTurn told faults o p h d
+  has_turn p h d same begins placed opened journal from order = record {
     number = same;
-    sees = record { more = record { number = same; begins = begins; places = placed }; legal = legal_seen d h.seen order from journal };
+    sees = record { more = record { number = same; begins = begins; places = placed; opened = opened }; legal = legal_seen d h.seen order from journal };
     journal = journal;
     opening = from;
     state = tables_seen d h.seen order from journal;
@@ -70,6 +70,7 @@ module _ {K : Type 0} (told : K → Option State) (faults : K → ℕ) (o : Open
         places = ap (places_of p.number) now
             ∙ (places_last p.number h.seen (stamped (Some p.number) e) (eq-eqb p.number p.number refl)
             ∙ ap (λ (z : List ℕ). z ++ length h.seen ∷ []) turn.sees.more.places);
+        opened = ap unnumbered now ∙ (unnumbered_same h.seen (stamped (Some p.number) e) p.number refl ∙ turn.sees.more.opened);
       }
     where
       same_opening : HasSameOpening d after → opening_of after ≡ opening_of d
@@ -86,6 +87,7 @@ module _ {K : Type 0} (told : K → Option State) (faults : K → ℕ) (o : Open
       number = numbered ∙ sees.more.number;
       begins = subst (λ xs. IsPrefix p.seen xs) (sym same) sees.more.begins;
       places = ap (places_of p.number) same ∙ sees.more.places;
+      opened = ap unnumbered same ∙ sees.more.opened;
     };
     legal = subst (IsLegalFrom o) (sym same) sees.legal;
   }

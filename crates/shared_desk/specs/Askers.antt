@@ -7,7 +7,7 @@ use Rattle.batch_ask.specs.Exchanges.{Exchange, Called, Looked, Leads}
 use Rattle.batch_ask.specs.Desks.{entries_of}
 use Rattle.counted_lock.specs.declared.views.Stamped.{Stamped}
 use Rattle.counted_lock.specs.Passes.{LockIdentity}
-use Rattle.counted_lock.specs.Views.{places_of, stamped}
+use Rattle.counted_lock.specs.Views.{places_of, unnumbered, stamped}
 use Rattle.shared_desk.specs.Openings.{Opening}
 use Rattle.shared_desk.specs.Sharing.{Caller, Asked, Looks}
 
@@ -34,13 +34,14 @@ StandAt n h (k ∷ ks) [] = ⊥
 StandAt n h (k ∷ ks) (e ∷ es) = (slice_get h k ≡ Some (stamped (Some n) e)) × StandAt n h ks es
 
 -- What exchanges leave of an asker: it has seen what it had seen, and perhaps more, in which its new places are those of the calls that were
--- made or that a keeper fault left undone, in order.
+-- made or that a keeper fault left undone, in order. No call without a number was added.
 pub record LeavesAsker (old new : AskerState) (exchanges : List Exchange) : Type 0 where
   pub same : IsSameAsker old new
   pub begins : IsPrefix old.pass.seen new.pass.seen
   pub added : List ℕ
   pub places : places_of old.pass.number new.pass.seen ≡ places_of old.pass.number old.pass.seen ++ added
   pub calls : StandAt old.pass.number new.pass.seen added (flat_map entries_of exchanges)
+  pub opened : unnumbered new.pass.seen ≡ unnumbered old.pass.seen
 
 abbrev pub EntersItsCalls : Type 0
 EntersItsCalls = (old new : AskerState) (exchanges : List Exchange) → Leads IsSharedExchange old exchanges new → LeavesAsker old new exchanges

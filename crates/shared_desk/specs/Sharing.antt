@@ -19,7 +19,7 @@ use Rattle.batch_desk.specs.Answers.{entry_answer}
 use Rattle.counted_lock.specs.Closing.{IsShared}
 use Rattle.counted_lock.specs.declared.views.Stamped.{Stamped}
 use Rattle.counted_lock.specs.Passes.{PassState}
-use Rattle.counted_lock.specs.Views.{places_of, entry_of, stamped}
+use Rattle.counted_lock.specs.Views.{places_of, unnumbered, entry_of, stamped}
 use Rattle.shared_desk.specs.Openings.{Opening}
 
 -- a pass: its number, and what it has seen, in which the places of its calls are those of its number
@@ -38,14 +38,17 @@ tables_after o h = after_all o.seats o.opened (calls_of h)
 abbrev pub IsLegalFrom : Opening → List (Stamped Entry) → Type 0
 IsLegalFrom o h = IsLegal o.seats o.opened (calls_of h)
 
--- the pass is the same, by its number, and what is seen begins with what was seen, and has no other calls of the pass
+-- the pass is the same, by its number, and what is seen begins with what was seen, and has no other calls of the pass, and none without a
+-- number
 pub record SeesMore (p q : Caller) : Type 0 where
   pub number : q.number ≡ p.number
   pub begins : IsPrefix p.seen q.seen
   pub places : places_of p.number q.seen ≡ places_of p.number p.seen
+  pub opened : unnumbered q.seen ≡ unnumbered p.seen
 
 -- The pass is the same, by its number. What is then seen is a legal history, which begins with what was seen, perhaps goes on with calls of
--- other passes, and ends with the call under the number of the pass. The answer is that of the tables before the call, and the places are the old ones and that of the call.
+-- other passes, and ends with the call under the number of the pass. The answer is that of the tables before the call, and the places are
+-- the old ones and that of the call. No call without a number was added.
 pub record Extends (o : Opening) (p q : Caller) (entry : Entry) (answer : Answer) : Type 0 where
   pub number : q.number ≡ p.number
   pub before : List (Stamped Entry)
@@ -54,6 +57,7 @@ pub record Extends (o : Opening) (p q : Caller) (entry : Entry) (answer : Answer
   pub legal : IsLegalFrom o q.seen
   pub shown : answer ≡ entry_answer o.seats (tables_after o before) entry
   pub places : places_of p.number q.seen ≡ places_of p.number p.seen ++ length before ∷ []
+  pub opened : unnumbered q.seen ≡ unnumbered p.seen
 
 -- a call, by its answer: one that was made, or that a keeper fault left undone, is in the history
 abbrev pub Asked : Opening → Caller → Caller → ℕ → EventKind → Answer → Type 0
@@ -83,6 +87,7 @@ pub record LooksAsked (o : Opening) (p q : Caller) (numbers : Result (List ℕ) 
   pub shown : IfOk numbers (λ shows. shows ≡ asked_runs (tables_after o q.seen))
 
 -- The journal is a shared history without numbers. The history begins with what each of these passes has seen, and has no call under the
--- number of a pass that this pass has not seen. No two of these passes have the same number, and there are no calls under any other number.
+-- number of a pass that this pass has not seen, and none without a number: these are the calls of the desk's journal at the opening. No two
+-- of these passes have the same number, and there are no calls under any other number.
 abbrev pub IsSharedJournal : Journal → List Caller → Type 0
 IsSharedJournal journal passes = IsShared (λ (j : Journal). j.entries) journal passes

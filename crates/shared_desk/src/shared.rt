@@ -1,6 +1,6 @@
 //! The desk that threads share, and its passes.
 ghost use Rattle.std.specs.Prelude.{◌≡◌, [], map, None, IfOk, IfErr};
-ghost use Rattle.counted_lock.specs.Views.{places_of, stamped};
+ghost use Rattle.counted_lock.specs.Views.{places_of, unnumbered, stamped};
 ghost use Rattle.counted_lock.specs.Passes.{IsPassOf, IsNew};
 ghost use Rattle.shared_desk.specs.Openings.{opening_of};
 ghost use Rattle.shared_desk.specs.Sharing.{Asked, Looks, LooksAt, LooksAsked, SeesMore};
@@ -43,7 +43,7 @@ impl<K: Keeper + Drop, M: CallMonitor + Drop> Model for SharedDesk<K, M> {
 
 impl<K: Keeper + Drop, M: CallMonitor + Drop> SharedDesk<K, M> {
     /// Shares a desk, with the first pass, whose number is 0. The pass has seen the desk's journal, whose calls have no number, and
-    /// has no places. The monitor hears of each call. The error returns the desk if memory runs out.
+    /// has no places. No other call is ever without a number. The monitor hears of each call. The error returns the desk if memory runs out.
     pub fn open(
         alloc: Global,
         desk: Desk<K>,
@@ -54,6 +54,7 @@ impl<K: Keeper + Drop, M: CallMonitor + Drop> SharedDesk<K, M> {
         ensures number { IfOk result (λ r. r.1.number ≡ 0) }
         ensures seen { IfOk result (λ r. r.1.seen ≡ map (stamped None) desk.entries) }
         ensures places { IfOk result (λ r. places_of r.1.number r.1.seen ≡ []) }
+        ensures opened { IfOk result (λ r. unnumbered r.1.seen ≡ desk.entries) }
         ensures err { IfErr result (λ d. d ≡ desk) }
     {
         match CountedLock::open(alloc, OrderedDesk::of(desk)) {
@@ -164,8 +165,8 @@ impl<K: Keeper + Drop, M: CallMonitor + Drop> SharedDesk<K, M> {
         other.ok_or(NoMemory)
     }
 
-    /// Tells each pass what the other has seen: both have then seen one history that begins with what each had seen. It does not
-    /// allocate, and does not wait.
+    /// Tells each pass what the other has seen: both have then seen one history that begins with what each had seen. The two have
+    /// different numbers. It does not allocate, and does not wait.
     pub fn meet(&self, one: &mut Pass, other: &mut Pass)
         requires one { IsPassOf self.now one.old }
         requires other { IsPassOf self.now other.old }
@@ -174,6 +175,7 @@ impl<K: Keeper + Drop, M: CallMonitor + Drop> SharedDesk<K, M> {
         ensures one { SeesMore one.old one.new }
         ensures other { SeesMore other.old other.new }
         ensures same { one.new.seen ≡ other.new.seen }
+        ensures apart { one.old.number ≡ other.old.number → ⊥ }
     {
         let first = mem::replace(one, Pass::blank());
         let second = mem::replace(other, Pass::blank());
