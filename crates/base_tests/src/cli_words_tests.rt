@@ -40,6 +40,10 @@ fn replay(seats: u8, limit: u32) -> Option<Command> {
     Some(Command::Replay(ReplayOptions { seats, limit }))
 }
 
+fn calendar(seats: u8, limit: u32) -> Option<Command> {
+    Some(Command::Calendar(ReplayOptions { seats, limit }))
+}
+
 fn formula(ms: u64, dedicated: u32) -> Option<Command> {
     let now = Moment::of_ms(ms)?;
     Some(Command::Formula(FormulaOptions { now, dedicated }))
@@ -47,8 +51,14 @@ fn formula(ms: u64, dedicated: u32) -> Option<Command> {
 
 #[test]
 fn commands_are_read(rt: HostRuntime) -> Result<(), Fail> {
-    let rows: [(&[&[u8]], Option<Command>, Option<&str>); 10] = [
+    let rows: [(&[&[u8]], Option<Command>, Option<&str>); 12] = [
         (&[b"replay"], replay(8, 4_000_000), None),
+        (&[b"calendar"], calendar(8, 4_000_000), None),
+        (
+            &[b"calendar", b"--store=a", b"--journal", b"9", b"--seats=1"],
+            calendar(1, 9),
+            Some("a"),
+        ),
         (
             &[
                 b"replay",
@@ -98,7 +108,7 @@ fn commands_are_read(rt: HostRuntime) -> Result<(), Fail> {
 
 #[test]
 fn other_words_are_no_command(rt: HostRuntime) -> Result<(), Fail> {
-    let rows: [&[&[u8]]; 24] = [
+    let rows: [&[&[u8]]; 26] = [
         &[],
         &[b"replays"],
         &[b"replay", b"--seats", b"2", b"--seats", b"2"],
@@ -116,6 +126,8 @@ fn other_words_are_no_command(rt: HostRuntime) -> Result<(), Fail> {
         &[b"replay", b"--store=\xff"],
         &[b"replay", b"--"],
         &[b"replay", b"-h"],
+        &[b"calendar", b"--now", b"4"],
+        &[b"calendars"],
         &[b"formula", b"--store=a"],
         &[b"formula", b"--now=253402300800000"],
         &[b"export", b"a"],

@@ -4,7 +4,7 @@ use Rattle.byte_streams.proofs.Gaining.{gains_nothing}
 use Rattle.batch_model.specs.Variants.{State}
 use Rattle.batch_keeper.specs.declared.error.KeepError.TheVariants.{Memory as NoMemory}
 use Rattle.cli_words.specs.declared.command.Command.{Command}
-use Rattle.cli_words.specs.declared.command.Command.TheVariants.{Replay, Formula, Export, Drill, Serve}
+use Rattle.cli_words.specs.declared.command.Command.TheVariants.{Replay, Calendar, Formula, Export, Drill, Serve}
 use Rattle.cli_words.specs.declared.command.Invocation.{Invocation}
 use Rattle.batch_cli.specs.Headline.{Observed, IsUnopened, RanCommand, Ran}
 use Rattle.batch_cli.specs.declared.status.Status.TheVariants.{Memory}
@@ -20,6 +20,7 @@ unopened taken told count = record { fails = record { same = refl; later = omega
 unread_command : (command : Command) (left taken : Option (List ℕ)) (told : Option State) (count : ℕ) →
     RanCommand command left (unchanged taken told count) Memory
 unread_command (Replay options) left taken told count = if_some_anyway left _ (λ script. inl (unopened taken told count))
+unread_command (Calendar options) left taken told count = if_some_anyway left _ (λ script. inl (unopened taken told count))
 unread_command (Formula options) left taken told count = if_some_anyway left _ (λ formula. inl (gains_nothing taken))
 unread_command Export left taken told count = inl (unopened taken told count)
 unread_command (Drill tasks) left taken told count = inl (unopened taken told count)

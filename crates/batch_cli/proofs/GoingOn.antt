@@ -25,7 +25,7 @@ take_none : {A : Type 0} (n : ℕ) → take {A = A} n [] ≡ []
 take_none zero = refl
 take_none (suc n) = refl
 
-take_append : {A : Type 0} (k : ℕ) (xs ys : List A) → take k (xs ++ ys) ≡ take k xs ++ take (k - length xs) ys
+pub take_append : {A : Type 0} (k : ℕ) (xs ys : List A) → take k (xs ++ ys) ≡ take k xs ++ take (k - length xs) ys
 take_append zero [] ys = refl
 take_append (suc k) [] ys = let same : suc k ≡ suc k - 0 = omega arith in ap (λ m. take m ys) same
 take_append zero (x ∷ xs) ys = let none : 0 ≡ 0 - length (x ∷ xs) = omega arith in ap (λ m. take m ys) none
@@ -282,7 +282,7 @@ pub if_some_anyway : {A : Type 0} (o : Option A) (P : A → Type 0) → ((x : A)
 if_some_anyway None P h = tt
 if_some_anyway (Some x) P h = h x
 
-or_assoc : (a b c : Bool) → ((a || b) || c) ≡ (a || (b || c))
+pub or_assoc : (a b c : Bool) → ((a || b) || c) ≡ (a || (b || c))
 or_assoc true b c = refl
 or_assoc false b c = refl
 

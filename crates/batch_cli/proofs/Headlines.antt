@@ -80,7 +80,7 @@ module _ {K : Type 0} {told : K → Option State} {faults : K → ℕ} {options 
       Tells (told now.keeper) (after_all options.seats start.opened now.entries)
   kept_from r same = subst (λ s. Tells (told now.keeper) s) (state_from r same) r.in_order.kept
 
-  within_from : Runs told faults options loaded count start now → HasSameOpening start now → length now.entries ≤ options.limit
+  pub within_from : Runs told faults options loaded count start now → HasSameOpening start now → length now.entries ≤ options.limit
   within_from r same = omega (arith, r.in_order.within, same.limit, r.begins.limit_is)
 
   pub counted_from : (by : ℕ) → Runs told faults options loaded count start now → RoseBy by (faults start.keeper) (faults now.keeper) →
@@ -127,7 +127,7 @@ module _ {K : Type 0} {told : K → Option State} {faults : K → ℕ} {options 
         ending = subst (λ limit. status ≡ ending_of limit (lines script) now.entries) r.begins.limit_is e.ending;
       }
 
-  opened_from : (before taken : Option (List ℕ)) → Runs told faults options loaded count start now → NothingDone start now before taken →
+  pub opened_from : (before taken : Option (List ℕ)) → Runs told faults options loaded count start now → NothingDone start now before taken →
       IsOnlyOpened options (seen_of told faults loaded count now before taken)
   opened_from before taken r d = record {
     opened = start.opened;

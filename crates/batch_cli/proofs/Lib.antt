@@ -1,4 +1,9 @@
 pub mod Advancing
+pub mod CalendarAdvancing
+pub mod CalendarFires
+pub mod CalendarGoingOn
+pub mod CalendarHeadlines
+pub mod CalendarTold
 pub mod Commands
 pub mod DrillHeadlines
 pub mod DrillIds

@@ -14,6 +14,8 @@ use Rattle.batch_desk.specs.Laws.{KeepsLaws}
 use Rattle.batch_desk.specs.History.{IsLegal, after_all, asked_of, fault_count}
 use Rattle.batch_wire.specs.Tables.{tables_text}
 use Rattle.batch_cli.specs.Shown.{outputs, calls_of, memory_stops, but_last, outputs_before}
+pub use Rattle.batch_cli.specs.Observed.{Observed, BeginsFrom, IsOnlyOpened, IsUnopened}
+use Rattle.batch_cli.specs.CalendarRuns.{CalendarRan}
 use Rattle.batch_cli.specs.Written.{GainsBetween}
 use Rattle.batch_cli.specs.Advance.{RoseBy}
 use Rattle.batch_cli.specs.EndStatus.{script_limit, ending_of, drill_ending}
@@ -22,7 +24,7 @@ use Rattle.batch_cli.specs.declared.drill.limits.TheConstants.{DRILL_SEATS}
 use Rattle.cli_words.specs.declared.command.ReplayOptions.{ReplayOptions as Options}
 use Rattle.cli_words.specs.declared.command.FormulaOptions.{FormulaOptions}
 use Rattle.cli_words.specs.declared.command.Command.{Command}
-use Rattle.cli_words.specs.declared.command.Command.TheVariants.{Replay, Formula, Export, Drill, Serve}
+use Rattle.cli_words.specs.declared.command.Command.TheVariants.{Replay, Calendar, Formula, Export, Drill, Serve}
 use Rattle.cli_words.specs.declared.command.Invocation.{Invocation}
 use Rattle.cli_formula.specs.declared.end.End.{End}
 use Rattle.cli_formula.specs.declared.end.End.TheVariants as ends
@@ -30,20 +32,6 @@ use Rattle.cli_formula.specs.Showing.{FormulaRan}
 use Rattle.batch_cli.specs.declared.status.Status.{Status}
 use Rattle.batch_cli.specs.declared.status.Status.TheVariants.{Done, Memory, Usage, SourceFault, SinkFault, KeeperFault, UnreadableLines, ScriptTooLong}
 use Rattle.batch_cli.specs.declared.status.Status.TheVariants.{FormulaError, JournalFull}
-
--- what sink and keeper tell before the run and after it, and how often the keeper had failed
-pub record Observed : Type 0 where
-  pub taken_before : Option (List ℕ)
-  pub taken_now : Option (List ℕ)
-  pub loaded : Option State
-  pub kept : Option State
-  pub faults_before : ℕ
-  pub faults_now : ℕ
-
--- the tables that a run begins from: sound ones, and if the keeper told its tables, their opening
-pub record BeginsFrom (seats : ℕ) (loaded : Option State) (opened : State) : Type 0 where
-  pub sound : IsSound seats opened
-  pub opening_is : IfSome loaded (λ s. opened ≡ opening s)
 
 -- The script was done to its end: its calls, up to the journal's limit, are one legal history from the opened tables,
 -- what was written shows them, and the keeper tells the tables after them.
@@ -95,18 +83,6 @@ pub record IsCutOff (options : Options) (script : List ℕ) (seen : Observed) : 
   pub few : length script ≤ script_limit
   pub begun : IsBegun options script seen
   pub settled : memory_stops begun.history ≡ 0
-
--- the tables were opened, nothing was called or written, and the keeper tells the opened tables
-pub record IsOnlyOpened (options : Options) (seen : Observed) : Type 0 where
-  pub opened : State
-  pub begins : BeginsFrom options.seats seen.loaded opened
-  pub written : Gains seen.taken_before seen.taken_now []
-  pub kept : Tells seen.kept opened
-
--- the tables were not loaded, or not opened, because of this error, and nothing was written
-pub record IsUnopened (seen : Observed) (error : KeepError) : Type 0 where
-  pub fails : FailsToOpen seen.loaded seen.kept seen.faults_before seen.faults_now error
-  pub written : Gains seen.taken_before seen.taken_now []
 
 -- what a status says of a command with these options, of the bytes of the source, and of sink and keeper
 abbrev pub RanWith : Options → List ℕ → Observed → Status → Type 0
@@ -227,6 +203,7 @@ RanNothing seen status = ((status ≡ Usage) ⊎ (status ≡ Memory)) × Gains s
 -- what a status says of a command, of what the source tells, and of sink and keeper; `serve` is not done
 abbrev pub RanCommand : Command → Option (List ℕ) → Observed → Status → Type 0
 RanCommand (Replay options) left seen status = IfSome left (λ script. RanWith options script seen status)
+RanCommand (Calendar options) left seen status = IfSome left (λ script. CalendarRan options script seen status)
 RanCommand (Formula options) left seen status =
     IfSome left (λ formula. RanFormula options formula seen.taken_before seen.taken_now (end_of status))
 RanCommand Export left seen status = RanExport seen status
@@ -241,6 +218,7 @@ Ran (Some invocation) left seen status = RanCommand invocation.command left seen
 -- the command serves, and is not done here
 abbrev pub IsService : Command → Type 0
 IsService (Replay options) = ⊥
+IsService (Calendar options) = ⊥
 IsService (Formula options) = ⊥
 IsService Export = ⊥
 IsService (Drill count) = ⊥
@@ -254,6 +232,7 @@ AsksNoRun (Some invocation) = IsService invocation.command
 -- the command needs no tables
 abbrev pub NeedsNoTables : Command → Type 0
 NeedsNoTables (Replay options) = ⊥
+NeedsNoTables (Calendar options) = ⊥
 NeedsNoTables (Formula options) = Unit {0}
 NeedsNoTables Export = ⊥
 NeedsNoTables (Drill count) = ⊥

@@ -1,9 +1,14 @@
 pub mod Advance
+pub mod CalendarAdvance
+pub mod CalendarGoing
+pub mod CalendarRuns
+pub mod CalendarShown
 pub mod Codes
 pub mod Drill
 pub mod Drilling
 pub mod EndStatus
 pub mod Going
 pub mod Headline
+pub mod Observed
 pub mod Shown
 pub mod Written

@@ -19,7 +19,7 @@ use bt_rows::reply::Reply;
 use std::alloc::{AllocError, Global};
 
 /// Adds the line of a reply.
-fn push_reply(alloc: Global, out: &mut String, n: u64, reply: &Reply) -> Result<(), NoMemory>
+pub fn push_reply(alloc: Global, out: &mut String, n: u64, reply: &Reply) -> Result<(), NoMemory>
     ensures { OnOk result (string_bytes out.new ≡ string_bytes out.old ++ numbered n (reply_text reply.now)) }
 {
     let text = write_reply(alloc, reply)?;
@@ -37,7 +37,7 @@ fn push_due(alloc: Global, out: &mut String, n: u64, due: &Due) -> Result<(), No
 }
 
 /// Adds a line for each due step.
-fn push_dues(alloc: Global, out: &mut String, n: u64, dues: &[Due]) -> Result<(), NoMemory>
+pub fn push_dues(alloc: Global, out: &mut String, n: u64, dues: &[Due]) -> Result<(), NoMemory>
     ensures { OnOk result (string_bytes out.new ≡ string_bytes out.old ++ due_lines n dues.now) }
 {
     for due in dues {
@@ -48,7 +48,7 @@ fn push_dues(alloc: Global, out: &mut String, n: u64, dues: &[Due]) -> Result<()
 
 /// Adds a line if a keeper fault stopped the due steps.
 #[tactic(auto, unfolding(crate::specs::Shown::stop_text))]
-fn push_stop(out: &mut String, n: u64, stop: Stop) -> Result<(), AllocError>
+pub fn push_stop(out: &mut String, n: u64, stop: Stop) -> Result<(), AllocError>
     ensures { OnOk result (string_bytes out.new ≡ string_bytes out.old ++ stop_line n stop) }
 {
     match stop {

@@ -3,6 +3,8 @@
 //! defined machines, called one by one in one history.
 #![tactic(auto)]
 
+mod cal_answer;
+mod calendar;
 mod call;
 mod drill;
 mod export;

@@ -5,6 +5,7 @@ use std::fmt;
 
 /// How the program is used.
 const USAGE: &str = "usage: batch replay [--seats N] [--journal N] [--store PATH]
+       batch calendar [--seats N] [--journal N] [--store PATH]
        batch formula [--now MS] [--dedicated N]
        batch export [--store PATH]
        batch drill N
@@ -15,6 +16,7 @@ replay reads a script from standard input, does its calls, and writes what each 
   --seats N      the most nodes at a time, 1 to 32 (default 8)
   --journal N    the most calls that the run takes, 1 to 4,000,000 (default 4,000,000)
   --store PATH   the file that keeps the tables, made if it is not there (default: tables in memory, empty at first)
+calendar does the same with job schedules, which lines of the script add, and which make jobs at their occurrences; it has these options too.
 formula reads an autoscale formula from standard input, evaluates it, and writes what it sets, or its fault.
   --now MS       the present moment in milliseconds since 1970-01-01T00:00:00Z, 0 to 253,402,300,799,999 (default 0)
   --dedicated N  $TargetDedicatedNodes before the formula, 0 to 1,000 (default 0)

@@ -5,8 +5,12 @@ ghost use Rattle.batch_desk.specs.Answers.{IsInOrder, Begins};
 ghost use Rattle.cli_words.specs.Commands.{command_of};
 ghost use Rattle.cli_words.specs.Ranges.{IsInRange};
 ghost use Rattle.batch_cli.specs.Going.{DeskRan};
+ghost use Rattle.batch_cli.specs.CalendarAdvance.{KeepsDesk};
+ghost use Rattle.batch_cli.specs.CalendarGoing.{CalDeskRan};
+ghost use Rattle.batch_cli.specs.CalendarRuns.{CalendarRan};
 ghost use Rattle.batch_cli.specs.Headline.{AsksNoRun, CallsNoKeeper, IsService, NeedsNoTables, Ran, RanCommand, RanWith, WritesNothing};
 
+use crate::calendar::do_calendar;
 use crate::drill::drill;
 use crate::export::export;
 use crate::formula::formula;
@@ -109,6 +113,73 @@ fn replay<R: Source, W: Sink, K: Keeper + Drop>(
     }
 }
 
+/// Does the script that the source gives over a calendar of a desk that has just been opened. Returns the desk.
+fn run_calendar<R: Source, W: Sink, K: Keeper + Drop>(
+    alloc: Global,
+    desk: Desk<K>,
+    source: &mut R,
+    sink: &mut W,
+) -> (Status, Desk<K>)
+    requires in_order { IsInOrder K.told K.faults desk }
+    requires begins { Begins desk desk.seats desk.limit }
+    ensures ran { IfSome (R.left source.old) (λ script. CalDeskRan K.faults desk result.1 script (W.taken sink.old) (W.taken sink.new) result.0) }
+    ensures unwritten { WritesNothing result.0 → sink.new ≡ sink.old }
+    ensures keeps { KeepsDesk K.told K.faults desk result.1 }
+    ensures no_usage { result.0 ≡ Status.Usage → ⊥ }
+    ensures source_fault { result.0 ≡ Status.SourceFault → Rose (R.faults source.old) (R.faults source.new) }
+    ensures sink_fault { result.0 ≡ Status.SinkFault → Rose (W.faults sink.old) (W.faults sink.new) }
+    ensures keeper_fault { result.0 ≡ Status.KeeperFault → Rose (K.faults desk.keeper) (K.faults result.1.keeper) }
+{
+    match read_all(alloc, source, LIMIT) {
+        Err(ReadFault::Memory) => (Status::Memory, desk),
+        Err(ReadFault::Failed) => (Status::SourceFault, desk),
+        Err(ReadFault::TooLong) => (Status::ScriptTooLong, desk),
+        Ok(script) => match do_calendar(alloc, desk, script, sink) {
+            (Err(Stopped::Memory), desk) => (Status::Memory, desk),
+            (Err(Stopped::SinkFault), desk) => (Status::SinkFault, desk),
+            (Ok(tally), desk) => (ending(desk.has_faults(), desk.limit(), tally), desk),
+        },
+    }
+}
+
+/// Opens the tables that the keeper loads, does the script that the source gives over a calendar of the desk, and returns the keeper.
+fn calendar<R: Source, W: Sink, K: Keeper + Drop>(
+    alloc: Global,
+    options: ReplayOptions,
+    source: &mut R,
+    sink: &mut W,
+    keeper: K,
+) -> (Status, K)
+    requires some { 1 ≤ options.seats }
+    requires few { options.seats ≤ 32 }
+    ensures ran { IfSome (R.left source.old) (λ script. CalendarRan options script
+        (record {
+          taken_before = W.taken sink.old;
+          taken_now = W.taken sink.new;
+          loaded = K.told keeper;
+          kept = K.told result.1;
+          faults_before = K.faults keeper;
+          faults_now = K.faults result.1;
+        }) result.0) }
+    ensures unwritten { WritesNothing result.0 → sink.new ≡ sink.old }
+    ensures later { K.faults keeper ≤ K.faults result.1 }
+    ensures no_usage { result.0 ≡ Status.Usage → ⊥ }
+    ensures source_fault { result.0 ≡ Status.SourceFault → Rose (R.faults source.old) (R.faults source.new) }
+    ensures sink_fault { result.0 ≡ Status.SinkFault → Rose (W.faults sink.old) (W.faults sink.new) }
+    ensures keeper_fault { result.0 ≡ Status.KeeperFault → Rose (K.faults keeper) (K.faults result.1) }
+{
+    match Desk::open(alloc, keeper, options.seats, options.limit) {
+        Err((keeper, KeepError::Memory)) => (Status::Memory, keeper),
+        Err((keeper, KeepError::Failed)) => (Status::KeeperFault, keeper),
+        Ok(desk) => {
+            let (status, desk) = run_calendar(alloc, desk, source, sink);
+            let (keeper, journal) = desk.close();
+            drop(journal);
+            (status, keeper)
+        }
+    }
+}
+
 /// Does a command whose options are in their ranges, and returns the keeper. `serve` is not done here.
 fn do_command<R: Source, W: Sink, K: Keeper + Drop>(
     alloc: Global,
@@ -138,6 +209,7 @@ fn do_command<R: Source, W: Sink, K: Keeper + Drop>(
 {
     match command {
         Command::Replay(options) => replay(alloc, options, source, sink, keeper),
+        Command::Calendar(options) => calendar(alloc, options, source, sink, keeper),
         Command::Formula(options) => (formula(alloc, options, source, sink), keeper),
         Command::Export => export(alloc, sink, keeper),
         Command::Drill(count) => drill(alloc, count, sink, keeper),
@@ -149,6 +221,8 @@ fn do_command<R: Source, W: Sink, K: Keeper + Drop>(
 /// script from the source to its end, makes the calls of its lines one by one, up to the journal's limit, and writes the output
 /// of each line before it makes the next call; then the tables. `formula` with its options reads a formula from the source to
 /// its end, evaluates it over no samples and no current values, and writes its results or its fault; it calls no keeper.
+/// `calendar` does the same over a calendar: lines also add, delete, disable and enable job schedules, and after each line come the calls of
+/// the schedules that are due, with their answers.
 /// `export` writes the tables that the keeper loads, without opening them, and `drill` opens them and makes its calls, at most
 /// 900,034, one by one; then it writes its summary. Both read no source. `serve` is not done here: its words give status 2, as do
 /// words that are not a command, and nothing is written.

@@ -17,6 +17,7 @@ use Rattle.cli_words.proofs.Texts.{texts}
 pub named : (name : CommandName) → are_names (options_of name) ≡ true
 unfolding options_of
 named names.Replay = refl
+named names.Calendar = refl
 named names.Formula = refl
 named names.Export = refl
 named names.Serve = refl

@@ -13,23 +13,25 @@ use Rattle.cli_words.specs.declared.number.TheConstants.{DIGIT_LIMIT}
 use Rattle.cli_words.specs.declared.command_name.CommandName.{CommandName}
 use Rattle.cli_words.specs.declared.command_name.CommandName.TheVariants as names
 use Rattle.cli_words.specs.declared.command.Command.{Command}
-use Rattle.cli_words.specs.declared.command.Command.TheVariants.{Replay, Formula, Export, Drill, Serve}
+use Rattle.cli_words.specs.declared.command.Command.TheVariants.{Replay, Calendar, Formula, Export, Drill, Serve}
 use Rattle.cli_words.specs.declared.command.Invocation.{Invocation}
 
 -- the name of a command that has options
 unfoldable pub command_text : CommandName → Text
 command_text names.Replay = codes "replay"
+command_text names.Calendar = codes "calendar"
 command_text names.Formula = codes "formula"
 command_text names.Export = codes "export"
 command_text names.Serve = codes "serve"
 
 -- the command with this name
 unfoldable pub command_in : Text → Option CommandName
-command_in text = find (λ name. bytes_eq text (command_text name)) (names.Replay ∷ names.Formula ∷ names.Export ∷ names.Serve ∷ [])
+command_in text = find (λ name. bytes_eq text (command_text name)) (names.Replay ∷ names.Calendar ∷ names.Formula ∷ names.Export ∷ names.Serve ∷ [])
 
 -- the names of its options
 unfoldable pub options_of : CommandName → List Text
 options_of names.Replay = codes "seats" ∷ codes "journal" ∷ codes "store" ∷ []
+options_of names.Calendar = codes "seats" ∷ codes "journal" ∷ codes "store" ∷ []
 options_of names.Formula = codes "now" ∷ codes "dedicated" ∷ []
 options_of names.Export = codes "store" ∷ []
 options_of names.Serve = codes "seats" ∷ codes "journal" ∷ codes "store" ∷ codes "port" ∷ codes "doors" ∷ codes "connections" ∷ []
@@ -55,6 +57,12 @@ replay_with seats journal =
     option_and_then (λ count. option_map (λ calls. Replay (record { seats = count; limit = calls }))
     (number_or JOURNAL_LIMIT 1 JOURNAL_LIMIT journal)) (number_or DEFAULT_SEATS 1 SEAT_LIMIT seats)
 
+-- `calendar` with the same texts
+abbrev pub calendar_with : Option Text → Option Text → Option Command
+calendar_with seats journal =
+    option_and_then (λ count. option_map (λ calls. Calendar (record { seats = count; limit = calls }))
+    (number_or JOURNAL_LIMIT 1 JOURNAL_LIMIT journal)) (number_or DEFAULT_SEATS 1 SEAT_LIMIT seats)
+
 -- `formula` with the texts of `--now`, a moment up to the year 9999, and `--dedicated`, 0 to 1,000, both by default 0
 abbrev pub formula_with : Option Text → Option Text → Option Command
 formula_with now dedicated =
@@ -78,6 +86,7 @@ serve_with seats journal port doors connections =
 -- the command with the values of the settings
 abbrev pub command_with : CommandName → List Setting → Option Command
 command_with names.Replay settings = replay_with (value_for (codes "seats") settings) (value_for (codes "journal") settings)
+command_with names.Calendar settings = calendar_with (value_for (codes "seats") settings) (value_for (codes "journal") settings)
 command_with names.Formula settings = formula_with (value_for (codes "now") settings) (value_for (codes "dedicated") settings)
 command_with names.Export settings = Some Export
 command_with names.Serve settings =

@@ -4,7 +4,7 @@ use Rattle.cli_words.specs.declared.command.ReplayOptions.{ReplayOptions}
 use Rattle.cli_words.specs.declared.command.FormulaOptions.{FormulaOptions}
 use Rattle.cli_words.specs.declared.command.ServeOptions.{ServeOptions}
 use Rattle.cli_words.specs.declared.command.Command.{Command}
-use Rattle.cli_words.specs.declared.command.Command.TheVariants.{Replay, Formula, Export, Drill, Serve}
+use Rattle.cli_words.specs.declared.command.Command.TheVariants.{Replay, Calendar, Formula, Export, Drill, Serve}
 use Rattle.bt_base.specs.Moments.{last_moment}
 use Rattle.bt_rows.specs.declared.limits.TheConstants.{SEAT_LIMIT, TARGET_LIMIT}
 use Rattle.cli_words.specs.declared.command.TheConstants.{DRILL_LIMIT, JOURNAL_LIMIT, PORT_LIMIT, DOOR_LIMIT, CONNECTION_LIMIT}
@@ -39,6 +39,7 @@ pub record HasDoors (options : ServeOptions) : Type 0 where
 -- the options of the command are in their ranges, and the tasks of a drill are 1 to 100,000
 abbrev pub IsInRange : Command → Type 0
 IsInRange (Replay options) = HasSeats options
+IsInRange (Calendar options) = HasSeats options
 IsInRange (Formula options) = HasTargets options
 IsInRange Export = Unit {0}
 IsInRange (Drill count) = IsWithin 1 DRILL_LIMIT count

@@ -26,7 +26,7 @@ pub const DOOR_LIMIT: u8 = 16;
 /// The greatest number of connections that is stated. If none is stated, there is no limit.
 pub const CONNECTION_LIMIT: u32 = 1_000_000;
 
-/// The options of `replay`.
+/// The options of `replay` and of `calendar`.
 #[derive(Clone, Copy, Debug, PartialEq, Eq)]
 pub struct ReplayOptions {
     /// The number of seats of the machine, 1 to 32.
@@ -64,6 +64,8 @@ pub struct ServeOptions {
 pub enum Command {
     /// Does a script over tables.
     Replay(ReplayOptions),
+    /// Does a script over tables, with job schedules that make calls of their own.
+    Calendar(ReplayOptions),
     /// Evaluates a formula.
     Formula(FormulaOptions),
     /// Writes the tables of a store.

@@ -7,6 +7,8 @@ ghost use Rattle.cli_words.specs.Commands.{command_text, command_in, options_of}
 pub enum CommandName {
     /// Does a script over tables.
     Replay,
+    /// Does a script over tables, with job schedules.
+    Calendar,
     /// Evaluates a formula.
     Formula,
     /// Writes the tables of a store.
@@ -23,6 +25,7 @@ impl CommandName {
     {
         match self {
             CommandName::Replay => "replay",
+            CommandName::Calendar => "calendar",
             CommandName::Formula => "formula",
             CommandName::Export => "export",
             CommandName::Serve => "serve",
@@ -36,6 +39,7 @@ impl CommandName {
     {
         [
             CommandName::Replay,
+            CommandName::Calendar,
             CommandName::Formula,
             CommandName::Export,
             CommandName::Serve,
@@ -52,6 +56,7 @@ impl CommandName {
     {
         match self {
             CommandName::Replay => &["seats", "journal", "store"],
+            CommandName::Calendar => &["seats", "journal", "store"],
             CommandName::Formula => &["now", "dedicated"],
             CommandName::Export => &["store"],
             CommandName::Serve => &["seats", "journal", "store", "port", "doors", "connections"],

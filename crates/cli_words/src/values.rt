@@ -3,7 +3,7 @@ ghost use Rattle.std.specs.Prelude.{◌≡◌, List, IfOk, IfSome, option_map};
 ghost use Rattle.clap.specs.Words.{found_of, rows_of};
 ghost use Rattle.option_words.specs.Options.{Setting};
 ghost use Rattle.option_words.specs.Clap.{rows_for};
-ghost use Rattle.cli_words.specs.Commands.{command_with, connections_in, formula_with, invocation_with, number_or, path_in, replay_with, serve_with};
+ghost use Rattle.cli_words.specs.Commands.{calendar_with, command_with, connections_in, formula_with, invocation_with, number_or, path_in, replay_with, serve_with};
 ghost use Rattle.cli_words.specs.Ranges.{IsInRange, IsWithin};
 
 use crate::command::{
@@ -45,6 +45,16 @@ fn replay(seats: Option<&str>, journal: Option<&str>) -> Option<Command>
     let seats = seats_of(seats)?;
     let limit = journal_of(journal)?;
     Some(Command::Replay(ReplayOptions { seats, limit }))
+}
+
+/// The command `calendar` with the values of `--seats` and `--journal`.
+fn calendar(seats: Option<&str>, journal: Option<&str>) -> Option<Command>
+    ensures command { result ≡ calendar_with (option_map (λ t. t.now) seats.entry) (option_map (λ t. t.now) journal.entry) }
+    ensures ranges { IfSome result IsInRange }
+{
+    let seats = seats_of(seats)?;
+    let limit = journal_of(journal)?;
+    Some(Command::Calendar(ReplayOptions { seats, limit }))
 }
 
 /// The command `formula` with the values of `--now` and `--dedicated`.
@@ -107,6 +117,7 @@ fn command_from(name: CommandName, matches: &ArgMatches<'_>) -> Option<Command>
 {
     match name {
         CommandName::Replay => replay(value_of(matches, "seats"), value_of(matches, "journal")),
+        CommandName::Calendar => calendar(value_of(matches, "seats"), value_of(matches, "journal")),
         CommandName::Formula => formula(value_of(matches, "now"), value_of(matches, "dedicated")),
         CommandName::Export => Some(Command::Export),
         CommandName::Serve => serve(

@@ -70,11 +70,12 @@ fn drill(words: &[Word]) -> Option<Invocation>
 }
 
 /// The command that the words are: its name, then its options in any order, each at most once, as `--name value` or
-/// `--name=value`; a value in a word of its own does not begin with `-`. Numbers have 1 to 20 digits. `replay` has `--seats` 1 to
-/// 32, by default 8, `--journal` 1 to 4,000,000, by default that many, and `--store` with a path that is not empty. `formula` has
-/// `--now`, milliseconds since 1970 up to the end of the year 9999, and `--dedicated` 0 to 1,000, both by default 0. `export` has
-/// `--store`. `drill` has no options, but one word more, the number of tasks, 1 to 100,000. `serve` has the three of `replay`, and
-/// `--port` 0 to 65,535, by default 8,080, `--doors` 1 to 16, by default 4, and `--connections` 1 to 1,000,000, by default no limit.
+/// `--name=value`; a value in a word of its own does not begin with `-`. Numbers have 1 to 20 digits. `replay` and `calendar` have
+/// `--seats` 1 to 32, by default 8, `--journal` 1 to 4,000,000, by default that many, and `--store` with a path that is not empty.
+/// `formula` has `--now`, milliseconds since 1970 up to the end of the year 9999, and `--dedicated` 0 to 1,000, both by default 0.
+/// `export` has `--store`. `drill` has no options, but one word more, the number of tasks, 1 to 100,000. `serve` has the three of
+/// `replay`, and `--port` 0 to 65,535, by default 8,080, `--doors` 1 to 16, by default 4, and `--connections` 1 to 1,000,000, by
+/// default no limit.
 ///
 /// Returns None exactly if the words are not a command with its options; so are words after its name that are not UTF-8. The error
 /// is that it is out of memory.

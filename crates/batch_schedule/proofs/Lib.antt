@@ -1,0 +1,6 @@
+mod Reaching
+mod Runs
+mod Parts
+mod TurnParts
+mod States
+mod Following

@@ -1,0 +1,3 @@
+pub mod JobIds
+pub mod DeskSteps
+pub mod TurnsOverDesk

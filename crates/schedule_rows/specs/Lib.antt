@@ -1,0 +1,9 @@
+pub mod Periods
+pub mod Rows
+pub mod Occurrences
+pub mod Jobs
+pub mod Interactions
+pub mod Turns
+pub mod OwnEvents
+pub mod Fires
+pub mod Calls

@@ -1,0 +1,9 @@
+//! Tests of calendars over desks: what scripts show, as the command `calendar` is to write it.
+#![tactic(auto)]
+
+#[cfg(test)]
+mod play;
+#[cfg(test)]
+mod runs;
+#[cfg(test)]
+mod scripts;
