@@ -11,7 +11,7 @@ use Rattle.batch_desk.specs.declared.entry.Entry.{Entry}
 use Rattle.batch_desk.specs.declared.journal.Journal.{Journal}
 use Rattle.counted_lock.specs.declared.views.Stamped.{Stamped}
 use Rattle.counted_lock.specs.Passes.{LockIdentity, IsPassOf, numbers_of}
-use Rattle.counted_lock.specs.Views.{places_of, one_if, times_in}
+use Rattle.counted_lock.specs.Views.{places_of, unnumbered, one_if, times_in}
 use Rattle.shared_desk.specs.Openings.{Opening}
 use Rattle.shared_desk.specs.Sharing.{Caller, calls_of, IsSharedJournal}
 use Rattle.batch_serve.specs.declared.worker.Worker.{Worker}
@@ -87,9 +87,9 @@ module _ {W : Type 0} (desk : LockIdentity Opening) where
     -- what each worker did stands in the journal
     pub serves_all : AtEach (IsGiven desk) old given → AreDistinct nat_eq (map (λ w. w.pass.number) given) → length ended ≡ length given
         → ((k : ℕ) (d : Worker W) → k < length given → WorksWithPass worked desk (get_or given k d) (get_or ended k d))
-        → AtEach IsSameKind ended new → places_of next.number next.seen ≡ [] → IsSharedJournal journal (next ∷ map (λ w. w.pass) ended)
+        → AtEach IsSameKind ended new → places_of next.number next.seen ≡ [] → unnumbered next.seen ≡ [] → IsSharedJournal journal (next ∷ map (λ w. w.pass) ended)
         → AllServe worked desk journal.entries old new
-    serves_all gives distinct same works takes unused shared = record {
+    serves_all gives distinct same works takes unused none_opened shared = record {
       history = shared.history;
       journal = shared.journal;
       numbers = map (λ w. w.pass.number) given;
@@ -120,4 +120,5 @@ module _ {W : Type 0} (desk : LockIdentity Opening) where
       others = λ n none. dite (ℕ_discrete next.number n)
           (λ (s : next.number ≡ n). subst (λ (m : ℕ). places_of m shared.history ≡ []) s (shared.placed 0 next (omega arith) ∙ unused))
           (λ (ne : next.number ≢ n). shared.others n (no_other same works n none ne));
+      opened = shared.opened 0 next (omega arith) ∙ none_opened;
     }

@@ -5,3 +5,4 @@ mod Numbers
 mod Outcomes
 mod Promises
 mod Sends
+mod Statuses

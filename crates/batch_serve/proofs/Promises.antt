@@ -44,7 +44,7 @@ not_done status (inl why) is = cc (why, is)
 not_done status (inr why) is = cc (why, is)
 
 -- no element passes a test that none passes
-none_passes : {A : Type 0} (test : A → Bool) (xs : List A) → list_any test xs ≡ false → All (λ x. test x ≡ false) xs
+pub none_passes : {A : Type 0} (test : A → Bool) (xs : List A) → list_any test xs ≡ false → All (λ x. test x ≡ false) xs
 none_passes test xs fails k d lt = by_case (test (get_or xs k d)) refl
   where
     by_case : (b : Bool) → test (get_or xs k d) ≡ b → test (get_or xs k d) ≡ false
@@ -128,7 +128,7 @@ module _ {S P N L C : Type 0} (t : Parts S P N L C) (old new : List (Worker (Wor
   })
 
   -- each worker worked
-  all_worked : (desk : LockIdentity Opening) (journal : Journal) → AllServe (λ l p w q v. Works l t p w q v) desk journal.entries old new
+  pub all_worked : (desk : LockIdentity Opening) (journal : Journal) → AllServe (λ l p w q v. Works l t p w q v) desk journal.entries old new
       → KeepsPromises t old new (status_of new) journal
   all_worked desk journal works = record {
     runs = record {

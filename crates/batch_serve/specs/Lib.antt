@@ -3,3 +3,4 @@ pub mod Passes
 pub mod Works
 pub mod Serving
 pub mod Promises
+pub mod Statuses

@@ -5,7 +5,7 @@ use mathlib.Core.List.{IsPrefix}
 use Rattle.bt_rows.specs.Lists.{AreDistinct}
 use Rattle.counted_lock.specs.Passes.{LockIdentity, IsPassOf}
 use Rattle.counted_lock.specs.declared.views.Stamped.{Stamped}
-use Rattle.counted_lock.specs.Views.{places_of}
+use Rattle.counted_lock.specs.Views.{places_of, unnumbered}
 use Rattle.batch_desk.specs.declared.entry.Entry.{Entry}
 use Rattle.shared_desk.specs.Openings.{Opening}
 use Rattle.shared_desk.specs.Sharing.{Caller, calls_of}
@@ -54,7 +54,7 @@ module _ {W : Type 0} (worked : LockIdentity Opening → Caller → W → Caller
 
   -- Each worker did its work with a pass under a number of its own: the k-th worker under the k-th of these numbers, of which there are as many
   -- as workers, and no two are the same. The entries are the calls of one history, of which each pass has seen the beginning. The history has no
-  -- calls under another number.
+  -- calls under another number, and none without a number.
   pub record AllServe (entries : List Entry) (old new : List (Worker W)) : Type 0 where
     pub history : List (Stamped Entry)
     pub journal : entries ≡ calls_of history
@@ -64,3 +64,4 @@ module _ {W : Type 0} (worked : LockIdentity Opening → Caller → W → Caller
     pub count : length new ≡ length old
     pub each : (k : ℕ) (d : Worker W) → k < length old → Serves history (slice_index_or numbers k 0) (slice_index_or old k d) (slice_index_or new k d)
     pub others : (n : ℕ) → list_any (nat_eq n) numbers ≡ false → places_of n history ≡ []
+    pub opened : unnumbered history ≡ []

@@ -10,7 +10,7 @@ use Rattle.batch_desk.specs.History.{IsLegal, after_all, fault_count}
 use Rattle.batch_desk.specs.Kept.{Tells}
 use Rattle.batch_desk.specs.Laws.{KeepsLaws}
 use Rattle.cli_words.specs.declared.command.Command.{Command}
-use Rattle.cli_words.specs.declared.command.Command.TheVariants.{Replay, Formula, Export, Drill, Serve}
+use Rattle.cli_words.specs.declared.command.Command.TheVariants.{Replay, Calendar, Formula, Export, Drill, Serve}
 use Rattle.cli_words.specs.declared.command.ServeOptions.{ServeOptions}
 use Rattle.cli_words.specs.declared.command.Invocation.{Invocation}
 use Rattle.counted_lock.specs.Passes.{LockIdentity}
@@ -36,6 +36,7 @@ open_status NoMemory = Memory
 abbrev pub options_in : Command → Option ServeOptions
 options_in (Serve options) = Some options
 options_in (Replay options) = None
+options_in (Calendar options) = None
 options_in (Formula options) = None
 options_in Export = None
 options_in (Drill count) = None

@@ -5,7 +5,7 @@ ghost use Rattle.batch_desk.specs.Kept.{Tells};
 ghost use Rattle.batch_desk.specs.Laws.{KeepsLaws};
 ghost use Rattle.batch_desk.specs.History.{IsLegal, after_all, fault_count};
 ghost use Rattle.counted_lock.specs.Passes.{IsNew, IsPassOf};
-ghost use Rattle.counted_lock.specs.Views.{places_of};
+ghost use Rattle.counted_lock.specs.Views.{places_of, unnumbered};
 ghost use Rattle.shared_desk.specs.Sharing.{IsSharedJournal};
 ghost use Rattle.batch_serve.specs.Passes.{AtEach, IsGiven, IsSameKind};
 
@@ -45,8 +45,10 @@ fn give_pass<K: Keeper + Drop, M: CallMonitor + Drop, W, R: Wait>(
 )
     requires next { IsPassOf desk.now next.old }
     requires fresh { places_of next.old.number next.old.seen ≡ [] }
+    requires opened { unnumbered next.old.seen ≡ [] }
     ensures next { IsPassOf desk.now next.new }
     ensures fresh { places_of next.new.number next.new.seen ≡ [] }
+    ensures opened { unnumbered next.new.seen ≡ [] }
     ensures given { IsGiven desk.now worker.old worker.new }
     ensures number { worker.new.pass.number ≡ next.old.number }
     ensures above { next.old.number < next.new.number }
@@ -65,8 +67,10 @@ pub(crate) fn give_passes<K: Keeper + Drop, M: CallMonitor + Drop, W, R: Wait>(
 )
     requires next { IsPassOf desk.now next.old }
     requires fresh { places_of next.old.number next.old.seen ≡ [] }
+    requires opened { unnumbered next.old.seen ≡ [] }
     ensures next { IsPassOf desk.now next.new }
     ensures fresh { places_of next.new.number next.new.seen ≡ [] }
+    ensures opened { unnumbered next.new.seen ≡ [] }
     ensures given { AtEach (IsGiven desk.now) workers.old workers.new }
     ensures distinct { AreDistinct nat_eq (map (λ w. w.pass.number) workers.new) }
 {

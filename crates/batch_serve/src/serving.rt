@@ -5,13 +5,15 @@ ghost use Rattle.batch_desk.specs.Answers.{IsInOrder};
 ghost use Rattle.cli_words.specs.Commands.{command_of};
 ghost use Rattle.cli_words.specs.Ranges.{IsInRange};
 ghost use Rattle.counted_lock.specs.Passes.{IsPassOf};
-ghost use Rattle.counted_lock.specs.Views.{places_of};
+ghost use Rattle.counted_lock.specs.Views.{places_of, unnumbered};
 ghost use Rattle.batch_serve.specs.Ends.{status_of};
 ghost use Rattle.batch_serve.specs.Works.{IsReady};
 ghost use Rattle.batch_serve.specs.Passes.{AllServe};
 ghost use Rattle.batch_serve.specs.Promises.{KeepsPromises};
 ghost use Rattle.batch_serve.specs.Serving.{open_status, serve_options, IsOpenedFor, KeepsHistory, IsServed};
+ghost use Rattle.batch_serve.specs.Statuses.{SaysListenFault, SaysMemory, SaysJournalFull, SaysDone};
 ghost use Rattle.batch_serve.specs.declared.status.ServeStatus.TheVariants.{Memory as MemoryStatus, Usage as UsageStatus, SinkFault as SinkStatus, KeeperFault as KeeperStatus};
+ghost use Rattle.batch_serve.specs.declared.status.ServeStatus.TheVariants.{ListenFault as ListenStatus, JournalFull as FullStatus, Done as DoneStatus};
 
 use crate::crew::crew;
 use crate::monitor::ServiceMonitor;
@@ -99,6 +101,7 @@ fn run_crew<
 ) -> (K, Journal)
     requires first { IsPassOf desk first }
     requires fresh { places_of first.number first.seen ≡ [] }
+    requires opened { unnumbered first.seen ≡ [] }
     requires empty { room.items ≡ [] }
     requires room { length workers.old + 1 ≤ vec_capacity room }
     requires ready { All (λ w. W.can_work w.kind) workers.old }
@@ -220,7 +223,11 @@ fn options_of(invocation: &Option<Invocation>) -> Option<ServeOptions>
     match invocation {
         Some(invocation) => match invocation.command {
             Command::Serve(options) => Some(options),
-            Command::Replay(_) | Command::Formula(_) | Command::Export | Command::Drill(_) => None,
+            Command::Replay(_)
+            | Command::Calendar(_)
+            | Command::Formula(_)
+            | Command::Export
+            | Command::Drill(_) => None,
         },
         None => None,
     }
@@ -232,8 +239,9 @@ fn options_of(invocation: &Option<Invocation>) -> Option<ServeOptions>
 ///
 /// `Usage` comes exactly if the words are not a command `serve`, unless memory runs out before that is known; `KeeperFault` only if the
 /// keeper's count of faults rose at the opening, and `SinkFault` only if that of the sink rose. The status is otherwise what the ends of
-/// the workers say: `ListenFault` if a listener failed, else `Memory` if a worker or a connection ran out of memory, else `JournalFull`
-/// if a worker found the journal full, else `Done`.
+/// the workers say: `ListenFault` if a listener failed, whose count of faults rose, else `Memory` if a worker or a connection ran out of
+/// memory, else `JournalFull` if a worker found the journal full, which then has as many entries as its limit, else `Done`. `Memory` also
+/// comes if memory runs out before the workers begin.
 pub fn serve_words<
     K: Keeper + Drop + Send,
     M: ServiceMonitor + Drop + Sync,
@@ -267,6 +275,11 @@ where
     ensures unserved { serve_options (command_of words.now) ≡ None → result.journal ≡ None }
     ensures sink_fault { result.status ≡ SinkStatus → Rose (W.faults sink.old) (W.faults sink.new) }
     ensures keeper_fault { result.status ≡ KeeperStatus → Rose (K.faults keeper) (K.faults result.keeper) }
+    ensures listen_fault { result.status ≡ ListenStatus → SaysListenFault N.faults workers.old workers.new result.journal }
+    ensures memory { result.status ≡ MemoryStatus → SaysMemory workers.old workers.new result.journal }
+    ensures journal_full { result.status ≡ FullStatus → SaysJournalFull workers.new result.journal }
+    ensures done { result.status ≡ DoneStatus → SaysDone (record { spawner = S.Spawner; stopper = P.Stopper; listener = N.Listener; link = N.Link.Link; clock = C.Clock })
+        workers.new result.journal }
 {
     let invocation = match read_command(alloc, words) {
         Ok(invocation) => invocation,

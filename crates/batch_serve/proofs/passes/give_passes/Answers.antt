@@ -14,6 +14,7 @@ loop-worker-preserved g c =
     record {
       next = gives.next;
       fresh = gives.fresh;
+      opened = gives.opened;
       given_so_far = done_more r xs ys i x y inside rest is (subst (λ w. r w y) (sym is) gives.given) loop.given_so_far;
       below = below_more (λ w. w.pass.number) ys i y inside old c.give_pass.new.next.number gives.number loop.below gives.above;
       rise = rise_more (λ w. w.pass.number) ys i y inside old c.give_pass.new.next.number gives.number loop.below loop.rise;

@@ -21,5 +21,5 @@ returns-clause-serves g c =
     ∙ ap (λ xs. xs ++ map (λ w. w.pass) ended) (c.push_reserved.ensures.items ∙ ap (λ xs. xs ++ next ∷ []) c.requires.empty) in
     serves_all c.args.desk g.W.Work.worked c.close.result.1 next c.args.workers.now c.give_passes.new.workers ended c.take_passes.new.workers
     c.give_passes.ensures.given c.give_passes.ensures.distinct c.crew.ensures.count c.crew.ensures.works c.take_passes.ensures.same
-    c.give_passes.ensures.fresh
+    c.give_passes.ensures.fresh c.give_passes.ensures.opened
     (subst (λ xs. IsSharedJournal c.close.result.1 xs) is c.close.ensures.shared)
