@@ -10,7 +10,7 @@ use std::test::Fail;
 
 /// Whether the words over this script, empty tables, and a keeper of which the calls of these numbers fail, have this status and an output
 /// that begins with this text.
-fn gives(
+pub fn gives(
     alloc: Global,
     words: &[&str],
     script: &str,

@@ -1,6 +1,7 @@
 //! Scripts, and what they show. Expected texts are written by hand.
 
-use crate::play::play;
+use crate::runs::gives;
+use batch_cli::Status;
 use std::test::Fail;
 
 const POOL: &str = "0 add-pool {\"id\":\"p\",\"targetDedicatedNodes\":1}\n";
@@ -45,7 +46,8 @@ const REFUSED_OUTPUT: &str =
     7 400 InvalidPropertyValue doNotRunUntil\n8 400 InvalidPropertyValue poolId\n9 400 InvalidPropertyValue commandLine\n\
     10 400 InvalidPropertyValue id\n11 400 UnreadableBody\n12 404 ScheduleNotFound\n13 400 UnreadableBody\n";
 
-/// A schedule that begins later, fires once and is completed, so that it is neither disabled nor enabled; its job has no tasks and stays.
+/// A schedule that begins later, fires once and is completed, so that it is neither disabled nor enabled; its job has no tasks and stays. The
+/// events of the schedule itself are no calls of the desk, so the last moment of the tables is that of the last tick.
 const ONCE: &str =
     "0 add-schedule {\"id\":\"o\",\"schedule\":{\"doNotRunUntil\":\"1970-01-01T00:01:00.0009Z\"},\
     \"jobSpecification\":{\"poolInfo\":{\"poolId\":\"p\"}}}\n\
@@ -64,38 +66,83 @@ const FULL_OUTPUT: &str =
 #[test]
 fn a_schedule_of_a_minute(rt: HostRuntime) -> Result<(), Fail> {
     let script = format!(in rt.alloc(); "{POOL}{MINUTES}")?;
-    let shown = play(rt.alloc(), script.as_str(), &[], 100)?;
-    assert_eq!(rt; shown.as_str(), MINUTES_OUTPUT);
+    let output = format!(in rt.alloc(); "{MINUTES_OUTPUT}tables 61000\n")?;
+    assert!(rt;
+        gives(
+            rt.alloc(),
+            &["calendar"],
+            script.as_str(),
+            &[],
+            Status::Done,
+            output.as_str()
+        )?
+    );
     Ok(())
 }
 
 #[test]
 fn a_schedule_with_a_window(rt: HostRuntime) -> Result<(), Fail> {
     let script = format!(in rt.alloc(); "{POOL}{WINDOWS}")?;
-    let shown = play(rt.alloc(), script.as_str(), &[], 100)?;
-    assert_eq!(rt; shown.as_str(), WINDOWS_OUTPUT);
+    let output = format!(in rt.alloc(); "{WINDOWS_OUTPUT}tables 240000\n")?;
+    assert!(rt;
+        gives(
+            rt.alloc(),
+            &["calendar"],
+            script.as_str(),
+            &[],
+            Status::Done,
+            output.as_str()
+        )?
+    );
     Ok(())
 }
 
 #[test]
 fn lines_that_are_refused(rt: HostRuntime) -> Result<(), Fail> {
-    let shown = play(rt.alloc(), REFUSED, &[], 100)?;
-    assert_eq!(rt; shown.as_str(), REFUSED_OUTPUT);
+    let output = format!(in rt.alloc(); "{REFUSED_OUTPUT}tables 0\n")?;
+    assert!(rt;
+        gives(
+            rt.alloc(),
+            &["calendar"],
+            REFUSED,
+            &[],
+            Status::UnreadableLines,
+            output.as_str()
+        )?
+    );
     Ok(())
 }
 
 #[test]
 fn a_schedule_of_one_occurrence(rt: HostRuntime) -> Result<(), Fail> {
     let script = format!(in rt.alloc(); "{POOL}{ONCE}")?;
-    let shown = play(rt.alloc(), script.as_str(), &[], 100)?;
-    assert_eq!(rt; shown.as_str(), ONCE_OUTPUT);
+    let output = format!(in rt.alloc(); "{ONCE_OUTPUT}tables 60001\n")?;
+    assert!(rt;
+        gives(
+            rt.alloc(),
+            &["calendar"],
+            script.as_str(),
+            &[],
+            Status::Done,
+            output.as_str()
+        )?
+    );
     Ok(())
 }
 
 #[test]
 fn remaining_requests_are_repeated(rt: HostRuntime) -> Result<(), Fail> {
     let script = format!(in rt.alloc(); "{POOL}{MINUTES}")?;
-    let shown = play(rt.alloc(), script.as_str(), &[], 2)?;
-    assert_eq!(rt; shown.as_str(), FULL_OUTPUT);
+    let words = ["calendar", "--journal", "2"];
+    assert!(rt;
+        gives(
+            rt.alloc(),
+            &words,
+            script.as_str(),
+            &[],
+            Status::JournalFull,
+            FULL_OUTPUT
+        )?
+    );
     Ok(())
 }
