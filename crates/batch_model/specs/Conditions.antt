@@ -1,4 +1,5 @@
 -- Exit conditions: what a task's ending does to its job and to the tasks that depend on it (Azure: exitConditions).
+-- Source: Azure Batch REST reference, exitConditions, and Azure Batch documentation of task dependencies; the form is this project's own.
 use Rattle.std.specs.Prelude.{zero, Bool, not, ◌&&◌, [], ◌∷◌, find, ℤ, pos, int_le, Option, unwrap_or}
 use Rattle.std.specs.Option.{option_map, option_and_then}
 use Rattle.std.specs.Ordering.{int_eq}

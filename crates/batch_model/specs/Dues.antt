@@ -1,4 +1,5 @@
 -- The due rules that are built, in the order in which they are tried. Each takes its first row in list order.
+-- Source: Azure Batch REST reference, AllocationState and resizeTimeout of pools; rules as steps, and seats, are this project's own.
 use Rattle.std.specs.Prelude.{ℕ, ◌+◌, Bool, not, ◌&&◌, ◌||◌, nat_eq, nat_lt, nat_le, [], ◌∷◌, find, Option, Some, None, if◌then◌else◌}
 use Rattle.std.specs.Option.{option_map, option_and_then}
 use Rattle.bt_rows.specs.declared.due.Due.TheVariants.{PoolResized, NodeAdded}

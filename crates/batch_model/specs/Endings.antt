@@ -1,4 +1,5 @@
 -- What an ending is: a success, a launch error, or another.
+-- Source: Azure Batch REST reference, TaskExecutionInformation; the form is this project's own.
 use Rattle.std.specs.Prelude.{zero, Bool, true, false, pos}
 use Rattle.batch_model.specs.Variants.{Ending, Code, NotStarted}
 

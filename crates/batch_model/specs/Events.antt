@@ -1,4 +1,5 @@
 -- Events: their refusals in order, their statuses and what they do. The events that are not built stand in NotBuilt.
+-- Source: Azure Batch REST reference, an operation each, with its error codes; runs, ticks and orders are this project's own.
 use Rattle.std.specs.Prelude.{ℕ, Bool, true, false, not, ◌&&◌, ◌||◌, nat_lt, nat_le, max, List, [], ◌∷◌, length, codes, Option, Some, None, is_some, unwrap_or, if◌then◌else◌}
 use Rattle.std.specs.Option.{option_map_or}
 use Rattle.std.specs.List.{list_any}
@@ -173,10 +174,11 @@ has_job_action options = is_some options.job
 abbrev pub uses_dependencies : TaskSpec → Bool
 uses_dependencies spec = not (is_empty spec.needs) || not (is_empty spec.spans) || has_given has_dependency_action spec
 
--- why a job that is not past does not take the task, in order; that a task with instances requires one slot is not built
+-- why a job that is not past does not take the task, in order; a task with instances is not built, nor that it is to require one slot
 abbrev pub task_refusals : State → JobRow → TaskSpec → List (Option Refusal)
 task_refusals s job spec =
-    refuse_if (is_some (task_of s job.id spec.id)) TaskExists
+    refuse_if (is_some spec.multi) not_built
+    ∷ refuse_if (is_some (task_of s job.id spec.id)) TaskExists
     ∷ refuse_if (uses_dependencies spec && not job.deps) DependenciesOff
     ∷ refuse_if (has_long_needs spec) DependencyListTooLong
     ∷ refuse_if (has_given has_job_action spec && not job.on_fail) JobActionOff

@@ -1,4 +1,5 @@
 -- The due rules of jobs. Each takes its first job in list order.
+-- Source: Azure Batch REST reference, JobState, and Azure Batch documentation of job preparation and release; the form is this project's own.
 use Rattle.std.specs.Prelude.{ℕ, Bool, not, ◌&&◌, ◌||◌, List, codes, filter, find, Option, if◌then◌else◌}
 use Rattle.std.specs.Option.{option_map, option_and_then}
 use Rattle.std.specs.List.{list_any, list_all}

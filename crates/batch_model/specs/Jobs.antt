@@ -1,4 +1,5 @@
 -- Jobs: their states, and new ones.
+-- Source: Azure Batch REST reference, JobState and the properties of Job; the form is this project's own.
 use Rattle.std.specs.Prelude.{ℕ, Bool, true, false, List, None}
 use Rattle.bt_rows.specs.declared.event.JobSpec.{JobSpec}
 use Rattle.batch_model.specs.Variants.{JobRow, JobState, JobActive, Disabling, Disabled, Enabling, Terminating, JobCompleted, Deleting}

@@ -1,4 +1,5 @@
 -- Laws: what holds at every moment of a history.
+-- Source: this project's own.
 use Rattle.std.specs.Prelude.{◌≡◌, ℕ, ◌+◌, ◌-◌, ◌≤◌, Bool, true, false, ◌&&◌, ◌||◌, nat_eq, List, Some}
 use Rattle.std.specs.List.{list_any}
 use Rattle.bt_rows.specs.declared.due.Due.{Due}

@@ -1,6 +1,11 @@
 -- How many rows the tables take, and how large a request may be.
+-- Source: Azure Batch REST reference, the limits of a collection and of dependsOn; the others are this project's own.
 use Rattle.std.specs.Prelude.{ℕ}
-use Rattle.bt_rows.specs.declared.limits.TheConstants.{POOL_LIMIT, JOB_LIMIT, TASK_LIMIT, COLLECTION_LIMIT, DEPENDENCY_ID_LIMIT}
+use Rattle.bt_rows.specs.declared.limits.TheConstants.{SEAT_LIMIT, POOL_LIMIT, JOB_LIMIT, TASK_LIMIT, COLLECTION_LIMIT, DEPENDENCY_ID_LIMIT}
+
+-- a machine has at most 32 seats, so as many nodes at a time
+abbrev pub seat_limit : ℕ
+seat_limit = SEAT_LIMIT
 
 -- 64 pools
 abbrev pub pool_limit : ℕ

@@ -1,4 +1,5 @@
 -- The numbers that due steps lower, compared from the first one on.
+-- Source: this project's own.
 use Rattle.std.specs.Prelude.{ℕ, ◌+◌, ◌-◌, Bool, true, false, not, ◌&&◌, List, [], ◌∷◌, count_by, sum_by, is_some, is_none, if◌then◌else◌}
 use Rattle.batch_model.specs.Tasks.{is_active, is_placed, is_completed, is_busy}
 use Rattle.batch_model.specs.JobRules.{wants_release}

@@ -1,4 +1,5 @@
 -- Nodes: their stages and their pools.
+-- Source: Azure Batch REST reference, ComputeNodeState; the stages behind it are this project's own.
 use Rattle.std.specs.Prelude.{ℕ, Bool, true, false, not, ◌&&◌, List}
 use Rattle.bt_base.specs.Ids.{same}
 use Rattle.batch_model.specs.Variants.{NodeRow, NodeStage, Starting, Usable, Leaving}

@@ -1,4 +1,5 @@
 -- What stands only until the rest of the profile is built: each definition says what takes its place.
+-- Source: this project's own.
 use Rattle.std.specs.Prelude.{not, ◌&&◌}
 use Rattle.bt_rows.specs.declared.refusal.Refusal.{Refusal}
 use Rattle.bt_rows.specs.declared.refusal.Refusal.TheVariants.{UnreadableBody}
@@ -7,8 +8,9 @@ use Rattle.batch_model.specs.Runs.{is_unended, is_coordination}
 use Rattle.batch_model.specs.Nodes.{is_leaving}
 use Rattle.batch_model.specs.Variants.{State}
 
--- an event that has no clause of its own in `event_now` is answered as if its body could not be read, and so is add-pool
--- with a formula. Each word of the profile gets its clause; with the last of them this goes.
+-- an event that has no clause of its own in `event_now` is answered as if its body could not be read, and so are add-pool with a
+-- formula, add-task with a task of several instances, and each such element of add-tasks. Each word of the profile gets its clause,
+-- and these bodies their rows; with the last of them this goes.
 abbrev pub not_built : Refusal
 not_built = UnreadableBody
 

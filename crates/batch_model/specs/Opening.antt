@@ -1,4 +1,5 @@
 -- The opening of tables that an earlier run left: nothing runs, and no node is there.
+-- Source: this project's own.
 use Rattle.std.specs.Prelude.{ℕ, Bool, not, ◌&&◌, nat_eq, [], Some, None, is_some}
 use Rattle.batch_model.specs.Rows.{change_pools, change_tasks, change_runs}
 use Rattle.batch_model.specs.Runs.{is_unended}
@@ -24,7 +25,7 @@ is_emptied pool = is_stopping pool.alloc && nat_eq pool.dedicated 0
 abbrev pub emptied : PoolRow → PoolRow
 emptied pool = record pool { alloc = Steady }
 
--- a placed task that nothing ends: no end is wanted, no start has failed, and its main run has not ended
+-- a placed task that nothing ends: no end is wanted, no ending counts in place of its main run's, and that has not ended
 abbrev pub is_cut_short : State → TaskRow → Bool
 is_cut_short s task = is_placed task.stage && is_undisturbed task && not (is_some (main_ending s task))
 

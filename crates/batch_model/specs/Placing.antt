@@ -1,4 +1,5 @@
 -- Placing of tasks, as far as it is built: tasks without instances.
+-- Source: Azure Batch REST reference, priority, maxParallelTasks, requiredSlots, nodeFillType; orders are this project's own.
 use Rattle.std.specs.Prelude.{◌+◌, ℕ, Bool, not, ◌&&◌, filter, int_lt, Option, Some, None, is_none, is_some, if◌then◌else◌}
 use Rattle.std.specs.Option.{option_map, option_and_then}
 use Rattle.bt_rows.specs.declared.due.Due.TheVariants.{TaskPlaced}

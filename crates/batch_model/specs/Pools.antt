@@ -1,4 +1,5 @@
 -- Pools: their states, how many nodes they have, and new ones.
+-- Source: Azure Batch REST reference, AllocationState and the properties of Pool; seats are this project's own.
 use Rattle.std.specs.Prelude.{ℕ, zero, suc, Bool, true, false, not, ◌&&◌, nat_eq, List, count_by, find, Option, None}
 use Rattle.std.specs.Option.{option_map_or}
 use Rattle.std.specs.List.{list_any, range_with_len}

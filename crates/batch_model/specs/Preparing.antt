@@ -1,4 +1,5 @@
 -- Preparation and release tasks: what the ending of a run of such a task does.
+-- Source: Azure Batch documentation of job preparation and release; the form is this project's own.
 use Rattle.std.specs.Prelude.{◌+◌, Bool, ◌&&◌, Option, if◌then◌else◌}
 use Rattle.std.specs.Option.{option_and_then}
 use Rattle.std.specs.List.{list_any}

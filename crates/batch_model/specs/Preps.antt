@@ -1,4 +1,5 @@
 -- Preparations of jobs on nodes: their states, and new ones.
+-- Source: Azure Batch documentation of job preparation and release; the form is this project's own.
 use Rattle.std.specs.Prelude.{ℕ, Bool, true, false, List, if◌then◌else◌}
 use Rattle.std.specs.Option.{option_map_or, is_some}
 use Rattle.batch_model.specs.Rows.{prep_of, is_prep, change_preps}

@@ -1,4 +1,5 @@
 -- Dependencies: which ids and numbers are satisfied, and which tasks are ready (Azure: dependsOn).
+-- Source: Azure Batch documentation of task dependencies; the form is this project's own.
 use Rattle.std.specs.Prelude.{ℕ, ◌+◌, ◌-◌, Bool, false, not, ◌&&◌, nat_eq, List, sum_by, count_by}
 use Rattle.std.specs.Option.{option_map_or}
 use Rattle.std.specs.List.{list_any, list_all, range_with_len}

@@ -1,4 +1,5 @@
 -- Rows found by their keys, changed in place, and added at the end.
+-- Source: this project's own.
 use Rattle.std.specs.Prelude.{ℕ, ◌+◌, Bool, ◌&&◌, nat_eq, List, [], ◌∷◌, ◌++◌, Option}
 use Rattle.std.specs.List.{find}
 use Rattle.bt_base.specs.Ids.{same}

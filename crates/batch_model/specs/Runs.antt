@@ -1,4 +1,5 @@
 -- Runs: whose they are, whether they have ended, and new ones.
+-- Source: this project's own.
 use Rattle.std.specs.Prelude.{ℕ, Bool, true, false, ◌&&◌, nat_eq, List, Option, Some, None}
 use Rattle.batch_model.specs.Finding.{names}
 use Rattle.batch_model.specs.Variants.{State, NodeRow, StartTask, TaskRow, Ending, RunRow, RunKind, RunState, StartRun, PrepRun, TaskRun, CoordinationRun}

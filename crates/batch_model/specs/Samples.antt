@@ -1,4 +1,5 @@
 -- Samples of pools.
+-- Source: Azure Batch documentation of automatic scaling; how many samples are kept is this project's own.
 use Rattle.std.specs.Prelude.{ℕ, Bool, ◌&&◌, List, [], ◌∷◌, filter, Option, Some, None}
 use Rattle.bt_base.specs.Ids.{same}
 use Rattle.bt_rows.specs.Metrics.{same_metric}

@@ -1,4 +1,5 @@
 -- What becomes of a placed task whose present attempt has no unended run.
+-- Source: Azure Batch REST reference, maxTaskRetryCount, TaskExecutionResult and onTaskFailure; the form is this project's own.
 use Rattle.std.specs.Prelude.{ℕ, ◌+◌, Bool, true, false, not, ◌&&◌, List, codes, filter, Option, Some, None, if◌then◌else◌}
 use Rattle.std.specs.Option.{option_map, option_and_then}
 use Rattle.bt_rows.specs.declared.event.DisableTasks.TheVariants.{Requeue}

@@ -1,4 +1,5 @@
 -- Held slots of nodes.
+-- Source: Azure Batch REST reference, requiredSlots and taskSlotsPerNode; the form is this project's own.
 use Rattle.std.specs.Prelude.{ℕ, ◌+◌, Bool, ◌&&◌, nat_eq, nat_le, filter, sum_by}
 use Rattle.std.specs.List.{list_any}
 use Rattle.batch_model.specs.Runs.{is_present}

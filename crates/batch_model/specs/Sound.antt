@@ -1,6 +1,7 @@
 -- Sound tables: what holds of the tables before and after every event and every due step. Each part has a name of its
 -- own.
-use Rattle.std.specs.Prelude.{ℕ, ◌<◌, List, Bool, false, not, ◌&&◌, ◌||◌, nat_eq, nat_lt, nat_le, is_some, is_none}
+-- Source: this project's own.
+use Rattle.std.specs.Prelude.{ℕ, ◌<◌, ◌≤◌, List, Bool, false, not, ◌&&◌, ◌||◌, nat_eq, nat_lt, nat_le, is_some, is_none}
 use Rattle.std.specs.List.{list_any, list_all}
 use Rattle.std.specs.Option.{option_map_or}
 use Rattle.bt_base.specs.Ids.{same}
@@ -17,6 +18,7 @@ use Rattle.batch_model.specs.Pools.{waits_for_start}
 use Rattle.batch_model.specs.Preps.{is_prep_running, is_prepared, is_unreleased, waits_for_preparation}
 use Rattle.batch_model.specs.NotBuilt.{OnlyBuiltRows}
 use Rattle.batch_model.specs.Endings.{is_success}
+use Rattle.batch_model.specs.Limits.{seat_limit}
 use Rattle.batch_model.specs.Slots.{owns, held_slots}
 use Rattle.batch_model.specs.WellFormed.{KeysAreDistinct, RowsAreValid, CountsAreInRange, TasksAreFitting, has_few_tries, has_few_preparations}
 use Rattle.batch_model.specs.WellFormed.{has_pool_row, has_job_row, NamedRowsAreThere}
@@ -47,8 +49,9 @@ share_seat node other = nat_eq node.seat other.seat
 abbrev pub has_node_while_unended : State → RunRow → Bool
 has_node_while_unended s run = not (is_unended run.state) || has_node_row s run.node
 
--- nodes sit on distinct seats and stand in pools, and unended runs on nodes
+-- there are at most 32 seats, nodes sit on distinct ones and stand in pools, and unended runs on nodes
 pub record SeatsAreDistinct (seats : ℕ) (s : State) : Type 0 where
+  pub few : seats ≤ seat_limit
   pub distinct : AreDistinct share_seat s.nodes
   pub in_range : Each (λ node. is_from_to 1 seats node.seat) s.nodes
   pub pools_of_nodes : Each (λ node. has_pool_row s node.pool) s.nodes

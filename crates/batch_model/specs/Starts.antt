@@ -1,4 +1,5 @@
 -- Start tasks: what the ending of a start run does to its node.
+-- Source: Azure Batch REST reference, StartTask; the form is this project's own.
 use Rattle.std.specs.Prelude.{ℕ, ◌+◌, Bool, ◌&&◌, Option, if◌then◌else◌}
 use Rattle.std.specs.Option.{option_and_then}
 use Rattle.batch_model.specs.Finding.{at_row, is_within_limit, has_number_left}

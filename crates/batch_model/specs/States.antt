@@ -1,4 +1,5 @@
 -- The states of nodes and tasks, as replies and tables show them. They follow from the stages and the runs in the tables.
+-- Source: Azure Batch REST reference, ComputeNodeState and TaskState; the form is this project's own.
 use Rattle.std.specs.Prelude.{ℕ, Bool, ◌&&◌, nat_eq, nat_lt, if◌then◌else◌}
 use Rattle.std.specs.List.{list_any}
 use Rattle.batch_model.specs.Runs.{is_start, is_taken, is_waiting, is_present}

@@ -1,4 +1,5 @@
 -- What a step gives: its reply or its line, and the tables after it.
+-- Source: this project's own.
 use Rattle.std.specs.Prelude.{Bool, Option, Some}
 use Rattle.bt_rows.specs.declared.refusal.Refusal.{Refusal}
 use Rattle.bt_rows.specs.declared.reply.Reply.{Reply}

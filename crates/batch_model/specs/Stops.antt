@@ -1,4 +1,5 @@
 -- Stopping tasks, halting preparations, and disabling and terminating jobs.
+-- Source: Azure Batch REST reference, Disable Job, Terminate Job and Terminate Task; the form is this project's own.
 use Rattle.std.specs.Prelude.{ℕ, Bool, ◌&&◌, List, Option, Some, None}
 use Rattle.std.specs.List.{list_any}
 use Rattle.bt_rows.specs.declared.event.DisableTasks.{DisableTasks}

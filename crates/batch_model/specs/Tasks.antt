@@ -1,4 +1,5 @@
 -- Tasks: their stages, their runs, and new ones.
+-- Source: Azure Batch REST reference, TaskState and the properties of Task; the form is this project's own.
 use Rattle.std.specs.Prelude.{ℕ, Bool, true, false, ◌&&◌, List, Option, Some, None, ℤ, count_by}
 use Rattle.std.specs.Option.{is_none, unwrap_or, option_and_then}
 use Rattle.std.specs.List.{find, list_any}
@@ -36,7 +37,7 @@ has_placed_task s job = list_any (is_placed_in job) s.tasks
 abbrev pub placed_count : State → List ℕ → ℕ
 placed_count s job = count_by (is_placed_in job) s.tasks
 
--- no end is wanted, and no start has failed
+-- no end is wanted, and no ending counts in place of the main command's
 abbrev pub is_undisturbed : TaskRow → Bool
 is_undisturbed task = is_none task.wanted && is_none task.fail
 
@@ -52,7 +53,8 @@ main_run s task = find (λ run. is_present task run && is_main run.kind) s.runs
 abbrev pub main_ending : State → TaskRow → Option Ending
 main_ending s task = option_and_then (λ run. ending_of run.state) (main_run s task)
 
--- how the present attempt ended: by a failed coordination, or else as its main run did
+-- how the present attempt ended: by the ending that counts in place of the main command's, as that of a failed coordination, or else as
+-- its main run did
 abbrev pub attempt_ending : State → TaskRow → Option Ending
 attempt_ending s task = or_else task.fail (main_ending s task)
 
@@ -60,7 +62,7 @@ attempt_ending s task = or_else task.fail (main_ending s task)
 abbrev pub retry_limit : JobRow → TaskRow → ℤ
 retry_limit job task = unwrap_or task.retries job.retries
 
--- no end is wanted any more
+-- no end is wanted, no ending counts in place of the main command's, and nothing has started
 abbrev pub cleared : TaskRow → TaskRow
 cleared task = record task { wanted = None; fail = None; started = None }
 

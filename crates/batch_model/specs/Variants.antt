@@ -1,4 +1,5 @@
 -- The rows' types and their variants, under names that differ from each other.
+-- Source: this project's own.
 pub use Rattle.bt_rows.specs.State.{State, empty_state}
 pub use Rattle.bt_rows.specs.declared.pool.Alloc.{Alloc}
 pub use Rattle.bt_rows.specs.declared.pool.Alloc.TheVariants.{Steady, Resizing, Stopping}

@@ -1,5 +1,6 @@
 -- The due rules of wall times, the longest times that tasks, release tasks and jobs may run (Azure: maxWallClockTime). Each
 -- takes its first row in list order.
+-- Source: Azure Batch REST reference, maxWallClockTime; the form is this project's own.
 use Rattle.std.specs.Prelude.{ℕ, Bool, false, not, ◌&&◌, List, codes, find, Option}
 use Rattle.std.specs.Option.{option_map, option_map_or, option_and_then}
 use Rattle.bt_rows.specs.declared.due.Due.TheVariants.{TaskTimedOut, ReleaseTimedOut, JobTimedOut}
@@ -18,7 +19,7 @@ use Rattle.batch_model.specs.Variants.{State, JobRow, ReleaseTask, TaskRow, Want
 abbrev pub is_out_of_time : ℕ → TaskRow → Bool
 is_out_of_time now task = option_map_or (λ from. has_passed from task.wall now) task.started false
 
--- placed, with no end wanted and no failed start, with an unended run, and out of time
+-- placed, with no end wanted and no ending in place of its main command's, with an unended run, and out of time
 abbrev pub is_task_timed_out : State → TaskRow → Bool
 is_task_timed_out s task = is_placed task.stage && is_undisturbed task && is_busy s task && is_out_of_time s.moment task
 

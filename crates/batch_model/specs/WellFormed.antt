@@ -1,4 +1,5 @@
 -- Well-formed tables: what a keeper may load, and what every step leaves. Each part has a name of its own.
+-- Source: this project's own.
 use Rattle.std.specs.Prelude.{ℕ, ◌+◌, ◌%◌, ◌≤◌, Bool, true, false, not, ◌&&◌, ◌||◌, nat_eq, nat_lt, nat_le, List, length, count_by, sum_by, Option, is_some}
 use Rattle.std.specs.Prelude.{is_none}
 use Rattle.std.specs.Option.{option_map_or}
@@ -19,7 +20,7 @@ use Rattle.batch_model.specs.Tasks.{is_placed, is_completed, is_placed_in, is_un
 use Rattle.batch_model.specs.Jobs.{is_quiet}
 use Rattle.batch_model.specs.Pools.{is_resizing}
 use Rattle.batch_model.specs.Samples.{sample_limit, samples_of, newest_label}
-use Rattle.batch_model.specs.Limits.{pool_limit, job_limit, task_limit, needs_limit}
+use Rattle.batch_model.specs.Limits.{seat_limit, pool_limit, job_limit, task_limit, needs_limit}
 use Rattle.batch_model.specs.Variants.{State, PoolRow, NodeRow, JobRow, TaskRow, Closed, RunRow, PrepRow, CpuPercent, ActiveTasks, SampleRow, ScaleRow}
 
 -- no two rows of a kind have the same key
@@ -41,9 +42,13 @@ is_pool_in_range pool =
     is_slot_count pool.slots && is_target pool.dedicated && nat_eq pool.low 0
     && is_resize_timeout pool.usual_timeout && is_resize_timeout pool.timeout && passes_if_some is_start_in_range pool.start
 
--- node numbers begin at 1
+-- numbers of nodes, also of those that a row names, begin at 1
+abbrev pub is_node_number : ℕ → Bool
+is_node_number number = is_from_to 1 last_number number
+
+-- on one of the 32 seats that a machine may have
 abbrev pub is_node_in_range : NodeRow → Bool
-is_node_in_range node = is_from_to 1 last_number node.number
+is_node_in_range node = is_node_number node.number && is_from_to 1 seat_limit node.seat
 
 -- a release task comes with a preparation task only
 abbrev pub is_job_in_range : JobRow → Bool
@@ -65,7 +70,7 @@ is_task_in_range task =
 
 -- a placing that begins at the last number may end 63 above it
 abbrev pub is_run_in_range : RunRow → Bool
-is_run_in_range run = is_from_to 1 (last_number + 63) run.number && nat_le run.slots 8
+is_run_in_range run = is_from_to 1 (last_number + 63) run.number && nat_le run.slots 8 && is_node_number run.node
 
 -- at most 8,192 bytes, evaluated every 5 minutes to every 168 hours
 abbrev pub is_scale_in_range : ScaleRow → Bool
@@ -156,7 +161,7 @@ pub record CountersAreAbove (s : State) : Type 0 where
 
 -- tasks
 
--- only a placed task has a wanted end, a failed attempt or a start
+-- only a placed task has a wanted end, an ending in place of its main command's, or a moment at which it started
 abbrev pub has_fitting_marks : TaskRow → Bool
 has_fitting_marks task = is_placed task.stage || (is_undisturbed task && is_none task.started)
 

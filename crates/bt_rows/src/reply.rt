@@ -231,10 +231,6 @@ pub enum Reply {
     One(Item),
     /// The items of a list, and the last one's id if more follow.
     Page(List<Item>, Option<Id>),
-    /// The queued run with the lowest number at a seat; None if there is none.
-    Queued(Option<QueuedRun>),
-    /// The numbers of the runs whose child programs are to be stopped.
-    AskedRuns(List<u64>),
     /// What a due step did.
     Step(Due),
 }

@@ -118,7 +118,8 @@ pub struct TaskRow {
     pub stage: TaskStage,
     /// How it is to be ended from outside its command line; None if it is not (this project's own).
     pub wanted: Option<Want>,
-    /// The ending with which a coordination failed in the present attempt; None if none did (this project's own).
+    /// The ending that counts for the present attempt in place of its main command's: that with which a coordination failed, or
+    /// `NotStarted` where no run of the main command could be made; None if there is none (this project's own).
     pub fail: Option<Ending>,
     /// What it states beside its id, its command line and its slots.
     pub settings: Settings,

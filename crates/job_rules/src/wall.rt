@@ -66,7 +66,8 @@ fn is_out_of_time(now: u64, task: &TaskRow) -> bool
     }
 }
 
-/// Whether the task is placed, with no end wanted and no failed start, has an unended run, and is out of time.
+/// Whether the task is placed, with no end wanted and no ending in place of its main command's, has an unended run, and is out of
+/// time.
 fn is_task_timed_out(indexed: &IndexedTables, task: &TaskRow) -> bool
     ensures { result ≡ is_task_timed_out indexed.now.state task.now }
 {

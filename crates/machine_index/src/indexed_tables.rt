@@ -368,7 +368,8 @@ impl IndexedTables {
         self.over.first(&self.tables)
     }
 
-    /// The first placed task, with no end wanted and no failed start, whose wall time is over at this moment. None if there is none.
+    /// The first placed task, with no end wanted and no ending in place of its main command's, whose wall time is over at this moment.
+    /// None if there is none.
     pub fn first_out_of_time(&self, now: Moment) -> Option<&TaskRow>
         ensures { option_copied result ≡ find (is_overdue now) self.now.state.tasks }
     {

@@ -67,6 +67,7 @@ consistent_job_added seats s job h new = record {
   seated = record {
     distinct = h.seated.distinct;
     in_range = h.seated.in_range;
+    few = h.seated.few;
     pools_of_nodes = h.seated.pools_of_nodes;
     nodes_of_runs = h.seated.nodes_of_runs;
   };

@@ -4,6 +4,7 @@ use Rattle.std.proofs.lemmas.Bool.Decides.{nat_tests}
 use Rattle.bt_base.specs.Moments.{last_moment}
 use Rattle.bt_rows.specs.Ranges.{passes_if_some}
 use Rattle.batch_model.specs.Events.{at_moment}
+use Rattle.batch_model.specs.Limits.{seat_limit}
 use Rattle.batch_model.specs.Sound.{IsConsistent, IsWithinLimits, IsSound}
 use Rattle.batch_model.specs.Variants.{State, empty_state, PoolRow, JobRow, TaskRow, Closed, RunRow, SampleRow}
 use Rattle.batch_model.specs.WellFormed.{is_past_if_some, is_closed_past, is_pool_valid, is_job_valid, is_task_valid, is_run_valid, is_sample_valid}
@@ -12,13 +13,13 @@ use Rattle.model_lists.proofs.RowLists.{each_weaker}
 use Rattle.model_tables.proofs.PrepsKept.{preps_with_others}
 
 -- empty tables are sound
-consistent_empty : (seats : ℕ) → IsConsistent seats empty_state
-consistent_empty seats = record {
+consistent_empty : (seats : ℕ) → seats ≤ seat_limit → IsConsistent seats empty_state
+consistent_empty seats few = record {
   keys = record { pools = tt; nodes = tt; jobs = tt; tasks = tt; runs = tt; preps = tt; samples = tt; scales = tt };
   numbers = record { begun = omega arith; runs = refl; nodes = refl; nodes_of_runs = refl; order = tt };
   fitting = record { marks = refl; closing = refl; attempts = refl };
   named = record { jobs_of_tasks = refl; jobs_of_runs = refl; tasks_of_runs = refl; main_runs = tt };
-  seated = record { distinct = tt; in_range = refl; pools_of_nodes = refl; nodes_of_runs = refl };
+  seated = record { few = few; distinct = tt; in_range = refl; pools_of_nodes = refl; nodes_of_runs = refl };
   belonging = refl;
   ending = refl;
   naming = record { on_nodes = refl; of_jobs = refl };
@@ -56,6 +57,7 @@ consistent_moment seats now s h = record {
   seated = record {
     distinct = h.seated.distinct;
     in_range = h.seated.in_range;
+    few = h.seated.few;
     pools_of_nodes = h.seated.pools_of_nodes;
     nodes_of_runs = h.seated.nodes_of_runs;
   };

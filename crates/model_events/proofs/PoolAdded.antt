@@ -71,6 +71,7 @@ consistent_pool_added seats s pool h new = record {
   seated = record {
     distinct = h.seated.distinct;
     in_range = h.seated.in_range;
+    few = h.seated.few;
     pools_of_nodes =
         each_weaker (λ (node : NodeRow). has_pool_row s node.pool) (λ (node : NodeRow). has_pool_row (add_pool_row pool s) node.pool)
         (λ node. any_append_old (is_pool node.pool) s.pools pool) s.nodes h.seated.pools_of_nodes;

@@ -2,6 +2,8 @@
 use Rattle.std.proofs.Common.{◌≡◌, ℕ, ◌+◌, Bool, true, false, not, ◌&&◌, nat_eq, nat_le, Some, refl, sym, ◌∙◌, ap}
 use Rattle.std.specs.List.{find}
 use Rattle.bt_rows.specs.declared.refusal.Refusal.TheVariants.{RunNotTaken}
+use Rattle.bt_rows.specs.Ranges.{is_from_to}
+use Rattle.batch_model.specs.Limits.{seat_limit}
 use Rattle.batch_model.specs.Rows.{is_node, is_run, change_runs, run_of}
 use Rattle.batch_model.specs.Events.{ended_run, ended_by, run_ended, end_run, end_refusals}
 use Rattle.batch_model.specs.Starts.{usable_in, failed_in, started_node, counted_node, failed_node, change_node, start_ended}
@@ -9,11 +11,11 @@ use Rattle.batch_model.specs.Jobs.{is_job_completed}
 use Rattle.batch_model.specs.JobRules.{is_unended_of}
 use Rattle.batch_model.specs.Sound.{IsWithinLimits, has_no_end_yet, UnendedRunsHaveNoEnd, StartsAreSound, PreparationsAreSound, CompletedJobsRest, IsSound}
 use Rattle.batch_model.specs.Sound.{prepare_the_same}
-use Rattle.batch_model.specs.WellFormed.{is_past_if_some, is_run_valid}
+use Rattle.batch_model.specs.WellFormed.{is_node_number, is_node_in_range, is_past_if_some, is_run_valid}
 use Rattle.batch_model.specs.Variants.{State, NodeRow, JobRow, Ending, RunRow, RunKind, StartRun, PrepRun, TaskRun, CoordinationRun, ReleaseRun}
 use Rattle.batch_model.specs.Runs.{is_taken, is_start, is_preparation, is_open_preparation, start_run}
 use Rattle.model_lists.proofs.Tests.{and_true, and_first, and_second, not_false, true_not}
-use Rattle.model_lists.proofs.RowLists.{each_any, none_any}
+use Rattle.model_lists.proofs.RowLists.{each_any, each_found, none_any}
 use Rattle.model_lists.proofs.ChangedRows.{changed, each_change_same, any_change_same}
 use Rattle.model_lists.proofs.NextNumbers.{is_not_after_itself}
 use Rattle.model_tables.proofs.StartAdded.{limited_start_added, unended_start_added}
@@ -78,6 +80,8 @@ limited_by_start s after run ending h (again node start found there failed left)
     limited_start_added (change_node node counted_node s) node start
     (limited_node_changed (is_node node.number) (λ (each : NodeRow). each.stage) (λ (each : NodeRow). each.tries + 1) s h)
     left
+    (and_first (is_node_number node.number) (is_from_to 1 seat_limit node.seat)
+    (each_found is_node_in_range (is_node run.node) node s.nodes found h.rows.nodes))
 limited_by_start s after run ending h (fails node start found there failed) =
     limited_node_changed (is_node node.number) (λ (each : NodeRow). failed_in each.stage) (λ (each : NodeRow). each.tries + 1) s h
 

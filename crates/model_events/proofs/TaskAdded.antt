@@ -104,6 +104,7 @@ module _ (s : State) (in_job : List ℕ) (spec : TaskSpec) where
     seated = record {
       distinct = h.seated.distinct;
       in_range = h.seated.in_range;
+      few = h.seated.few;
       pools_of_nodes = h.seated.pools_of_nodes;
       nodes_of_runs = h.seated.nodes_of_runs;
     };
@@ -174,11 +175,11 @@ has_with_task seats s job spec h in_range absent = record {
   sound = record {
     consistent =
         consistent_task_added s job.id spec seats h.sound.consistent h.there
-        (none_found (is_task job.id spec.id) s.tasks (passed (is_some (task_of s job.id spec.id)) TaskExists absent.0));
+        (none_found (is_task job.id spec.id) s.tasks (passed (is_some (task_of s job.id spec.id)) TaskExists absent.1.0));
     limited =
         limited_task_added s job.id spec h.sound.limited in_range
-        (passed (has_long_needs spec) DependencyListTooLong absent.1.1.0)
-        (passed (nat_le task_limit (length s.tasks)) (TableFull Tasks task_limit) absent.1.1.1.1.0);
+        (passed (has_long_needs spec) DependencyListTooLong absent.1.1.1.0)
+        (passed (nat_le task_limit (length s.tasks)) (TableFull Tasks task_limit) absent.1.1.1.1.1.0);
     unended = h.sound.unended;
     starts = record { usable = h.sound.starts.usable; tries = h.sound.starts.tries };
     preparing = preps_with_tasks s (task_added s job spec).tasks h.sound.preparing;

@@ -101,7 +101,7 @@ module _ (job id : List ℕ) where
       let next : State = after_element s row spec (first_of (task_refusals s row spec)) in
       then_others s next (add_each next row specs).state row spec specs
       (through (λ first. HasSameOrNew row (spec ∷ specs) s (after_element s row spec first)) (λ refusal. inl refl) (task_refusals s row spec)
-      (λ absent. one_added s row spec specs (passed (is_some (task_of s row.id spec.id)) TaskExists absent.0)))
+      (λ absent. one_added s row spec specs (passed (is_some (task_of s row.id spec.id)) TaskExists absent.1.0)))
       (each_added row specs next)
 
   -- endings leave the tasks' failures
@@ -304,7 +304,7 @@ module _ (job id : List ℕ) where
           (λ row found. by_answer (AddTask in_job spec)
           (refuse_if (is_past row.state) (JobStateRefuses row.state) ∷ task_refusals s row spec) 201 (task_added s row spec)
           (λ absent. one_task_added in_job spec row found (passed (is_past row.state) (JobStateRefuses row.state) absent.0)
-          (one_added s row spec [] (passed (is_some (task_of s row.id spec.id)) TaskExists absent.1.0))))
+          (one_added s row spec [] (passed (is_some (task_of s row.id spec.id)) TaskExists absent.1.1.0))))
       changes_now (AddTasks in_job specs) =
           by_row (AddTasks in_job specs) JobNotFound (add_tasks s specs) (job_of s in_job)
           (λ row found. by_given (AddTasks in_job specs) (accept_all (add_each s row specs))

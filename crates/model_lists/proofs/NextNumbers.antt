@@ -40,3 +40,7 @@ tested a b h = grind (arith, nat_tests)
 
 pub ordered : (a b : ℕ) → nat_le a b ≡ true → a ≤ b
 ordered a b h = grind (arith, nat_tests)
+
+-- equal numbers, as a test and as one
+pub equal : (a b : ℕ) → nat_eq a b ≡ true → a ≡ b
+equal a b h = grind (arith, nat_tests)

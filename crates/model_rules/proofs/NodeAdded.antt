@@ -11,6 +11,7 @@ use Rattle.bt_rows.specs.Keys.{same_node, same_pool, same_pool_equiv}
 use Rattle.bt_rows.specs.Ranges.{is_from_to}
 use Rattle.bt_rows.proofs.DistinctRows.{found_first, find-passes, sum_by-less}
 use Rattle.batch_model.specs.Finding.{Each, last_number, has_number_left}
+use Rattle.batch_model.specs.Limits.{seat_limit}
 use Rattle.batch_model.specs.Rows.{is_pool, is_node, add_node_row}
 use Rattle.batch_model.specs.Nodes.{is_leaving, stays}
 use Rattle.batch_model.specs.Runs.{is_unended, start_run, is_start}
@@ -20,7 +21,7 @@ use Rattle.batch_model.specs.Dues.{lacks_node, first_stage, new_node, begin_star
 use Rattle.batch_model.specs.Dues.{add_on, add_node}
 use Rattle.batch_model.specs.Sound.{IsConsistent, are_out_of_order, has_node_row, share_seat, has_node_while_unended, is_of_pool, fits_nodes, has_slots_for}
 use Rattle.batch_model.specs.Sound.{IsWithinLimits, UnendedRunsHaveNoEnd, StartsAreSound, IsSound, awaits_no_start, has_usable_start}
-use Rattle.batch_model.specs.WellFormed.{has_pool_row, is_node_in_range, is_unended_start_on, has_few_tries}
+use Rattle.batch_model.specs.WellFormed.{has_pool_row, is_node_number, is_node_in_range, is_unended_start_on, has_few_tries}
 use Rattle.batch_model.specs.Variants.{State, PoolRow, StartTask, NodeRow, Starting, Usable, RunRow}
 use Rattle.batch_model.specs.Variants.{NodeStage}
 use Rattle.batch_model.specs.Steps.{DueStep}
@@ -65,6 +66,12 @@ filter_none p (x ∷ xs) h = kept (p x) h (filter_none p xs)
         → cond b (x ∷ filter p xs) (filter p xs) ≡ []
     kept true k ih = cc
     kept false k ih = ih k
+
+-- a seat that is found is one of the machine's, of which there are at most 32
+seat_in_range : (seats : ℕ) (s : State) (seat : ℕ) → seats ≤ seat_limit → free_seat seats s ≡ Some seat → is_from_to 1 seat_limit seat ≡ true
+seat_in_range seats s seat few free =
+    each_found (is_from_to 1 seat_limit) (λ (place : ℕ). not (list_any (λ (node : NodeRow). nat_eq node.seat place) s.nodes)) seat (range_with_len 1 seats) free
+    (range_within 1 seat_limit 1 seats (omega arith) (omega (arith, few)))
 
 -- the tables with the new node, whose start task is not begun yet
 abbrev with_row : State → PoolRow → ℕ → State
@@ -165,6 +172,7 @@ consistent_row seats s pool seat h free f = record {
         each_append (λ (node : NodeRow). is_from_to 1 seats node.seat) s.nodes (new_node s pool seat) h.seated.in_range
         (each_found (is_from_to 1 seats) (λ (place : ℕ). not (list_any (λ (node : NodeRow). nat_eq node.seat place) s.nodes)) seat (range_with_len 1 seats) free
         (range_within 1 seats 1 seats (omega arith) (omega arith)));
+    few = h.seated.few;
     pools_of_nodes =
         each_append (λ (node : NodeRow). has_pool_row s node.pool) s.nodes (new_node s pool seat) h.seated.pools_of_nodes
         (any_found (is_pool pool.id) (lacks_node s) pool s.pools f (same_equiv.refl pool.id));
@@ -213,15 +221,17 @@ consistent_node_added seats s pool seat h free f =
 -- within the limits
 
 -- while node numbers last
-limited_row : (s : State) (pool : PoolRow) (seat : ℕ) → IsWithinLimits s → has_number_left s.next_node ≡ true
+limited_row : (s : State) (pool : PoolRow) (seat : ℕ) → IsWithinLimits s → has_number_left s.next_node ≡ true → is_from_to 1 seat_limit seat ≡ true
     → IsWithinLimits (add_node_row (new_node s pool seat) s)
-limited_row s pool seat h left =
+limited_row s pool seat h left in_range =
     let most : s.next_node ≤ last_number = ordered s.next_node last_number left in
     record {
       rows = record {
         moment = h.rows.moment;
         pools = h.rows.pools;
-        nodes = each_append is_node_in_range s.nodes (new_node s pool seat) h.rows.nodes (and_true (tested 1 s.next_node h.counts.first_node) left);
+        nodes =
+            each_append is_node_in_range s.nodes (new_node s pool seat) h.rows.nodes
+            (and_true (and_true (tested 1 s.next_node h.counts.first_node) left) in_range);
         jobs = h.rows.jobs;
         tasks = h.rows.tasks;
         runs = h.rows.runs;
@@ -251,15 +261,16 @@ limited_row s pool seat h left =
 
 -- a start task that begins, while run numbers last
 limited_begun : (s : State) (node : NodeRow) (start : Option StartTask) → IsWithinLimits s → has_number_left s.next_run ≡ true
-    → IsWithinLimits (begin_start start node s)
-limited_begun s node None h left = h
-limited_begun s node (Some start) h left = limited_start_added s node start h left
+    → is_node_number node.number ≡ true → IsWithinLimits (begin_start start node s)
+limited_begun s node None h left numbered = h
+limited_begun s node (Some start) h left numbered = limited_start_added s node start h left numbered
 
 -- a pool gets a node, on which its start task begins, while numbers last
 limited_node_added : (s : State) (pool : PoolRow) (seat : ℕ) → IsWithinLimits s → has_number_left s.next_node ≡ true → has_number_left s.next_run ≡ true
-    → IsWithinLimits (node_added s seat pool).state
-limited_node_added s pool seat h nodes_left runs_left =
-    limited_begun (add_node_row (new_node s pool seat) s) (new_node s pool seat) pool.start (limited_row s pool seat h nodes_left) runs_left
+    → is_from_to 1 seat_limit seat ≡ true → IsWithinLimits (node_added s seat pool).state
+limited_node_added s pool seat h nodes_left runs_left in_range =
+    limited_begun (add_node_row (new_node s pool seat) s) (new_node s pool seat) pool.start (limited_row s pool seat h nodes_left in_range) runs_left
+    (and_true (tested 1 s.next_node h.counts.first_node) nodes_left)
 
 -- without ends
 
@@ -434,7 +445,7 @@ module _ (seats : ℕ) (s : State) (h : IsSound seats s) where
   node_added_kept seat pool runs_left nodes_left free found = record {
     sound = record {
       consistent = consistent_node_added seats s pool seat h.consistent free found;
-      limited = limited_node_added s pool seat h.limited nodes_left runs_left;
+      limited = limited_node_added s pool seat h.limited nodes_left runs_left (seat_in_range seats s seat h.consistent.seated.few free);
       unended = unended_node_added s pool seat h.unended;
       starts = starts_new_node seats s pool seat h.consistent found h.starts;
       preparing = preps_node_added s pool seat h.consistent.numbers.nodes_of_runs h.preparing;

@@ -1,6 +1,6 @@
 -- The opening makes well-formed tables sound.
 use Rattle.std.proofs.Common.{◌≡◌, ℕ, Bool, true, false, not, ◌&&◌, ◌||◌, nat_eq, nat_lt, nat_le, List, Option, Some, None, is_some, is_none, refl, ◌∙◌, ap}
-use Rattle.std.proofs.Common.{arith}
+use Rattle.std.proofs.Common.{arith, ◌≤◌}
 use Rattle.std.specs.List.{list_any, find}
 use Rattle.std.specs.Option.{option_map, option_and_then}
 use Rattle.std.proofs.lemmas.Bool.Decides.{nat_tests}
@@ -27,6 +27,7 @@ use Rattle.batch_model.specs.Runs.{is_waiting, is_open_preparation, is_coordinat
 use Rattle.std.proofs.Common.{[], ◌∷◌}
 use Rattle.std.specs.Option.{option_map_or}
 use Rattle.batch_model.specs.Finding.{names}
+use Rattle.batch_model.specs.Limits.{seat_limit}
 use Rattle.batch_model.specs.Jobs.{is_job_completed}
 use Rattle.batch_model.specs.JobRules.{is_unended_of, has_unended_run}
 use Rattle.batch_model.specs.Sound.{has_running_prep, prepare_the_same, is_prepared_run, waits_in, has_known_release, is_at_rest}
@@ -262,8 +263,8 @@ module _ (s : State) (h : IsWellFormed s) where
   }
 
   -- the rows fit each other
-  opening_consistent : (seats : ℕ) → IsConsistent seats (opening s)
-  opening_consistent seats = record {
+  opening_consistent : (seats : ℕ) → seats ≤ seat_limit → IsConsistent seats (opening s)
+  opening_consistent seats few = record {
     keys = opening_keys;
     numbers = record {
       begun = omega (arith, h.counts.first_run);
@@ -277,6 +278,7 @@ module _ (s : State) (h : IsWellFormed s) where
     seated = record {
       distinct = tt;
       in_range = refl;
+      few = few;
       pools_of_nodes = refl;
       nodes_of_runs = each_weaker is_over (has_node_while_unended (opening s)) (λ run. or_first (has_node_row (opening s) run.node)) (opening s).runs over;
     };
@@ -360,10 +362,10 @@ module _ (s : State) (h : IsWellFormed s) where
     pools = opening_pools;
   }
 
--- the opening of well-formed tables is sound, whatever the seats
-pub sound_by_opening : (seats : ℕ) (s : State) → IsWellFormed s → IsSound seats (opening s)
-sound_by_opening seats s h = record {
-  consistent = opening_consistent s h seats;
+-- the opening of well-formed tables is sound, for at most 32 seats
+pub sound_by_opening : (seats : ℕ) (s : State) → seats ≤ seat_limit → IsWellFormed s → IsSound seats (opening s)
+sound_by_opening seats s few h = record {
+  consistent = opening_consistent s h seats few;
   limited = opening_limited s h;
   unended = each_weaker is_over has_no_end_yet (λ run. or_first (is_none run.ended)) (opening s).runs (runs_over s.moment s.runs);
   starts = record { usable = refl; tries = refl };

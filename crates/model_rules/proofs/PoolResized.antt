@@ -90,6 +90,7 @@ consistent_pool_put seats s row pool test h ids slots f = record {
   seated = record {
     distinct = h.seated.distinct;
     in_range = h.seated.in_range;
+    few = h.seated.few;
     pools_of_nodes =
         each_weaker (λ (node : NodeRow). has_pool_row s node.pool) (λ (node : NodeRow). has_pool_row (put_pool row s) node.pool)
         (λ node. pool_row_kept s row node.pool) s.nodes h.seated.pools_of_nodes;

@@ -211,7 +211,8 @@ module _ (seats : ℕ) (s : State) (h : IsSound seats s) (job : JobRow) (pool : 
       record {
         consistent = consistent_placed seats s job node task state going test h.consistent found can pool pool_found first_node of_pool free;
         limited =
-            limited_placed s job node task state (λ (other : JobRow). same_job other job) test h.limited h.consistent.keys.jobs job_found active found can most;
+            limited_placed s job node task state (λ (other : JobRow). same_job other job) test h.limited h.consistent.keys.jobs job_found active found can most
+            (any_found (is_node node.number) (λ (other : NodeRow). same_node other node) node s.nodes first_node (is_itself node.number));
         unended = unended_placed s node task state h.unended;
         starts = record { usable = starts.usable; tries = starts.tries };
         preparing =

@@ -1,4 +1,4 @@
-//! What is not built yet: it is taken, and nothing comes of it. These rows change with what is built.
+//! What is not built yet is refused as if its body could not be read. These rows change with what is built.
 #![tactic(auto, unfolding(bt_base::specs::Ids::same, bt_base::proofs::Turns::lex_lt))]
 
 ghost use Rattle.std.specs.Prelude.{◌≡◌, true};
@@ -6,11 +6,11 @@ ghost use Rattle.model_scripts.specs.Scripts.{lines_of, rows_after};
 ghost use Rattle.model_scripts.specs.Checks.{is_good};
 ghost use Rattle.model_scripts.specs.LaterScripts as row;
 
-/// A task with instances is not placed yet, and holds up none.
-pub fn tasks_are_not_placed_yet()
-    ensures lines { lines_of row.unplaced_tasks ≡ row.unplaced_tasks_lines }
-    ensures rows { rows_after row.unplaced_tasks ≡ row.unplaced_tasks_rows }
-    ensures good { is_good row.unplaced_tasks ≡ true }
+/// A task with instances is not read yet, alone or in a list, whatever its id, and leaves the others as they are.
+pub fn tasks_with_instances_are_not_read_yet()
+    ensures lines { lines_of row.instance_tasks ≡ row.instance_tasks_lines }
+    ensures rows { rows_after row.instance_tasks ≡ row.instance_tasks_rows }
+    ensures good { is_good row.instance_tasks ≡ true }
 {}
 
 /// A pool that scales automatically is not read yet.

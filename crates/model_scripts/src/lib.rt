@@ -36,7 +36,8 @@ pub use first_path::{
     a_task_ends_with_success, nothing_comes_of_no_calls, runs_are_taken_and_ended_once,
 };
 pub use later::{
-    events_are_not_read_yet, pools_that_scale_are_not_read_yet, tasks_are_not_placed_yet,
+    events_are_not_read_yet, pools_that_scale_are_not_read_yet,
+    tasks_with_instances_are_not_read_yet,
 };
 pub use openings::{
     a_taken_run_is_made_again, an_ending_is_settled_after_the_opening, empty_tables_open_as_empty,

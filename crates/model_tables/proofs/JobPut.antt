@@ -80,6 +80,7 @@ module _ (s : State) (row : JobRow) where
     seated = record {
       distinct = h.seated.distinct;
       in_range = h.seated.in_range;
+      few = h.seated.few;
       pools_of_nodes = h.seated.pools_of_nodes;
       nodes_of_runs = h.seated.nodes_of_runs;
     };

@@ -18,7 +18,7 @@ use Rattle.model_lists.proofs.RowLists.{each_any, each_append, each_weaker, find
 use Rattle.model_lists.proofs.DistinctLists.{distinct_append}
 use Rattle.model_lists.proofs.NextNumbers.{below_other, below_next, below_own_next, is_not_after_itself, ordered}
 use Rattle.model_tables.proofs.NotBuilt.{is_built}
-use Rattle.model_tables.proofs.StartAdded.{row_below, left_in_range}
+use Rattle.model_tables.proofs.StartAdded.{row_below, row_in_range, left_in_range}
 use Rattle.model_tables.proofs.StartsKept.{starts_run_added}
 
 -- a run that is no task's is no main run, and no coordination run
@@ -161,6 +161,7 @@ module _ (s : State) (number : ℕ) (pool : List ℕ) (what : RunKind) (text : L
       seated = record {
         distinct = h.seated.distinct;
         in_range = h.seated.in_range;
+        few = h.seated.few;
         pools_of_nodes = h.seated.pools_of_nodes;
         nodes_of_runs = each_append (has_node_while_unended s) s.runs run h.seated.nodes_of_runs there;
       };
@@ -191,7 +192,7 @@ module _ (s : State) (number : ℕ) (pool : List ℕ) (what : RunKind) (text : L
             runs =
                 each_append (is_run_valid s.moment) s.runs run h.rows.runs
                 (and_true
-                (and_true (and_true (left_in_range s.next_run 63 h.counts.first_run left) refl) (and_true (and_true (is_not_after_itself s.moment) refl) refl))
+                (and_true (and_true (and_true (left_in_range s.next_run 63 h.counts.first_run left) refl) (row_in_range s number there h.rows.nodes)) (and_true (and_true (is_not_after_itself s.moment) refl) refl))
                 refl);
             samples = h.rows.samples;
             scales = h.rows.scales;

@@ -59,6 +59,7 @@ module _ (test : NodeRow → Bool) (stage_of : NodeRow → NodeStage) (tries_of 
     seated = record {
       distinct = distinct_change test change share_seat (λ x y t. refl) (λ x y t. refl) s.nodes h.seated.distinct;
       in_range = each_change_same test change (λ (node : NodeRow). is_from_to 1 seats node.seat) (λ node t k. k) s.nodes h.seated.in_range;
+      few = h.seated.few;
       pools_of_nodes = each_change_same test change (λ (node : NodeRow). has_pool_row s node.pool) (λ node t k. k) s.nodes h.seated.pools_of_nodes;
       nodes_of_runs = each_weaker (has_node_while_unended s) (has_node_while_unended after) node_there s.runs h.seated.nodes_of_runs;
     };

@@ -163,6 +163,7 @@ module _ (test : PrepRow → Bool) (state_of : PrepRow → PrepState) (tries_of 
       seated = record {
         distinct = h.consistent.seated.distinct;
         in_range = h.consistent.seated.in_range;
+        few = h.consistent.seated.few;
         pools_of_nodes = h.consistent.seated.pools_of_nodes;
         nodes_of_runs = h.consistent.seated.nodes_of_runs;
       };

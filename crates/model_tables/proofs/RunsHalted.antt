@@ -113,6 +113,7 @@ module _ (test : RunRow → Bool) (s : State) (free : (run : RunRow) → test ru
     seated = record {
       distinct = h.seated.distinct;
       in_range = h.seated.in_range;
+      few = h.seated.few;
       pools_of_nodes = h.seated.pools_of_nodes;
       nodes_of_runs = each_run (has_node_while_unended s) (λ run k. refl) (λ run k. k) h.seated.nodes_of_runs;
     };

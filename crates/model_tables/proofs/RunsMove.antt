@@ -259,6 +259,7 @@ module _ (into : RunRow → RunState) (taken_at ended_at : RunRow → Option ℕ
     seated = record {
       distinct = h.seated.distinct;
       in_range = h.seated.in_range;
+      few = h.seated.few;
       pools_of_nodes = h.seated.pools_of_nodes;
       nodes_of_runs =
           each_map g (has_node_while_unended s) (has_node_while_unended (after s))

@@ -1,5 +1,5 @@
 -- Tables stay sound when a start run is queued on a node.
-use Rattle.std.proofs.Common.{◌≡◌, ℕ, ◌+◌, ◌<◌, Bool, true, false, not, ◌&&◌, ◌||◌, nat_eq, nat_lt, List, [], ◌∷◌, ◌++◌, filter, sum_by, refl, ap, arith, ◌≤◌}
+use Rattle.std.proofs.Common.{◌≡◌, ℕ, ◌+◌, ◌<◌, Bool, true, false, not, ◌&&◌, ◌||◌, nat_eq, nat_lt, List, [], ◌∷◌, ◌++◌, filter, sum_by, refl, ap, arith, subst, ◌≤◌}
 use Rattle.std.specs.List.{list_any}
 use Rattle.bt_base.specs.Ids.{same}
 use Rattle.bt_rows.specs.Keys.{same_run}
@@ -12,15 +12,16 @@ use Rattle.batch_model.specs.Sound.{IsConsistent, has_node_row, has_node_while_u
 use Rattle.batch_model.specs.Sound.{has_slots_for}
 use Rattle.batch_model.specs.WellFormed.{has_named_job, has_named_task, are_one_attempt}
 use Rattle.batch_model.specs.Variants.{State, StartTask, NodeRow, TaskRow, RunRow}
-use Rattle.model_lists.proofs.Tests.{and_true, true_not}
+use Rattle.model_lists.proofs.Tests.{and_true, and_first, true_not}
 use Rattle.model_lists.proofs.RowLists.{each_any, each_append, each_weaker, each_found, find_any, find_test, find_append_same, any_append_same, none_any}
 use Rattle.model_lists.proofs.DistinctLists.{distinct_append}
 use Rattle.model_lists.proofs.NextNumbers.{below_other, below_next, below_own_next, equal_below}
 use Rattle.bt_rows.specs.Ranges.{is_from_to}
 use Rattle.batch_model.specs.Finding.{last_number, has_number_left}
+use Rattle.batch_model.specs.Limits.{seat_limit}
 use Rattle.batch_model.specs.Sound.{IsWithinLimits}
-use Rattle.batch_model.specs.WellFormed.{is_run_valid}
-use Rattle.model_lists.proofs.NextNumbers.{is_not_after_itself, tested, ordered}
+use Rattle.batch_model.specs.WellFormed.{is_node_number, is_node_in_range, is_run_valid}
+use Rattle.model_lists.proofs.NextNumbers.{is_not_after_itself, tested, ordered, equal}
 use Rattle.batch_model.specs.Sound.{has_no_end_yet, UnendedRunsHaveNoEnd}
 
 -- the node has a row, and each row with its number stands in its pool
@@ -40,6 +41,19 @@ row_below s number there below =
     let row = find_any (is_node number) s.nodes there in
     equal_below row.0.number number s.next_node (find_test (is_node number) row.0 s.nodes row.1)
     (each_found (λ (node : NodeRow). nat_lt node.number s.next_node) (is_node number) row.0 s.nodes row.1 below)
+
+-- a number that some row has is in its range
+pub row_in_range : (s : State) (number : ℕ) → has_node_row s number ≡ true → Each is_node_in_range s.nodes → is_node_number number ≡ true
+row_in_range s number there valid =
+    let row = find_any (is_node number) s.nodes there in
+    let in_range : is_node_in_range row.0 ≡ true = each_found is_node_in_range (is_node number) row.0 s.nodes row.1 valid in
+    same_in_range row.0.number number (find_test (is_node number) row.0 s.nodes row.1)
+    (and_first (is_node_number row.0.number) (is_from_to 1 seat_limit row.0.seat) in_range)
+  where
+    same_in_range : (a b : ℕ) → nat_eq a b ≡ true → is_node_number a ≡ true → is_node_number b ≡ true
+    same_in_range a b e h =
+        let is : a ≡ b = equal a b e in
+        subst (λ n. is_node_number n ≡ true) is h
 
 module _ (s : State) (node : NodeRow) (start : StartTask) where
   -- the new run, and the tables with it
@@ -141,6 +155,7 @@ consistent_start_added seats s node start h has = record {
   seated = record {
     distinct = h.seated.distinct;
     in_range = h.seated.in_range;
+    few = h.seated.few;
     pools_of_nodes = h.seated.pools_of_nodes;
     nodes_of_runs = each_append (has_node_while_unended s) s.runs (start_run s node start) h.seated.nodes_of_runs has.there;
   };
@@ -171,19 +186,19 @@ left_in_range next more first left =
 -- a start run
 
 -- the new run is valid
-start_valid : (s : State) (node : NodeRow) (start : StartTask) → 1 ≤ s.next_run → has_number_left s.next_run ≡ true
+start_valid : (s : State) (node : NodeRow) (start : StartTask) → 1 ≤ s.next_run → has_number_left s.next_run ≡ true → is_node_number node.number ≡ true
     → is_run_valid s.moment (start_run s node start) ≡ true
-start_valid s node start first left =
+start_valid s node start first left numbered =
     and_true
     (and_true
-    (and_true (left_in_range s.next_run 63 first left) refl)
+    (and_true (and_true (left_in_range s.next_run 63 first left) refl) numbered)
     (and_true (and_true (is_not_after_itself s.moment) refl) refl))
     refl
 
 -- while run numbers last
 pub limited_start_added : (s : State) (node : NodeRow) (start : StartTask) → IsWithinLimits s → has_number_left s.next_run ≡ true
-    → IsWithinLimits (add_run_row (start_run s node start) s)
-limited_start_added s node start h left =
+    → is_node_number node.number ≡ true → IsWithinLimits (add_run_row (start_run s node start) s)
+limited_start_added s node start h left numbered =
     let most : s.next_run ≤ last_number = ordered s.next_run last_number left in
     record {
       rows = record {
@@ -192,7 +207,7 @@ limited_start_added s node start h left =
         nodes = h.rows.nodes;
         jobs = h.rows.jobs;
         tasks = h.rows.tasks;
-        runs = each_append (is_run_valid s.moment) s.runs (start_run s node start) h.rows.runs (start_valid s node start h.counts.first_run left);
+        runs = each_append (is_run_valid s.moment) s.runs (start_run s node start) h.rows.runs (start_valid s node start h.counts.first_run left numbered);
         samples = h.rows.samples;
         scales = h.rows.scales;
       };

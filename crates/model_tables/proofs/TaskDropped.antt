@@ -166,6 +166,7 @@ module _ (task : TaskRow) (s : State) where
     seated = record {
       distinct = h.seated.distinct;
       in_range = h.seated.in_range;
+      few = h.seated.few;
       pools_of_nodes = h.seated.pools_of_nodes;
       nodes_of_runs = each_kept keeps_run (has_node_while_unended s) s.runs h.seated.nodes_of_runs;
     };

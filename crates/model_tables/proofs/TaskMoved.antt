@@ -34,7 +34,7 @@ less_placed false before after give k = refl
 abbrev pub moved_to : Marks → TaskRow → TaskRow
 moved_to to task = marked (λ other. to) task
 
--- no end is wanted, no start has failed, and none was made
+-- no end is wanted, no ending counts in place of the main command's, and nothing has started
 abbrev pub is_unmarked : Marks → Bool
 is_unmarked to = (is_none to.wanted && is_none to.fail) && is_none to.started
 

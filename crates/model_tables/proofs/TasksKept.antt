@@ -109,6 +109,7 @@ module _ (marks : TaskRow → Marks) where
       seated = record {
         distinct = h.seated.distinct;
         in_range = h.seated.in_range;
+        few = h.seated.few;
         pools_of_nodes = h.seated.pools_of_nodes;
         nodes_of_runs = h.seated.nodes_of_runs;
       };

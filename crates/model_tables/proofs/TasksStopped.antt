@@ -334,6 +334,7 @@ module _ (test : TaskRow → Bool) (want : Want) (s : State) where
       seated = record {
         distinct = h.seated.distinct;
         in_range = h.seated.in_range;
+        few = h.seated.few;
         pools_of_nodes = h.seated.pools_of_nodes;
         nodes_of_runs = each_run (has_node_while_unended s) (has_node_while_unended s) (λ run k. refl) (λ run k. k) (λ run k. k) h.seated.nodes_of_runs;
       };

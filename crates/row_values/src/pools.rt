@@ -4,10 +4,11 @@ ghost use Rattle.bt_rows.specs.Ranges.{is_percentage, is_formula_text};
 ghost use Rattle.batch_model.specs.WellFormed.{is_pool_in_range, is_pool_past, is_pool_valid, is_node_in_range, is_sample_in_range, is_sample_valid, is_scale_in_range};
 
 use crate::ranges::{
-    is_interval, is_past_if_some, is_resize_timeout, is_slot_count, is_start_in_range, is_target,
+    is_interval, is_node_number, is_past_if_some, is_resize_timeout, is_slot_count,
+    is_start_in_range, is_target,
 };
 use bt_base::{Num, Text};
-use bt_rows::limits::{FORMULA_LIMIT, NUMBER_LIMIT};
+use bt_rows::limits::{FORMULA_LIMIT, SEAT_LIMIT};
 use bt_rows::node::NodeRow;
 use bt_rows::pool::PoolRow;
 use bt_rows::sample::{Metric, SampleRow};
@@ -42,11 +43,11 @@ pub fn is_pool_valid(now: u64, pool: &PoolRow) -> bool
     is_pool_in_range(pool) && is_pool_past(now, pool)
 }
 
-/// Whether the node's number is 1 to 10^15.
+/// Whether the node's number is 1 to 10^15, and its seat 1 to 32.
 pub fn is_node_in_range(node: &NodeRow) -> bool
     ensures { result ≡ is_node_in_range node.now }
 {
-    1 <= node.number && node.number <= NUMBER_LIMIT
+    is_node_number(node.number) && (1 <= node.seat && node.seat <= SEAT_LIMIT)
 }
 
 /// Whether the number is 0 to 100.

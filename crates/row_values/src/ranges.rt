@@ -1,13 +1,20 @@
 //! Ranges of values, and moments that are not after the last one.
 ghost use Rattle.std.specs.Prelude.{◌≡◌};
 ghost use Rattle.bt_rows.specs.Ranges.{passes_if_some, is_duration, is_retry_limit, is_resize_timeout, is_target, is_slot_count, is_interval, is_start_in_range};
-ghost use Rattle.batch_model.specs.WellFormed.{is_past_if_some};
+ghost use Rattle.batch_model.specs.WellFormed.{is_past_if_some, is_node_number};
 
 use bt_rows::limits::{
     DURATION_LIMIT, GREATEST_INTERVAL, GREATEST_RESIZE_TIMEOUT, LEAST_INTERVAL,
-    LEAST_RESIZE_TIMEOUT, RETRY_LIMIT, SLOT_LIMIT, TARGET_LIMIT,
+    LEAST_RESIZE_TIMEOUT, NUMBER_LIMIT, RETRY_LIMIT, SLOT_LIMIT, TARGET_LIMIT,
 };
 use bt_rows::pool::StartTask;
+
+/// Whether it is the number of a node: 1 to 10^15.
+pub fn is_node_number(number: u64) -> bool
+    ensures { result ≡ is_node_number number }
+{
+    1 <= number && number <= NUMBER_LIMIT
+}
 
 /// Whether it is a limit of retries: 0 to 1,000,000, or -1 for none.
 pub fn is_retry_limit(limit: i32) -> bool

@@ -3,18 +3,21 @@ ghost use Rattle.std.specs.Prelude.{◌≡◌, nat_le};
 ghost use Rattle.bt_rows.specs.Ranges.{passes_if_some};
 ghost use Rattle.batch_model.specs.WellFormed.{is_run_in_range, is_run_past, is_ended_in_order, is_run_in_order, is_run_valid};
 
-use crate::ranges::is_past_if_some;
+use crate::ranges::{is_node_number, is_past_if_some};
 use bt_rows::limits::{NUMBER_LIMIT, SLOT_LIMIT};
 use bt_rows::run::RunRow;
 
 /// The greatest number of a run: 63 above the limit, up to which the instances of one placing may come.
 const GREATEST_NUMBER: u64 = NUMBER_LIMIT + 63;
 
-/// Whether the run's number and slots are in their ranges.
+/// Whether the run's number and slots, and the number of its node, are in their ranges.
 fn is_run_in_range(run: &RunRow) -> bool
     ensures { result ≡ is_run_in_range run.now }
 {
-    1 <= run.number && run.number <= GREATEST_NUMBER && run.slots <= SLOT_LIMIT
+    1 <= run.number
+        && run.number <= GREATEST_NUMBER
+        && run.slots <= SLOT_LIMIT
+        && is_node_number(run.node)
 }
 
 /// Whether the run was made, taken and ended not after `now`.

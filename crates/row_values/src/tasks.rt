@@ -126,7 +126,7 @@ fn is_undisturbed(task: &TaskRow) -> bool
     task.wanted.is_none() && task.fail.is_none()
 }
 
-/// Whether the task is placed, if it has a wanted end, a coordination that failed, or a start.
+/// Whether the task is placed, if it has a wanted end, an ending in place of its main command's, or a moment at which it started.
 pub fn has_fitting_marks(task: &TaskRow) -> bool
     ensures { result ≡ has_fitting_marks task.now }
 {

@@ -377,3 +377,52 @@ fn faults_of_the_content_are_named(rt: HostRuntime) -> Result<(), Fail> {
     );
     Ok(())
 }
+
+/// The line of the fault of a store with this node beside the pool and the job.
+fn line_with_node(alloc: Global, text: &str) -> Result<String, Fail> {
+    line_after(alloc, edit(alloc, RowKind::Node, "1", text)?)
+}
+
+/// The line of the fault of a store with this run beside the pool and the job.
+fn line_with_run(alloc: Global, text: &str) -> Result<String, Fail> {
+    line_after(alloc, edit(alloc, RowKind::Run, "1", text)?)
+}
+
+#[test]
+fn seats_are_1_to_32(rt: HostRuntime) -> Result<(), Fail> {
+    let alloc = rt.alloc();
+    let out = "a value is out of its range, or a moment is after the last one: node 1";
+    let line = line_with_node(alloc, r#"[1,"p",0,"Usable",0]"#)?;
+    assert_eq!(rt; line.as_str(), out);
+    let line = line_with_node(alloc, r#"[1,"p",33,"Usable",0]"#)?;
+    assert_eq!(rt; line.as_str(), out);
+    // these seats are in range, but the counter is 1
+    let counted = "the number of a node or run is not below that of the next one: node 1";
+    let line = line_with_node(alloc, r#"[1,"p",1,"Usable",0]"#)?;
+    assert_eq!(rt; line.as_str(), counted);
+    let line = line_with_node(alloc, r#"[1,"p",32,"Usable",0]"#)?;
+    assert_eq!(rt; line.as_str(), counted);
+    Ok(())
+}
+
+#[test]
+fn nodes_of_runs_are_from_1_on(rt: HostRuntime) -> Result<(), Fail> {
+    let alloc = rt.alloc();
+    let line = line_with_run(
+        alloc,
+        r#"[1,"Start",0,"p",null,null,0,"echo hi",0,["Ended",["Code",0]],false,0,5,9]"#,
+    )?;
+    assert_eq!(rt;
+        line.as_str(),
+        "a value is out of its range, or a moment is after the last one: run 1"
+    );
+    let line = line_with_run(
+        alloc,
+        r#"[1,"Start",1,"p",null,null,0,"echo hi",0,["Ended",["Code",0]],false,0,5,9]"#,
+    )?;
+    assert_eq!(rt;
+        line.as_str(),
+        "the number of a node or run is not below that of the next one: run 1"
+    );
+    Ok(())
+}

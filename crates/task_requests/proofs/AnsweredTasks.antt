@@ -13,6 +13,7 @@ use Rattle.bt_rows.specs.declared.tables.Change.{Change}
 use Rattle.bt_rows.specs.declared.tables.Change.TheVariants.{PutTask}
 use Rattle.batch_model.specs.Events.{add_each, element_of, after_element, task_refusals}
 use Rattle.batch_model.specs.Finding.{or_else, only_if, first_of}
+use Rattle.batch_model.specs.NotBuilt.{not_built}
 use Rattle.batch_model.specs.Rows.{task_of}
 use Rattle.batch_model.specs.Tasks.{new_task}
 use Rattle.batch_model.specs.Variants.{State, JobRow, TaskRow}
@@ -56,9 +57,14 @@ not_refused : (b : Bool) (refusal : Refusal) (others : Option Refusal) → or_el
 not_refused true refusal others h = cc
 not_refused false refusal others h = refl
 
+-- and then none of those after it stands
+none_after : (b : Bool) (refusal : Refusal) (others : Option Refusal) → or_else (only_if b (Some refusal)) others ≡ None → others ≡ None
+none_after true refusal others h = cc
+none_after false refusal others h = h
+
 -- a task that is not refused is new
 pub is_new : (s : State) (job : JobRow) (spec : TaskSpec) → first_of (task_refusals s job spec) ≡ None → is_some (task_of s job.id spec.id) ≡ false
-is_new s job spec h = not_refused (is_some (task_of s job.id spec.id)) TaskExists _ h
+is_new s job spec h = not_refused (is_some (task_of s job.id spec.id)) TaskExists _ (none_after (is_some spec.multi) not_built _ h)
 
 -- puts one after the other
 

@@ -124,8 +124,9 @@ fn uses_dependencies(spec: &TaskSpec) -> bool
         || has_given(Stated::DependencyAction, spec)
 }
 
-/// Why the job does not take the task after those that are added before it, if it does not: `TaskExists`, `DependenciesOff`,
-/// `DependencyListTooLong`, `JobActionOff` or `TableFull`, in this order.
+/// Why the job does not take the task after those that are added before it, if it does not: `UnreadableBody` for a task of several
+/// instances, which is not built, `TaskExists`, `DependenciesOff`, `DependencyListTooLong`, `JobActionOff` or `TableFull`, in this
+/// order.
 pub fn task_refusal(
     tables: &Tables,
     added: &[Shared<TaskRow>],
@@ -134,6 +135,9 @@ pub fn task_refusal(
 ) -> Option<Refusal>
     ensures { result ≡ first_of (task_refusals (with_tasks added.now tables.now.state) job.now spec.now) }
 {
+    if spec.settings.has_instances() {
+        return Some(Refusal::UnreadableBody);
+    }
     if is_known(tables, added, &job.id, &spec.id) {
         return Some(Refusal::TaskExists);
     }

@@ -5,7 +5,7 @@ ghost use Rattle.batch_model.specs.Tasks.{again, cleared, completed, terminated}
 use bt_base::{Duplicate, NoMemory};
 use bt_rows::task::{Closed, How, TaskRow, TaskStage};
 
-/// The task with no end wanted, no start failed and none known.
+/// The task with no end wanted, no ending in place of its main command's, and no moment at which it started.
 fn cleared(task: &TaskRow) -> Result<TaskRow, NoMemory>
     ensures { IfOk result (λ row. row ≡ cleared task.now) }
 {

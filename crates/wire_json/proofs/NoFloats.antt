@@ -117,6 +117,4 @@ in_reply (replies.Elements elements) value e = of_some value _ e (in_elements el
 in_reply (replies.Results results) value e = of_some value _ e refl
 in_reply (replies.One shown) value e = of_some value _ e (in_item shown)
 in_reply (replies.Page shown after) value e = of_some value _ e (in_page shown after)
-in_reply (replies.Queued run) value e = absurd (cc)
-in_reply (replies.AskedRuns runs) value e = absurd (cc)
 in_reply (replies.Step due) value e = absurd (cc)

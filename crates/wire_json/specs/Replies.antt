@@ -54,7 +54,7 @@ page_data items after = object (with_member (codes "nextAfter") (option_map stri
     (codes "value", list_data (map item_data items))
     ∷ [])))
 
--- a status alone has no JSON, nor have the replies that only the program itself asks for
+-- a status alone has no JSON, nor has a due step
 abbrev pub reply_data : Reply → Option Data
 reply_data (replies.Status status) = None
 reply_data (replies.Refused refusal) = Some (refusal_data refusal)
@@ -62,8 +62,6 @@ reply_data (replies.Elements elements) = Some (elements_data elements)
 reply_data (replies.Results results) = Some (results_data results)
 reply_data (replies.One item) = Some (item_data item)
 reply_data (replies.Page items after) = Some (page_data items after)
-reply_data (replies.Queued run) = None
-reply_data (replies.AskedRuns runs) = None
 reply_data (replies.Step due) = None
 
 -- the JSON as a compact text (RFC 8259); no JSON is the empty text

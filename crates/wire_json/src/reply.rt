@@ -60,7 +60,7 @@ fn reply_value(alloc: Global, reply: &Reply) -> Result<Option<Value>, NoMemory>
         Reply::Results(results) => Ok(Some(results_value(alloc, results)?)),
         Reply::One(item) => Ok(Some(item.to_value(alloc)?)),
         Reply::Page(items, after) => Ok(Some(page_value(alloc, items.as_slice(), after)?)),
-        Reply::Status(_) | Reply::Queued(_) | Reply::AskedRuns(_) | Reply::Step(_) => Ok(None),
+        Reply::Status(_) | Reply::Step(_) => Ok(None),
     }
 }
 
@@ -74,8 +74,8 @@ fn value_text(alloc: Global, value: &Value) -> Result<Text, NoMemory>
 
 /// The JSON of the reply as a text without spaces (RFC 8259): a refusal is its name, its number and its values; a row or counts
 /// have their members; a list has the items under `value`, and under `nextAfter` the last one's id if more follow; a collection has a
-/// status for each task under `value`; the evaluation of a formula has its text under `results`. A status alone has no JSON, nor have
-/// replies that only the program itself asks for: their text is empty. It fails only when out of memory.
+/// status for each task under `value`; the evaluation of a formula has its text under `results`. A status alone has no JSON, nor has
+/// a due step: their text is empty. It fails only when out of memory.
 pub fn reply_json(alloc: Global, reply: &Reply) -> Result<Text, NoMemory>
     ensures { IfOk result (λ text. text ≡ reply_json reply.now) }
 {

@@ -23,7 +23,7 @@ element_text element = 32 ∷ decimal (element_status element)
 unfoldable pub shown_text : Reply → List ℕ
 shown_text reply = words (codes "200" ∷ reply_json reply ∷ [])
 
--- of what only the program itself asks for, a line shows the status alone
+-- of a due step, which no line shows as a reply, the status alone
 unfoldable pub reply_text : Reply → List ℕ
 reply_text (replies.Status status) = decimal status
 reply_text (replies.Refused refusal) = refusal_text refusal
@@ -31,6 +31,4 @@ reply_text (replies.Elements elements) = codes "200" ++ flat_map element_text el
 reply_text (replies.Results text) = words (codes "200" ∷ text ∷ [])
 reply_text (replies.One item) = shown_text (replies.One item)
 reply_text (replies.Page items after) = shown_text (replies.Page items after)
-reply_text (replies.Queued run) = codes "200"
-reply_text (replies.AskedRuns runs) = codes "200"
 reply_text (replies.Step due) = codes "200"

@@ -57,7 +57,7 @@ fn push_reply(out: &mut String, alloc: Global, reply: &Reply) -> Result<(), NoMe
             Ok(write!(out, "200 {text}")?)
         }
         Reply::One(_) | Reply::Page(_, _) => push_shown(out, alloc, reply),
-        Reply::Queued(_) | Reply::AskedRuns(_) | Reply::Step(_) => Ok(out.push_str("200")?),
+        Reply::Step(_) => Ok(out.push_str("200")?),
     }
 }
 

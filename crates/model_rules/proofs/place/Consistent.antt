@@ -456,6 +456,7 @@ module _ (seats : ℕ) (s : State) (job : JobRow) (node : NodeRow) (task : TaskR
       seated = record {
         distinct = h.seated.distinct;
         in_range = h.seated.in_range;
+        few = h.seated.few;
         pools_of_nodes = h.seated.pools_of_nodes;
         nodes_of_runs =
             each_append (has_node_while_unended s) s.runs run h.seated.nodes_of_runs

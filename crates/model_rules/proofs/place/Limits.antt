@@ -15,7 +15,7 @@ use Rattle.batch_model.specs.Tasks.{is_active, is_in_job, is_placed_in}
 use Rattle.batch_model.specs.Jobs.{is_job_active, is_quiet}
 use Rattle.batch_model.specs.Placing.{placed}
 use Rattle.batch_model.specs.Limits.{task_limit}
-use Rattle.batch_model.specs.Sound.{IsWithinLimits}
+use Rattle.batch_model.specs.Sound.{IsWithinLimits, has_node_row}
 use Rattle.batch_model.specs.WellFormed.{is_task_in_range, is_task_valid, is_run_valid, has_no_placed_if_quiet}
 use Rattle.batch_model.specs.Variants.{State, NodeRow, JobRow, JobState, JobActive, Disabling, Disabled, Enabling, Terminating, JobCompleted, Deleting, TaskRow}
 use Rattle.batch_model.specs.Variants.{RunRow, RunState, TaskRun}
@@ -26,6 +26,7 @@ use Rattle.model_lists.proofs.DistinctLists.{each_with_key}
 use Rattle.model_lists.proofs.NextNumbers.{is_not_after_itself, tested}
 use Rattle.model_lists.proofs.Lengths.{change_keeps_length}
 use Rattle.model_rules.proofs.place.Consistent.{placed_with}
+use Rattle.model_tables.proofs.StartAdded.{row_in_range}
 use Rattle.model_tables.proofs.TaskMoved.{less_placed}
 use Rattle.model_rules.proofs.place.NodeChosen.{is_candidate}
 
@@ -79,11 +80,13 @@ module _ (s : State) (job : JobRow) (node : NodeRow) (task : TaskRow) (state : R
   placed_valid = and_true (and_first _ _ task_valid) (fails_less task.failures task.attempt (and_first _ _ (and_second _ _ task_valid)))
 
   -- the new run is valid
-  run_valid : s.next_run ≤ last_number + 1 → is_run_valid s.moment run ≡ true
-  run_valid most =
+  run_valid : s.next_run ≤ last_number + 1 → has_node_row s node.number ≡ true → is_run_valid s.moment run ≡ true
+  run_valid most seated =
       and_true
       (and_true
+      (and_true
       (and_true (and_true (tested 1 s.next_run h.counts.first_run) (tested s.next_run (last_number + 63) (omega (arith, most)))) few_slots)
+      (row_in_range s node.number seated h.rows.nodes))
       (and_true (and_true (is_not_after_itself s.moment) refl) refl))
       refl
 
@@ -118,8 +121,8 @@ module _ (s : State) (job : JobRow) (node : NodeRow) (task : TaskRow) (state : R
           less_placed (is_quiet other.state) (list_any (is_placed_in other.id) s.tasks) (list_any (is_placed_in other.id) after.tasks) (elsewhere e)
 
   -- a task of an active job, while run numbers last
-  pub limited_placed : s.next_run ≤ last_number + 1 → IsWithinLimits (placed_with s node task state)
-  limited_placed most =
+  pub limited_placed : s.next_run ≤ last_number + 1 → has_node_row s node.number ≡ true → IsWithinLimits (placed_with s node task state)
+  limited_placed most seated =
       record {
         rows = record {
           moment = h.rows.moment;
@@ -129,7 +132,7 @@ module _ (s : State) (job : JobRow) (node : NodeRow) (task : TaskRow) (state : R
           tasks =
               each_change_same (is_task task.job task.id) (λ (old : TaskRow). placed task) (is_task_valid s.moment)
               (λ x t p. placed_valid) s.tasks h.rows.tasks;
-          runs = each_append (is_run_valid s.moment) s.runs run h.rows.runs (run_valid most);
+          runs = each_append (is_run_valid s.moment) s.runs run h.rows.runs (run_valid most seated);
           samples = h.rows.samples;
           scales = h.rows.scales;
         };

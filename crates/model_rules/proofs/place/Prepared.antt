@@ -181,6 +181,7 @@ module _ (seats : ℕ) (s : State) (h : IsSound seats s) (job : JobRow) (found :
         seated = record {
           distinct = h.consistent.seated.distinct;
           in_range = h.consistent.seated.in_range;
+          few = h.consistent.seated.few;
           pools_of_nodes = h.consistent.seated.pools_of_nodes;
           nodes_of_runs = h.consistent.seated.nodes_of_runs;
         };
