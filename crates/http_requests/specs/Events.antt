@@ -1,111 +1,84 @@
--- The events of routes. An operation without a body does not look at the bytes that are there.
+-- The operations of routes, and the events that they are (Azure Batch REST reference, in this project's profile).
 use Rattle.std.specs.Prelude.{ℕ, List, [], ◌∷◌, Option, Some, None, Result, Ok, Err}
 use Rattle.bt_base.specs.Fails.{◌>>=◌}
 use Rattle.bt_rows.specs.declared.event.EventKind.{EventKind}
-use Rattle.bt_rows.specs.declared.event.EventKind.TheVariants as events
 use Rattle.bt_rows.specs.declared.refusal.Refusal.{Refusal}
 use Rattle.bt_rows.specs.declared.refusal.Refusal.TheVariants.{UnreadableBody}
-use Rattle.wire_bodies.specs.Pools.{pool_of}
-use Rattle.wire_bodies.specs.Jobs.{job_of}
-use Rattle.wire_bodies.specs.JobChanges.{patch_of, disable_of, reason_of}
-use Rattle.wire_bodies.specs.Tasks.{task_of}
-use Rattle.wire_bodies.specs.Collections.{collection_of}
+use Rattle.http_routes.specs.declared.method.Method.{Method}
+use Rattle.http_routes.specs.declared.method.Method.TheVariants.{Get, Post, Patch, Delete}
 use Rattle.http_routes.specs.declared.route.Route.{Route}
-use Rattle.http_routes.specs.declared.route.Route.TheVariants.{Pools, Jobs, Job, JobDisable, JobEnable, JobTerminate, JobAddTasks, JobTasks, Task, TaskTerminate, TaskReactivate}
+use Rattle.http_routes.specs.declared.route.Route.TheVariants as routes
+use Rattle.wire_operations.specs.declared.operation.Asked.{Asked}
+use Rattle.wire_operations.specs.declared.operation.Asked.TheVariants as asks
+use Rattle.wire_operations.specs.declared.operation.Operation.{Operation}
+use Rattle.wire_operations.specs.declared.operation.Operation.TheVariants.{Service, Pool, Job, Task}
+use Rattle.wire_operations.specs.declared.operation.ServiceOperation.TheVariants as services
+use Rattle.wire_operations.specs.declared.operation.PoolOperation.TheVariants as pools
+use Rattle.wire_operations.specs.declared.operation.JobOperation.TheVariants as jobs
+use Rattle.wire_operations.specs.declared.operation.TaskOperation.TheVariants as tasks
+use Rattle.wire_operations.specs.Operations.{event_of}
 use Rattle.http_requests.specs.Paths.{first_id, job_and_task}
 
-unfoldable pub add_pool : List ℕ → Result EventKind Refusal
-add_pool body = do
-  pool ← pool_of body
-  Ok (events.AddPool pool)
+-- the operation of each route that has POST
+abbrev pub post_operation : Route → Option Operation
+post_operation routes.Pools = Some (Service services.AddPool)
+post_operation routes.PoolResize = Some (Pool pools.Resize)
+post_operation routes.PoolStopResize = Some (Pool pools.StopResize)
+post_operation routes.PoolEnableAutoscale = Some (Pool pools.EnableAutoscale)
+post_operation routes.PoolDisableAutoscale = Some (Pool pools.DisableAutoscale)
+post_operation routes.PoolEvaluateAutoscale = Some (Pool pools.EvaluateAutoscale)
+post_operation routes.Jobs = Some (Service services.AddJob)
+post_operation routes.JobDisable = Some (Job jobs.Disable)
+post_operation routes.JobEnable = Some (Job jobs.Enable)
+post_operation routes.JobTerminate = Some (Job jobs.Terminate)
+post_operation routes.JobAddTasks = Some (Job jobs.AddTasks)
+post_operation routes.JobTasks = Some (Job jobs.AddTask)
+post_operation routes.TaskTerminate = Some (Task tasks.Terminate)
+post_operation routes.TaskReactivate = Some (Task tasks.Reactivate)
+post_operation _ = None
 
--- Until the machines have the events of deleting, resizing and scaling a pool, they are refused as a line with an unknown word
--- is, after the pool's id.
-unfoldable pub unbuilt_of_pool : List ℕ → Result EventKind Refusal
-unbuilt_of_pool path = do
+-- the operation of the only route that has PATCH
+abbrev pub patch_operation : Route → Option Operation
+patch_operation routes.Job = Some (Job jobs.Patch)
+patch_operation _ = None
+
+-- the operation of each route that has DELETE
+abbrev pub delete_operation : Route → Option Operation
+delete_operation routes.Pool = Some (Pool pools.Delete)
+delete_operation routes.Job = Some (Job jobs.Delete)
+delete_operation routes.Task = Some (Task tasks.Delete)
+delete_operation _ = None
+
+-- the operation of a route and its method; GET is none
+abbrev pub operation_of : Route → Method → Option Operation
+operation_of route Get = None
+operation_of route Post = post_operation route
+operation_of route Patch = patch_operation route
+operation_of route Delete = delete_operation route
+
+-- an operation with the ids of the path
+unfoldable pub asked_of : Operation → List ℕ → Result Asked Refusal
+asked_of (Service operation) path = Ok (asks.Service operation)
+asked_of (Pool operation) path = do
   pool ← first_id path
-  Err UnreadableBody
-
-unfoldable pub add_job : List ℕ → Result EventKind Refusal
-add_job body = do
-  job ← job_of body
-  Ok (events.AddJob job.0 job.1)
-
-unfoldable pub patch_job : List ℕ → List ℕ → Result EventKind Refusal
-patch_job path body = do
+  Ok (asks.Pool operation pool)
+asked_of (Job operation) path = do
   job ← first_id path
-  patch ← patch_of body
-  Ok (events.PatchJob job patch)
-
-unfoldable pub delete_job : List ℕ → Result EventKind Refusal
-delete_job path = do
-  job ← first_id path
-  Ok (events.DeleteJob job)
-
-unfoldable pub disable_job : List ℕ → List ℕ → Result EventKind Refusal
-disable_job path body = do
-  job ← first_id path
-  option ← disable_of body
-  Ok (events.DisableJob job option)
-
-unfoldable pub enable_job : List ℕ → Result EventKind Refusal
-enable_job path = do
-  job ← first_id path
-  Ok (events.EnableJob job)
-
--- the reason that a body states; an empty body states none
-unfoldable pub reason_if : List ℕ → Result (Option (List ℕ)) Refusal
-reason_if [] = Ok None
-reason_if (b ∷ body) = reason_of (b ∷ body)
-
-unfoldable pub terminate_job : List ℕ → List ℕ → Result EventKind Refusal
-terminate_job path body = do
-  job ← first_id path
-  reason ← reason_if body
-  Ok (events.TerminateJob job reason)
-
-unfoldable pub add_task : List ℕ → List ℕ → Result EventKind Refusal
-add_task path body = do
-  job ← first_id path
-  task ← task_of body
-  Ok (events.AddTask job task)
-
-unfoldable pub add_tasks : List ℕ → List ℕ → Result EventKind Refusal
-add_tasks path body = do
-  job ← first_id path
-  tasks ← collection_of body
-  Ok (events.AddTasks job tasks)
-
-unfoldable pub delete_task : List ℕ → Result EventKind Refusal
-delete_task path = do
+  Ok (asks.Job operation job)
+asked_of (Task operation) path = do
   ids ← job_and_task path
-  Ok (events.DeleteTask ids.0 ids.1)
+  Ok (asks.Task operation ids.0 ids.1)
 
-unfoldable pub terminate_task : List ℕ → Result EventKind Refusal
-terminate_task path = do
-  ids ← job_and_task path
-  Ok (events.TerminateTask ids.0 ids.1)
+-- an empty body is none
+abbrev pub stated_body : List ℕ → Option (List ℕ)
+stated_body [] = None
+stated_body (b ∷ body) = Some (b ∷ body)
 
-unfoldable pub reactivate_task : List ℕ → Result EventKind Refusal
-reactivate_task path = do
-  ids ← job_and_task path
-  Ok (events.ReactivateTask ids.0 ids.1)
+-- the event of an operation, if there is one, with the ids of the path and the body
+abbrev pub event_with : Option Operation → List ℕ → List ℕ → Result EventKind Refusal
+event_with None path body = Err UnreadableBody
+event_with (Some operation) path body = asked_of operation path >>= λ asked. event_of asked (stated_body body)
 
--- the event of each route that has POST
-unfoldable pub post_for : Route → List ℕ → List ℕ → Result EventKind Refusal
-post_for Pools path body = add_pool body
-post_for Jobs path body = add_job body
-post_for JobDisable path body = disable_job path body
-post_for JobEnable path body = enable_job path
-post_for JobTerminate path body = terminate_job path body
-post_for JobAddTasks path body = add_tasks path body
-post_for JobTasks path body = add_task path body
-post_for TaskTerminate path body = terminate_task path
-post_for TaskReactivate path body = reactivate_task path
-post_for _ path body = unbuilt_of_pool path
-
--- the event of each route that has DELETE
-unfoldable pub delete_for : Route → List ℕ → Result EventKind Refusal
-delete_for Job path = delete_job path
-delete_for Task path = delete_task path
-delete_for _ path = unbuilt_of_pool path
+-- the event of a route and its method
+unfoldable pub event_for : Route → Method → List ℕ → List ℕ → Result EventKind Refusal
+event_for route method path body = event_with (operation_of route method) path body

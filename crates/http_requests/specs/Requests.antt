@@ -12,23 +12,23 @@ use Rattle.http_routes.specs.Methods.{routing}
 use Rattle.http_routes.specs.Targets.{path_of, query_of}
 use Rattle.http_requests.specs.declared.request.Wanted.{Wanted}
 use Rattle.http_requests.specs.declared.request.Wanted.TheVariants.{Call, Look, Answered}
-use Rattle.http_requests.specs.Events.{post_for, patch_job, delete_for}
+use Rattle.http_requests.specs.Events.{event_for}
 use Rattle.http_requests.specs.Reads.{read_for}
 use Rattle.http_requests.specs.Responses.{reply_response, route_not_found, method_not_allowed}
 
--- the read or the event of a route and one of its methods; of all routes only a job's has PATCH
+-- the read of a route and GET, or the event of a route and another of its methods
 unfoldable pub request_for : Route → Method → List ℕ → List ℕ → List ℕ → Result Wanted Refusal
 request_for route Get path query body = do
   read ← read_for route path query
   Ok (Look read)
 request_for route Post path query body = do
-  event ← post_for route path body
+  event ← event_for route Post path body
   Ok (Call event)
 request_for route Patch path query body = do
-  event ← patch_job path body
+  event ← event_for route Patch path body
   Ok (Call event)
 request_for route Delete path query body = do
-  event ← delete_for route path
+  event ← event_for route Delete path body
   Ok (Call event)
 
 -- a refusal is the response

@@ -86,6 +86,16 @@ pub fn read_for(alloc: Global, route: Route, path: &str, query: &str) -> Result<
         Route::JobTasks => list_tasks(alloc, path, query),
         Route::JobTaskCounts => task_counts(alloc, path),
         Route::Task => get_task(alloc, path),
-        _ => Err(Fail::Why(Refusal::UnreadableBody)),
+        Route::PoolResize
+        | Route::PoolStopResize
+        | Route::PoolEnableAutoscale
+        | Route::PoolDisableAutoscale
+        | Route::PoolEvaluateAutoscale
+        | Route::JobDisable
+        | Route::JobEnable
+        | Route::JobTerminate
+        | Route::JobAddTasks
+        | Route::TaskTerminate
+        | Route::TaskReactivate => Err(Fail::Why(Refusal::UnreadableBody)),
     }
 }

@@ -4,7 +4,7 @@ ghost use Rattle.bt_base.specs.Fails.{Gives};
 ghost use Rattle.http_routes.specs.Table.{route_rows};
 ghost use Rattle.http_requests.specs.Requests.{request_for, refused_or, wanted_by, wanted_of};
 
-use crate::event::{delete_for, patch_job, post_for};
+use crate::event::event_for;
 use crate::look::read_for;
 use crate::response::{method_not_allowed, reply_response, route_not_found};
 use bt_base::{Fail, NoMemory};
@@ -42,9 +42,10 @@ fn request_for(
 {
     match method {
         Method::Get => Ok(Wanted::Look(read_for(alloc, route, path, query)?)),
-        Method::Post => Ok(Wanted::Call(Event::new(post_for(alloc, route, path, body)?))),
-        Method::Patch => Ok(Wanted::Call(Event::new(patch_job(alloc, path, body)?))),
-        Method::Delete => Ok(Wanted::Call(Event::new(delete_for(alloc, route, path)?))),
+        Method::Post | Method::Patch | Method::Delete => {
+            let event = event_for(alloc, route, method, path, body)?;
+            Ok(Wanted::Call(event))
+        }
     }
 }
 

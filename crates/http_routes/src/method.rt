@@ -82,7 +82,17 @@ fn methods_of(route: Route) -> AllowedMethods
         Route::Pool | Route::Task => AllowedMethods::GetDelete,
         Route::Job => AllowedMethods::GetPatchDelete,
         Route::PoolNodes | Route::JobTaskCounts => AllowedMethods::Get,
-        _ => AllowedMethods::Post,
+        Route::PoolResize
+        | Route::PoolStopResize
+        | Route::PoolEnableAutoscale
+        | Route::PoolDisableAutoscale
+        | Route::PoolEvaluateAutoscale
+        | Route::JobDisable
+        | Route::JobEnable
+        | Route::JobTerminate
+        | Route::JobAddTasks
+        | Route::TaskTerminate
+        | Route::TaskReactivate => AllowedMethods::Post,
     }
 }
 

@@ -1,5 +1,5 @@
+pub mod Arguments
 pub mod Endings
-pub mod Events
 pub mod Lines
 pub mod Parts
 pub mod Reads

@@ -1,13 +1,11 @@
 -- What a line of a script is.
-use Rattle.std.specs.Prelude.{ℕ, Bool, true, List, [], ◌∷◌, length, Option, Some, None, Result, Ok, Err, nat_lt, ◌==◌, codes, if◌then◌else◌}
-use Rattle.std.specs.List.{find}
+use Rattle.std.specs.Prelude.{ℕ, Bool, true, List, [], ◌∷◌, length, Option, Some, None, option_map, Result, Ok, Err, nat_lt, ◌==◌, codes, if◌then◌else◌}
 use Rattle.std.specs.Str.{bytes_eq}
 use Rattle.bt_base.specs.Fails.{◌>>=◌}
 use Rattle.bt_rows.specs.declared.event.EventKind.{EventKind}
 use Rattle.bt_rows.specs.declared.event.EventKind.TheVariants as events
 use Rattle.bt_rows.specs.declared.refusal.Refusal.{Refusal}
 use Rattle.bt_rows.specs.declared.refusal.Refusal.TheVariants.{UnreadableBody}
-use Rattle.wire_bodies.specs.Pools.{pool_of}
 use Rattle.wire_lines.specs.declared.line.TheConstants.{LINE_LIMIT}
 use Rattle.wire_lines.specs.declared.line.LineRequest.{LineRequest}
 use Rattle.wire_lines.specs.declared.line.LineRequest.TheVariants.{Skip, Call, Look}
@@ -17,52 +15,36 @@ use Rattle.wire_lines.specs.declared.look.ReadWord.{ReadWord}
 use Rattle.wire_lines.specs.Parts.{two_parts, just_two, first_word, arguments}
 use Rattle.wire_lines.specs.Reads.{read_word_in, read_with}
 use Rattle.wire_lines.specs.Endings.{moment_in, ending_in}
-use Rattle.wire_lines.specs.Events.{or_unreadable, add_job, patch_job, disable_job, enable_job, terminate_job, delete_job, add_task, add_tasks, delete_task, terminate_task, reactivate_task}
+use Rattle.wire_lines.specs.Arguments.{or_unreadable, id_and_body, job_and_task}
 use Rattle.wire_numbers.specs.Numbers.{number_in}
+use Rattle.wire_operations.specs.declared.operation.Asked.TheVariants as asks
+use Rattle.wire_operations.specs.declared.operation.Operation.{Operation}
+use Rattle.wire_operations.specs.declared.operation.Operation.TheVariants.{Service, Pool, Job, Task}
+use Rattle.wire_operations.specs.Operations.{operation_in, pool_body, job_body, event_of}
 
--- the text of a word
-unfoldable pub word_text : LineWord → List ℕ
-word_text words.AddPool = codes "add-pool"
-word_text words.AddJob = codes "add-job"
-word_text words.PatchJob = codes "patch-job"
-word_text words.DisableJob = codes "disable-job"
-word_text words.EnableJob = codes "enable-job"
-word_text words.TerminateJob = codes "terminate-job"
-word_text words.DeleteJob = codes "delete-job"
-word_text words.AddTask = codes "add-task"
-word_text words.AddTasks = codes "add-tasks"
-word_text words.DeleteTask = codes "delete-task"
-word_text words.TerminateTask = codes "terminate-task"
-word_text words.ReactivateTask = codes "reactivate-task"
-word_text words.Take = codes "take"
-word_text words.End = codes "end"
-
--- the words, each once
-abbrev pub all_words : List LineWord
-all_words =
-    words.AddPool ∷ words.AddJob ∷ words.PatchJob ∷ words.DisableJob ∷ words.EnableJob ∷ words.TerminateJob ∷ words.DeleteJob
-    ∷ words.AddTask ∷ words.AddTasks ∷ words.DeleteTask ∷ words.TerminateTask ∷ words.ReactivateTask ∷ words.Take ∷ words.End ∷ []
-
--- the word with this text
+-- the word with this text: `take`, `end` or the name of an operation
 unfoldable pub word_in : List ℕ → Option LineWord
-word_in text = find (λ word. bytes_eq text (word_text word)) all_words
+word_in text =
+    if bytes_eq text (codes "take") then Some words.Take
+    else if bytes_eq text (codes "end") then Some words.End
+    else option_map (λ operation. words.Operation operation) (operation_in text)
+
+-- the event of an operation and the text after its name
+unfoldable pub operation_with : Operation → List ℕ → Result EventKind Refusal
+operation_with (Service operation) text = event_of (asks.Service operation) (Some text)
+operation_with (Pool operation) text = do
+  parts ← id_and_body (pool_body operation) text
+  event_of (asks.Pool operation parts.0) parts.1
+operation_with (Job operation) text = do
+  parts ← id_and_body (job_body operation) text
+  event_of (asks.Job operation parts.0) parts.1
+operation_with (Task operation) text = do
+  ids ← job_and_task text
+  event_of (asks.Task operation ids.0 ids.1) None
 
 -- the event of a word and the text after it
 unfoldable pub event_with : LineWord → List ℕ → Result EventKind Refusal
-event_with words.AddPool text = do
-  pool ← pool_of text
-  Ok (events.AddPool pool)
-event_with words.AddJob text = add_job text
-event_with words.PatchJob text = patch_job text
-event_with words.DisableJob text = disable_job text
-event_with words.EnableJob text = enable_job text
-event_with words.TerminateJob text = terminate_job text
-event_with words.DeleteJob text = delete_job text
-event_with words.AddTask text = add_task text
-event_with words.AddTasks text = add_tasks text
-event_with words.DeleteTask text = delete_task text
-event_with words.TerminateTask text = terminate_task text
-event_with words.ReactivateTask text = reactivate_task text
+event_with (words.Operation operation) text = operation_with operation text
 event_with words.Take text = do
   run ← or_unreadable (number_in text)
   Ok (events.Take run)

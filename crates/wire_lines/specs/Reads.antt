@@ -11,7 +11,7 @@ use Rattle.table_reads.specs.declared.request.Read.TheVariants as reads
 use Rattle.table_reads.specs.declared.request.TheConstants.{MAX_RESULTS}
 use Rattle.wire_lines.specs.declared.look.ReadWord.{ReadWord}
 use Rattle.wire_lines.specs.declared.look.ReadWord.TheVariants as words
-use Rattle.wire_lines.specs.Events.{lone_id, job_and_task}
+use Rattle.wire_lines.specs.Arguments.{lone_id, job_and_task}
 
 -- the text of a word
 unfoldable pub read_word_text : ReadWord → List ℕ

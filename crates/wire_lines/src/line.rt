@@ -1,51 +1,25 @@
 //! Lines, and the requests that they are.
-ghost use Rattle.std.specs.Prelude.{◌≡◌, true, IfOk};
+ghost use Rattle.std.specs.Prelude.{◌≡◌};
 ghost use Rattle.bt_base.specs.Fails.{Gives};
-ghost use Rattle.bt_rows.specs.Ranges.{is_event_in_range};
-ghost use Rattle.wire_lines.specs.Lines.{event_with, event_with_arguments, event_in, request_at, request_in, line_of, is_skipped, word_text, word_in};
+ghost use Rattle.wire_lines.specs.Lines.{operation_with, event_with, event_with_arguments, event_in, request_at, request_in, line_of, is_skipped, word_in};
 
+use crate::arguments::{UNREADABLE, id_and_body, job_and_task};
 use crate::ending::{read_ending, read_moment};
-use crate::event::{
-    UNREADABLE, add_job, add_task, add_tasks, delete_job, delete_task, disable_job, enable_job,
-    patch_job, reactivate_task, terminate_job, terminate_task,
-};
 use crate::look::{ReadWord, read_with};
 use crate::parts::{split_just_two, split_two, split_word};
-use bt_base::{Fail, Moment, Shared};
+use bt_base::{Fail, Moment};
 use bt_rows::event::{Event, EventKind};
 use bt_rows::refusal::Refusal;
 use std::alloc::Global;
 use table_reads::Read;
-use wire_bodies::read_pool;
 use wire_numbers::read_number;
+use wire_operations::{Asked, Operation, read_operation};
 
 /// The word of a line, which names the kind of its event.
 #[derive(Clone, Copy, Debug, PartialEq, Eq)]
 pub enum LineWord {
-    /// A pool is added.
-    AddPool,
-    /// A job is added.
-    AddJob,
-    /// A job is changed.
-    PatchJob,
-    /// A job is disabled.
-    DisableJob,
-    /// A job is enabled.
-    EnableJob,
-    /// A job is terminated.
-    TerminateJob,
-    /// A job is deleted.
-    DeleteJob,
-    /// A task is added.
-    AddTask,
-    /// Tasks are added.
-    AddTasks,
-    /// A task is deleted.
-    DeleteTask,
-    /// A task is terminated.
-    TerminateTask,
-    /// A task is made active again.
-    ReactivateTask,
+    /// An operation of the profile.
+    Operation(Operation),
     /// A run's child program is being started.
     Take,
     /// A run's child program has ended.
@@ -53,53 +27,18 @@ pub enum LineWord {
 }
 
 impl LineWord {
-    /// The word's text. It does not allocate.
-    #[tactic(auto, unfolding(crate::specs::Lines::word_text))]
-    pub fn text(self) -> &'static str
-        ensures { result.now ≡ word_text self }
-    {
-        match self {
-            LineWord::AddPool => "add-pool",
-            LineWord::AddJob => "add-job",
-            LineWord::PatchJob => "patch-job",
-            LineWord::DisableJob => "disable-job",
-            LineWord::EnableJob => "enable-job",
-            LineWord::TerminateJob => "terminate-job",
-            LineWord::DeleteJob => "delete-job",
-            LineWord::AddTask => "add-task",
-            LineWord::AddTasks => "add-tasks",
-            LineWord::DeleteTask => "delete-task",
-            LineWord::TerminateTask => "terminate-task",
-            LineWord::ReactivateTask => "reactivate-task",
-            LineWord::Take => "take",
-            LineWord::End => "end",
-        }
-    }
-
-    /// The word with this text, if there is one. It does not allocate.
+    /// The word with this text, if there is one: `take`, `end` or the name of an operation. It does not allocate.
     #[tactic(auto, unfolding(crate::specs::Lines::word_in))]
     pub fn read(text: &[u8]) -> Option<LineWord>
         ensures { result ≡ word_in text.now }
     {
-        let all = [
-            LineWord::AddPool,
-            LineWord::AddJob,
-            LineWord::PatchJob,
-            LineWord::DisableJob,
-            LineWord::EnableJob,
-            LineWord::TerminateJob,
-            LineWord::DeleteJob,
-            LineWord::AddTask,
-            LineWord::AddTasks,
-            LineWord::DeleteTask,
-            LineWord::TerminateTask,
-            LineWord::ReactivateTask,
-            LineWord::Take,
-            LineWord::End,
-        ];
-        all.iter()
-            .copied()
-            .find(|word| text == word.text().as_bytes())
+        if text == b"take".as_slice() {
+            Some(LineWord::Take)
+        } else if text == b"end".as_slice() {
+            Some(LineWord::End)
+        } else {
+            Some(LineWord::Operation(Operation::read(text)?))
+        }
     }
 }
 
@@ -117,34 +56,46 @@ pub enum LineRequest {
 /// The greatest length of a line in bytes, without its line feed.
 pub const LINE_LIMIT: usize = 1_048_576;
 
+/// The event of an operation and its arguments.
+#[tactic(auto, unfolding(crate::specs::Lines::operation_with))]
+fn operation_with(alloc: Global, operation: Operation, text: &[u8]) -> Result<Event, Fail<Refusal>>
+    ensures { Gives result (operation_with operation text.now) }
+{
+    match operation {
+        Operation::Service(operation) => {
+            read_operation(alloc, Asked::Service(operation), Some(text))
+        }
+        Operation::Pool(operation) => {
+            let (pool, body) = id_and_body(alloc, operation.body(), text)?;
+            read_operation(alloc, Asked::Pool(operation, pool), body)
+        }
+        Operation::Job(operation) => {
+            let (job, body) = id_and_body(alloc, operation.body(), text)?;
+            read_operation(alloc, Asked::Job(operation, job), body)
+        }
+        Operation::Task(operation) => {
+            let (job, task) = job_and_task(alloc, text)?;
+            read_operation(alloc, Asked::Task(operation, job, task), None)
+        }
+    }
+}
+
 /// The event of a word and its arguments.
 #[tactic(auto, unfolding(crate::specs::Lines::event_with))]
-fn event_with(alloc: Global, word: LineWord, text: &[u8]) -> Result<EventKind, Fail<Refusal>>
-    ensures value { Gives result (event_with word text.now) }
-    ensures kept { IfOk result (λ kind. is_event_in_range kind ≡ true) }
+fn event_with(alloc: Global, word: LineWord, text: &[u8]) -> Result<Event, Fail<Refusal>>
+    ensures { Gives result (event_with word text.now) }
 {
     match word {
-        LineWord::AddPool => {
-            let pool = read_pool(alloc, text)?;
-            Ok(EventKind::AddPool(Shared::new(alloc, pool)?))
+        LineWord::Operation(operation) => operation_with(alloc, operation, text),
+        LineWord::Take => {
+            let run = read_number(text).ok_or(UNREADABLE)?;
+            Ok(Event::new(EventKind::Take(run)))
         }
-        LineWord::AddJob => add_job(alloc, text),
-        LineWord::PatchJob => patch_job(alloc, text),
-        LineWord::DisableJob => disable_job(alloc, text),
-        LineWord::EnableJob => enable_job(alloc, text),
-        LineWord::TerminateJob => terminate_job(alloc, text),
-        LineWord::DeleteJob => delete_job(alloc, text),
-        LineWord::AddTask => add_task(alloc, text),
-        LineWord::AddTasks => add_tasks(alloc, text),
-        LineWord::DeleteTask => delete_task(alloc, text),
-        LineWord::TerminateTask => terminate_task(alloc, text),
-        LineWord::ReactivateTask => reactivate_task(alloc, text),
-        LineWord::Take => Ok(EventKind::Take(read_number(text).ok_or(UNREADABLE)?)),
         LineWord::End => {
             let (run, ending) = split_just_two(text).ok_or(UNREADABLE)?;
             let run = read_number(run).ok_or(UNREADABLE)?;
             let ending = read_ending(ending).ok_or(UNREADABLE)?;
-            Ok(EventKind::End(run, ending))
+            Ok(Event::new(EventKind::End(run, ending)))
         }
     }
 }
@@ -156,8 +107,7 @@ fn event_with_arguments(alloc: Global, text: &[u8]) -> Result<Event, Fail<Refusa
 {
     let (word, rest) = split_two(text).ok_or(UNREADABLE)?;
     let word = LineWord::read(word).ok_or(UNREADABLE)?;
-    let kind = event_with(alloc, word, rest)?;
-    Ok(Event::new(kind))
+    event_with(alloc, word, rest)
 }
 
 /// The event of a word and its arguments, of which `tick` has none.

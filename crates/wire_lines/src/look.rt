@@ -3,7 +3,7 @@ ghost use Rattle.std.specs.Prelude.{◌≡◌, option_map};
 ghost use Rattle.bt_base.specs.Fails.{Gives};
 ghost use Rattle.wire_lines.specs.Reads.{read_word_text, read_word_in, whole_list, bare_read, read_with_arguments, read_with};
 
-use crate::event::{UNREADABLE, job_and_task, lone_id};
+use crate::arguments::{UNREADABLE, job_and_task, lone_id};
 use bt_base::Fail;
 use bt_rows::refusal::Refusal;
 use std::alloc::Global;

@@ -47,6 +47,7 @@ const ANSWERED: &[(&[u8], &str, &[u8], u16, &str)] = &[
     (b"DELETE", "/jobs/j/tasks/t.t", b"", 400, ID),
     (b"POST", "/jobs", b"", 400, UNREADABLE),
     (b"POST", "/jobs/j/disable", b"[]", 400, UNREADABLE),
+    (b"PATCH", "/jobs/j", b"", 400, UNREADABLE),
     (b"DELETE", "/pools/p.p", b"", 400, ID),
     (b"POST", "/pools/p/resize", b"{}", 400, UNREADABLE),
 ];
@@ -141,6 +142,94 @@ fn others_are_reads_and_calls(rt: HostRuntime) -> Result<(), Fail> {
     let target = "/jobs?api-version=1&maxresults=002&after=A&maxresults=0&after";
     assert!(rt; lists_jobs(alloc, &router, target, 2, "A")?);
     assert!(rt; terminates(alloc, &router, "/jobs/j/terminate?after=")?);
+    Ok(())
+}
+
+/// Requests that are calls: method, target, body, and the name of the operation.
+const CALLS: &[(&[u8], &str, &[u8], &str)] = &[
+    (b"POST", "/pools", b"{\"id\":\"p\"}", "add-pool"),
+    (
+        b"POST",
+        "/jobs",
+        b"{\"id\":\"j\",\"poolInfo\":{\"poolId\":\"p\"}}",
+        "add-job",
+    ),
+    (b"PATCH", "/jobs/j", b"{}", "patch-job"),
+    (
+        b"POST",
+        "/jobs/j/disable",
+        b"{\"disableTasks\":\"wait\"}",
+        "disable-job",
+    ),
+    (b"POST", "/jobs/j/enable", b"{", "enable-job"),
+    (b"POST", "/jobs/j/terminate", b"{}", "terminate-job"),
+    (b"DELETE", "/jobs/j", b"{", "delete-job"),
+    (
+        b"POST",
+        "/jobs/j/tasks",
+        b"{\"id\":\"t\",\"commandLine\":\"a\"}",
+        "add-task",
+    ),
+    (
+        b"POST",
+        "/jobs/j/addtaskcollection",
+        b"{\"value\":[]}",
+        "add-tasks",
+    ),
+    (b"DELETE", "/jobs/j/tasks/t", b"{", "delete-task"),
+    (b"POST", "/jobs/j/tasks/t/terminate", b"{", "terminate-task"),
+    (
+        b"POST",
+        "/jobs/j/tasks/t/reactivate",
+        b"{",
+        "reactivate-task",
+    ),
+];
+
+/// The name of the operation that is called; empty if none is.
+fn called(wanted: &Wanted) -> &'static str {
+    let Wanted::Call(event) = wanted else {
+        return "";
+    };
+    match event.kind() {
+        EventKind::AddPool(_) => "add-pool",
+        EventKind::AddJob(_, _) => "add-job",
+        EventKind::PatchJob(_, _) => "patch-job",
+        EventKind::DisableJob(_, _) => "disable-job",
+        EventKind::EnableJob(_) => "enable-job",
+        EventKind::TerminateJob(_, _) => "terminate-job",
+        EventKind::DeleteJob(_) => "delete-job",
+        EventKind::AddTask(_, _) => "add-task",
+        EventKind::AddTasks(_, _) => "add-tasks",
+        EventKind::DeleteTask(_, _) => "delete-task",
+        EventKind::TerminateTask(_, _) => "terminate-task",
+        EventKind::ReactivateTask(_, _) => "reactivate-task",
+        _ => "",
+    }
+}
+
+/// Whether a request is a call of the operation with its name.
+fn is_called(
+    alloc: Global,
+    router: &Router<Route>,
+    request: &(&[u8], &str, &[u8], &str),
+) -> Result<bool, Fail>
+    requires { router.now ≡ route_rows }
+{
+    let (method, target, body, name) = request;
+    let wanted = read_request(alloc, router, method, target, body)?;
+    let found = called(&wanted) == *name;
+    drop(wanted);
+    Ok(found)
+}
+
+#[test]
+fn routes_and_methods_are_their_operations(rt: HostRuntime) -> Result<(), Fail> {
+    let alloc = rt.alloc();
+    let router = make_router(alloc)?;
+    for request in CALLS {
+        assert!(rt; is_called(alloc, &router, request)?, "{}", request.3);
+    }
     Ok(())
 }
 

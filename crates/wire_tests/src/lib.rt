@@ -22,4 +22,6 @@ mod origin_tests;
 #[cfg(test)]
 mod wire_json_tests;
 #[cfg(test)]
+mod wire_operations_tests;
+#[cfg(test)]
 mod wire_words_tests;
