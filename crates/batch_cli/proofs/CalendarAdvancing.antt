@@ -1,17 +1,15 @@
 -- From the answer of a calendar over a desk to how it goes on.
-use Rattle.std.proofs.Common.{◌≡◌, ◌≤◌, ◌+◌, ◌||◌, max, ℕ, zero, suc, Bool, true, false, List, [], ◌∷◌, ◌++◌, Option, Some, None, Result, Ok, Err, length, map, take}
+use Rattle.std.proofs.Common.{◌≡◌, ◌+◌, ◌||◌, max, ℕ, zero, suc, Bool, true, false, List, [], ◌∷◌, ◌++◌, Option, Some, None, Result, Ok, length}
 use Rattle.std.proofs.Common.{refl, sym, ap, ◌∙◌, subst, arith, append_assoc, inl, inr}
 use Rattle.std.specs.List.{flat_map}
 use Rattle.std.proofs.lemmas.List.{append-nil, length-append}
-use Rattle.byte_streams.specs.Content.{Gains, GainsFront}
+use Rattle.byte_streams.specs.Content.{GainsFront}
 use Rattle.byte_streams.proofs.Gaining.{gains_nothing}
 use Rattle.bt_rows.specs.declared.event.EventKind.{EventKind}
 use Rattle.bt_rows.specs.declared.refusal.Refusal.{Refusal}
 use Rattle.bt_rows.specs.declared.reply.Reply.TheVariants as replies
 use Rattle.batch_model.specs.Variants.{State}
-use Rattle.batch_wire.specs.Read.{Read}
 use Rattle.batch_wire.specs.TextLines.{numbered}
-use Rattle.batch_wire.specs.Refusals.{refusal_text}
 use Rattle.batch_wire.specs.Replies.{reply_text}
 use Rattle.batch_ask.specs.Exchanges.{Exchange, Called, Looked, Leads}
 use Rattle.batch_ask.specs.Desks.{IsExchange, IsCall, call_entries, entries_of}
@@ -19,24 +17,23 @@ use Rattle.batch_desk.specs.declared.answer.Answer.{Answer}
 use Rattle.batch_desk.specs.declared.answer.Answer.TheVariants as answers
 use Rattle.batch_desk.specs.declared.entry.Entry.{Entry}
 use Rattle.batch_desk.specs.Kept.{Desk}
-use Rattle.batch_desk.specs.History.{asked_of, fault_count, after_call}
-use Rattle.batch_desk.specs.Answers.{AnswersCall, HasSameOpening, IsInOrder, entry_answer}
-use Rattle.batch_cli.specs.Advance.{room_of, RoseBy}
-use Rattle.batch_cli.specs.Shown.{answer_text, look_text, memory_stops, ran_out}
+use Rattle.batch_desk.specs.History.{after_call}
+use Rattle.batch_desk.specs.Answers.{AnswersCall, HasSameOpening, IsInOrder}
+use Rattle.batch_cli.specs.Advance.{room_of}
+use Rattle.batch_cli.specs.Shown.{answer_text, memory_stops, ran_out}
 use Rattle.batch_cli.specs.CalendarShown.{Telling, Remaining, turns_told, asked_told, event_told, line_told, own_told, texts_of, asks_of, fires_text}
 use Rattle.batch_cli.specs.CalendarShown.{fire_text}
-use Rattle.batch_cli.specs.CalendarAdvance.{CalAdvances, CalShows, CalDid, CalHalts, HaltsCalCall, KeepsDesk, ShowsAnswer, first_text, first_ran_out, first_count, cal_text, is_cut, call_count}
-use Rattle.batch_cli.specs.declared.tally.Tally.{Tally}
+use Rattle.batch_cli.specs.CalendarAdvance.{CalAdvances, CalShows, CalHalts, HaltsCalCall, KeepsDesk, ShowsAnswer, first_text, first_ran_out, first_count, cal_text}
 use Rattle.batch_cli.proofs.CalendarFires.{calls_in, any_ran_out, FiresMatch, fires_match, turns_fire, stops_of_call, or_left, or_right}
 use Rattle.batch_cli.proofs.CalendarTold.{Leaves, leaves_same, leaves_more, leaves_call, leaves_memory, leaves_all, all_told, told_by_exchanges}
 use Rattle.batch_cli.proofs.CalendarTold.{AnsweredPart, answered_part, IsEntered, FindsFull, call_step}
 use Rattle.batch_cli.proofs.GoingOn.{stops_append, same_on}
 use Rattle.batch_schedule.specs.Kept.{Calendar}
-use Rattle.batch_schedule.specs.Answers.{AnswersEvent, AnswersCal, AsksAsker, FollowsAnswer, IsOwn, LeavesAll, StopsAtEvent, TurnsFollow}
+use Rattle.batch_schedule.specs.Answers.{AnswersEvent, AnswersCal, FollowsAnswer, IsOwn, TurnsFollow}
 use Rattle.schedule_lines.specs.declared.line.CalLine.{CalLine}
-use Rattle.schedule_lines.specs.declared.line.CalLine.TheVariants.{Skip, Call, Look}
-use Rattle.schedule_rows.specs.Fires.{fire_of, fires_of, has_memory, AllAnswered}
-use Rattle.schedule_rows.specs.Interactions.{Interaction, Ends}
+use Rattle.schedule_lines.specs.declared.line.CalLine.TheVariants.{Call}
+use Rattle.schedule_rows.specs.Fires.{fire_of, fires_of, has_memory}
+use Rattle.schedule_rows.specs.Interactions.{Ends}
 use Rattle.schedule_rows.specs.OwnEvents.{own_refusal, after_own, own_status}
 use Rattle.schedule_rows.specs.Rows.{Schedule}
 use Rattle.schedule_rows.specs.Turns.{turns}

@@ -1,26 +1,24 @@
 -- Each call of the turns of schedules is shown, with its answer.
-use Rattle.std.proofs.Common.{◌≡◌, ◌+◌, ◌||◌, ℕ, suc, Bool, true, false, List, [], ◌∷◌, ◌++◌, length, Option, Some, None, Result, inl, inr, refl, sym, ap, ◌∙◌}
+use Rattle.std.proofs.Common.{◌≡◌, ◌+◌, ◌||◌, ℕ, suc, Bool, true, false, List, [], ◌∷◌, ◌++◌, length, Option, Some, None, Result, refl, sym, ap, ◌∙◌}
 use Rattle.std.proofs.Common.{arith, nat_eq, subst, if◌then◌else◌}
 use Rattle.std.specs.List.{flat_map, list_any}
 use Rattle.bt_base.specs.declared.memory.NoMemory.{NoMemory}
 use Rattle.bt_rows.specs.declared.event.EventKind.{EventKind}
 use Rattle.bt_rows.specs.declared.reply.Reply.{Reply}
-use Rattle.table_reads.specs.declared.request.Read.{Read}
 use Rattle.batch_ask.specs.Exchanges.{Exchange, Called, Looked}
 use Rattle.batch_ask.specs.Desks.{entries_of, call_entries}
 use Rattle.batch_desk.specs.declared.answer.Answer.{Answer}
 use Rattle.batch_desk.specs.declared.answer.Answer.TheVariants.{Done, KeeperFault, JournalFull, Memory}
-use Rattle.batch_desk.specs.declared.entry.Entry.{Entry}
 use Rattle.batch_desk.specs.declared.entry.Stop.TheVariants.{Rest, KeeperFault as FaultStop, Memory as MemoryStop}
 use Rattle.batch_cli.specs.Shown.{memory_stops, ran_out}
 use Rattle.batch_cli.proofs.GoingOn.{stops_append}
 use Rattle.schedule_rows.specs.Fires.{fire_of, fires_of}
 use Rattle.schedule_rows.specs.Interactions.{Interaction, Ends, Passes, Asks, Looks, Reaches}
-use Rattle.schedule_rows.specs.Jobs.{add_job_asked, add_tasks_asked, patch_asked, job_read, has_tasks}
+use Rattle.schedule_rows.specs.Jobs.{add_tasks_asked, patch_asked, job_read, has_tasks}
 use Rattle.schedule_rows.specs.Occurrences.{firing_at, completed_at}
 use Rattle.schedule_rows.specs.Rows.{Schedule}
 use Rattle.schedule_rows.specs.Turns.{Part, outcome_of, is_made, is_free, fired_for, at_stage, after_patch, patches, after_tasks, adds_tasks}
-use Rattle.schedule_rows.specs.Turns.{after_job, adds_job, after_look, adds_job_if_free, fires_for, fires, retries_stage, retries_and_fires, ends_turn}
+use Rattle.schedule_rows.specs.Turns.{after_job, adds_job, after_look, adds_job_if_free, fires_for, fires, retries_stage, ends_turn}
 use Rattle.schedule_rows.specs.Turns.{turn, turns}
 use Rattle.schedule_rows.specs.declared.fire.Fire.{Fire}
 use Rattle.schedule_rows.specs.declared.outcome.CallOutcome.{CallOutcome}

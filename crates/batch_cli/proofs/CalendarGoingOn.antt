@@ -1,6 +1,6 @@
 -- A calendar over a desk goes on by one line more.
-use Rattle.std.proofs.Common.{◌≡◌, ◌≤◌, ◌+◌, ◌-◌, ◌^◌, min, ℕ, zero, suc, Bool, true, false, ◌||◌, List, [], ◌∷◌, ◌++◌, Option, Some, None, Result, Ok, Err}
-use Rattle.std.proofs.Common.{length, refl, ap, ◌∙◌, sym, subst, arith, map, take, append_assoc, ◌<◌, nat_lt, if◌then◌else◌, OnOk, OnErr, IfOk, IfSome}
+use Rattle.std.proofs.Common.{◌≡◌, ◌≤◌, ◌+◌, ◌-◌, ◌^◌, min, ℕ, zero, suc, Bool, true, false, ◌||◌, List, [], ◌∷◌, ◌++◌, Option, Result, Ok, Err}
+use Rattle.std.proofs.Common.{length, refl, ap, ◌∙◌, sym, subst, arith, map, take, append_assoc, ◌<◌, nat_lt, if◌then◌else◌, OnOk, OnErr, IfOk}
 use Rattle.std.specs.Str.Lines.{lines}
 use Rattle.std.proofs.lemmas.Bool.Decides.{nat_tests}
 use Rattle.std.proofs.lemmas.List.{append-nil, length-append, length-map, length_push, map-append}
@@ -9,20 +9,19 @@ use Rattle.byte_streams.proofs.Gaining.{gains_nothing, gains_more}
 use Rattle.bt_rows.specs.declared.event.EventKind.{EventKind}
 use Rattle.bt_rows.specs.declared.refusal.Refusal.{Refusal}
 use Rattle.batch_model.specs.Variants.{State}
-use Rattle.batch_wire.specs.Read.{Read}
 use Rattle.batch_wire.specs.Tables.{tables_text}
 use Rattle.batch_wire.specs.TextLines.{numbered}
 use Rattle.batch_wire.specs.Refusals.{refusal_text}
 use Rattle.batch_desk.specs.declared.entry.Entry.{Entry}
 use Rattle.batch_desk.specs.Kept.{Desk}
 use Rattle.batch_desk.specs.History.{asked_of, fault_count}
-use Rattle.batch_desk.specs.Answers.{HasSameOpening, IsInOrder, Begins}
-use Rattle.batch_cli.specs.Advance.{room_of, RoseBy}
-use Rattle.batch_cli.specs.Shown.{look_text, memory_stops}
-use Rattle.batch_cli.specs.Written.{BeginsWith, GainsBetween}
+use Rattle.batch_desk.specs.Answers.{HasSameOpening, Begins}
+use Rattle.batch_cli.specs.Advance.{room_of}
+use Rattle.batch_cli.specs.Shown.{memory_stops}
+use Rattle.batch_cli.specs.Written.{GainsBetween}
 use Rattle.batch_cli.specs.CalendarShown.{Telling, Remaining, line_told, lines_told, texts_of, asks_of}
 use Rattle.batch_cli.specs.CalendarShown.{cal_outputs, line_outputs, cal_questions, is_refused_line, has_refused_line}
-use Rattle.batch_cli.specs.CalendarAdvance.{CalAdvances, CalDid, CalHalts, KeepsDesk}
+use Rattle.batch_cli.specs.CalendarAdvance.{CalAdvances, CalDid, CalHalts}
 use Rattle.batch_cli.specs.CalendarGoing.{CalGoing, CalWhole, CalPart, CalEndsWith, CalDeskRan, CountsCalls, LinesDone, IsNew}
 use Rattle.batch_cli.specs.declared.tally.Tally.{Tally}
 use Rattle.batch_cli.specs.declared.status.Status.{Status}
@@ -35,7 +34,6 @@ use Rattle.batch_cli.proofs.GoingOn.{faults_append, stops_append, same_on, take_
 use Rattle.batch_schedule.specs.Kept.{Calendar}
 use Rattle.schedule_lines.specs.Lines.{cal_line_of}
 use Rattle.schedule_lines.specs.declared.line.CalLine.{CalLine}
-use Rattle.schedule_lines.specs.declared.line.CalLine.TheVariants.{Skip, Call, Look}
 
 take_none : {A : Type 0} (n : ℕ) → take {A = A} n [] ≡ []
 take_none zero = refl
@@ -450,11 +448,6 @@ ran_ended faults start now script a b t has_faults limit status few small whole 
     ∙ ap (λ w. status_by (nat_lt 0 (fault_count now.entries)) (nat_lt start.limit (length questions)) w) counts.refused in
     subst (CalDeskRan faults start now script a b) (sym e)
     (ends_ran faults start now script a b has_faults (nat_lt limit t.calls) t.refused (record { few = few; whole = whole; ending = same }))
-
--- what the source told is what was read
-pub if_told : (left : Option (List ℕ)) (bytes : List ℕ) (P : List ℕ → Type 0) → IfSome left (λ l. bytes ≡ l) → P bytes → IfSome left P
-if_told None bytes P e p = tt
-if_told (Some l) bytes P e p = subst P e p
 
 -- a script that was done to its end wrote something
 pub writes_some : (has_faults is_full is_refused : Bool) → WritesNothing (status_by has_faults is_full is_refused) → ⊥

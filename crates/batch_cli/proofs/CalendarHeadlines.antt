@@ -1,13 +1,13 @@
 -- From the run of a calendar over an opened desk to the whole run.
-use Rattle.std.proofs.Common.{◌≡◌, ◌≤◌, ◌+◌, ℕ, List, [], Option, Some, None, IfSome, ap, ◌∙◌, sym, subst, length, inl, inr, map, take}
+use Rattle.std.proofs.Common.{◌≡◌, ◌≤◌, ◌+◌, ℕ, List, Option, IfSome, ap, ◌∙◌, sym, subst, length, inl, inr, take}
 use Rattle.std.specs.Str.Lines.{lines}
-use Rattle.byte_streams.specs.Content.{Gains}
+use Rattle.byte_streams.specs.Content.{Gains, HoldsOfInput}
+use Rattle.byte_streams.proofs.Reading.{input_so}
 use Rattle.batch_model.specs.Opening.{opening}
 use Rattle.batch_model.specs.Variants.{State}
-use Rattle.bt_rows.specs.declared.event.EventKind.{EventKind}
 use Rattle.batch_desk.specs.declared.entry.Entry.{Entry}
 use Rattle.batch_desk.specs.Kept.{Desk}
-use Rattle.batch_desk.specs.History.{asked_of, fault_count}
+use Rattle.batch_desk.specs.History.{fault_count}
 use Rattle.batch_desk.specs.Answers.{IsInOrder, Begins}
 use Rattle.batch_cli.specs.Written.{GainsBetween}
 use Rattle.batch_cli.specs.CalendarShown.{cal_outputs, line_outputs, cal_questions}
@@ -108,13 +108,13 @@ module _ {K : Type 0} {told : K → Option State} {faults : K → ℕ} {options 
   cal_ran_from script before taken (FormulaError position) r d = d
   cal_ran_from script before taken Done r d = done_from script before taken r d
 
--- if the source tells what it has
+-- of what the source gave
 pub cal_ran_opened : {K : Type 0} (told : K → Option State) (faults : K → ℕ) (options : Options) (keeper kept : K) (start now : Desk K)
     (left before taken : Option (List ℕ)) (status : Status) →
     Begins start options.seats options.limit → IfSome (told keeper) (λ s. start.opened ≡ opening s) → faults keeper ≤ faults start.keeper →
     IsInOrder told faults now →
-    IfSome left (λ script. CalDeskRan faults start now script before taken status) → kept ≡ now.keeper →
-    IfSome left (λ script. CalendarRan options script (record {
+    HoldsOfInput left (λ script. CalDeskRan faults start now script before taken status) → kept ≡ now.keeper →
+    HoldsOfInput left (λ script. CalendarRan options script (record {
       taken_before = before;
       taken_now = taken;
       loaded = told keeper;
@@ -123,14 +123,8 @@ pub cal_ran_opened : {K : Type 0} (told : K → Option State) (faults : K → �
       faults_now = faults kept;
     }) status)
 cal_ran_opened {K} told faults options keeper kept start now left before taken status b o later in_order d back =
-    subst (λ k. IfSome left (λ script. CalendarRan options script
+    subst (λ k. HoldsOfInput left (λ script. CalendarRan options script
     (record { taken_before = before; taken_now = taken; loaded = told keeper; kept = told k; faults_before = faults keeper; faults_now = faults k })
     status)) (sym back)
-    (by_left left d)
-  where
-    by_left : (left : Option (List ℕ)) → IfSome left (λ script. CalDeskRan faults start now script before taken status) →
-        IfSome left (λ script. CalendarRan options script (seen_of told faults (told keeper) (faults keeper) now before taken) status)
-    by_left None d = tt
-    by_left (Some script) d =
-        cal_ran_from {told = told} {faults = faults} {options = options} {loaded = told keeper} {count = faults keeper} {start = start} {now = now} script
-        before taken status (record { begins = b; opened = o; later = later; in_order = in_order }) d
+    (input_so d (λ script ran. cal_ran_from {told = told} {faults = faults} {options = options} {loaded = told keeper} {count = faults keeper} {start = start}
+    {now = now} script before taken status (record { begins = b; opened = o; later = later; in_order = in_order }) ran))

@@ -1,5 +1,5 @@
 -- Over a desk, the entries of exchanges tell the interaction that they were.
-use Rattle.std.proofs.Common.{◌≡◌, ◌≤◌, ◌<◌, ◌-◌, ◌+◌, ℕ, zero, suc, Bool, true, false, List, [], ◌∷◌, ◌++◌, Option, Result, Ok, Err, length, map, take, inl, inr}
+use Rattle.std.proofs.Common.{◌≡◌, ◌≤◌, ◌<◌, ◌-◌, ◌+◌, ℕ, zero, suc, true, List, [], ◌∷◌, ◌++◌, Option, Result, Ok, Err, length, map, take, inl, inr}
 use Rattle.std.proofs.Common.{refl, sym, ap, ◌∙◌, subst, arith, append_assoc, ◌⊎◌}
 use Rattle.std.specs.List.{flat_map}
 use Rattle.std.proofs.lemmas.Grind.{flat_map-append}
@@ -23,7 +23,7 @@ use Rattle.batch_cli.specs.Advance.{room_of, RoseBy}
 use Rattle.batch_cli.specs.CalendarShown.{Telling, Remaining, turns_told}
 use Rattle.batch_cli.proofs.CalendarFires.{calls_in}
 use Rattle.batch_cli.proofs.GoingOn.{faults_append, same_on, take_append}
-use Rattle.schedule_rows.specs.Fires.{has_memory, is_answered, AllAnswered, StopsWithoutMemory}
+use Rattle.schedule_rows.specs.Fires.{has_memory, AllAnswered, StopsWithoutMemory}
 use Rattle.schedule_rows.specs.Interactions.{Interaction, Ends, Passes, Asks, Looks, Reaches}
 use Rattle.schedule_rows.specs.Rows.{Schedule}
 

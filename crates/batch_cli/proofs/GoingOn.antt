@@ -1,5 +1,5 @@
 -- A desk goes on by one line more.
-use Rattle.std.proofs.Common.{◌≡◌, ◌≤◌, ◌+◌, ◌-◌, min, ℕ, zero, suc, Bool, true, false, ◌||◌, List, [], ◌∷◌, ◌++◌, Option, Some, None, IfSome, Result, Ok, Err}
+use Rattle.std.proofs.Common.{◌≡◌, ◌≤◌, ◌+◌, ◌-◌, min, ℕ, zero, suc, Bool, true, false, ◌||◌, List, [], ◌∷◌, ◌++◌, Option, Result, Ok, Err}
 use Rattle.std.proofs.Common.{length, refl, ap, ◌∙◌, sym, subst, arith, map, take, inl, inr, append_assoc}
 use Rattle.std.proofs.lemmas.List.{length_push, append-nil, length-append, length-map, length-take, map-append, take_at, take-take}
 use Rattle.byte_streams.specs.Content.{Gains, GainsFront}
@@ -276,11 +276,6 @@ going_halts {K} {faults} {start} {old} {new} {script} {all} {n} {a} {b} {c} line
       rose = omega (arith, g.rose, cut.step.rose, ap fault_count cut.step.entries, faults_append old.entries cut.step.added);
       same = same_on g.same same;
     }
-
--- what holds of every value holds of one that may be there
-pub if_some_anyway : {A : Type 0} (o : Option A) (P : A → Type 0) → ((x : A) → P x) → IfSome o P
-if_some_anyway None P h = tt
-if_some_anyway (Some x) P h = h x
 
 pub or_assoc : (a b c : Bool) → ((a || b) || c) ≡ (a || (b || c))
 or_assoc true b c = refl

@@ -1,7 +1,9 @@
 -- From the run of an opened desk to the whole run.
-use Rattle.std.proofs.Common.{◌≡◌, ◌≤◌, ℕ, List, Option, Some, None, IfSome, ap, ◌∙◌, sym, subst, arith, length, inl, inr, map, take}
+use Rattle.std.proofs.Common.{◌≡◌, ◌≤◌, ℕ, List, Option, IfSome, ap, ◌∙◌, refl, sym, subst, arith, length, inl, inr, map, take}
 use Rattle.std.specs.Str.Lines.{lines}
-use Rattle.byte_streams.specs.Content.{Gains}
+use Rattle.byte_streams.specs.Content.{Gains, HoldsOfInput}
+use Rattle.byte_streams.proofs.Gaining.{gains_nothing}
+use Rattle.byte_streams.proofs.Reading.{input_so}
 use Rattle.batch_model.specs.Opening.{opening}
 use Rattle.batch_model.specs.Sound.{IsSound}
 use Rattle.batch_model.specs.Variants.{State}
@@ -160,30 +162,27 @@ module _ {K : Type 0} {told : K → Option State} {faults : K → ℕ} {options 
   ran_from script before taken (FormulaError position) r d = d
   ran_from script before taken Done r d = done_from script before taken r d
 
--- if the source tells what it has
+-- nothing was called, and nothing written
+pub nothing_done : {K : Type 0} (desk : Desk K) (taken : Option (List ℕ)) → NothingDone desk desk taken taken
+nothing_done desk taken = record { same = refl; written = gains_nothing taken }
+
+-- of what the source gave
 pub ran_opened : {K : Type 0} (told : K → Option State) (faults : K → ℕ) (options : Options) (keeper kept : K) (start now : Desk K)
     (left before taken : Option (List ℕ)) (status : Status) →
     Begins start options.seats options.limit → IfSome (told keeper) (λ s. start.opened ≡ opening s) → faults keeper ≤ faults start.keeper →
     IsInOrder told faults now →
-    IfSome left (λ script. DeskRan faults start now script before taken status) → kept ≡ now.keeper →
-    IfSome left (λ script. RanWith options script (record {
+    HoldsOfInput left (λ script. DeskRan faults start now script before taken status) → kept ≡ now.keeper →
+    HoldsOfInput left (λ script. RanWith options script (record {
       taken_before = before;
       taken_now = taken;
       loaded = told keeper;
       kept = told kept;
-      faults_before
-          = faults keeper;
+      faults_before = faults keeper;
       faults_now = faults kept;
     }) status)
 ran_opened {K} told faults options keeper kept start now left before taken status b o later in_order d back =
-    subst (λ k. IfSome left (λ script. RanWith options script
+    subst (λ k. HoldsOfInput left (λ script. RanWith options script
     (record { taken_before = before; taken_now = taken; loaded = told keeper; kept = told k; faults_before = faults keeper; faults_now = faults k })
     status)) (sym back)
-    (by_left left d)
-  where
-    by_left : (left : Option (List ℕ)) → IfSome left (λ script. DeskRan faults start now script before taken status) →
-        IfSome left (λ script. RanWith options script (seen_of told faults (told keeper) (faults keeper) now before taken) status)
-    by_left None d = tt
-    by_left (Some script) d =
-        ran_from {told = told} {faults = faults} {options = options} {loaded = told keeper} {count = faults keeper} {start = start} {now = now} script
-        before taken status (record { begins = b; opened = o; later = later; in_order = in_order }) d
+    (input_so d (λ script ran. ran_from {told = told} {faults = faults} {options = options} {loaded = told keeper} {count = faults keeper} {start = start}
+    {now = now} script before taken status (record { begins = b; opened = o; later = later; in_order = in_order }) ran))

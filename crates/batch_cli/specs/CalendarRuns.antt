@@ -1,5 +1,5 @@
 -- What the run of the command `calendar` was, and what it left: as that of `replay`, with the calls of schedules.
-use Rattle.std.specs.Prelude.{◌≡◌, ◌⊎◌, ◌≤◌, ◌<◌, ◌+◌, ℕ, List, [], length, map, take}
+use Rattle.std.specs.Prelude.{◌≡◌, ◌⊎◌, ◌≤◌, ◌<◌, ◌+◌, ℕ, List, length, map, take}
 use Rattle.std.specs.Str.Lines.{lines}
 use Rattle.byte_streams.specs.Content.{Gains}
 use Rattle.bt_rows.specs.declared.event.EventKind.{EventKind}

@@ -1,15 +1,12 @@
 -- What the run of a command was, and what it left.
 use Rattle.std.specs.Prelude.{◌≡◌, ◌⊎◌, ◌≤◌, ◌<◌, ℕ, List, [], length, map, take, Option, Some, None, IfSome}
 use Rattle.std.specs.Str.Lines.{lines}
-use Rattle.byte_streams.specs.Content.{Gains, GainsFront}
-use Rattle.batch_model.specs.Opening.{opening}
-use Rattle.batch_model.specs.Sound.{IsSound}
+use Rattle.byte_streams.specs.Content.{Gains, GainsFront, HoldsOfInput}
 use Rattle.batch_model.specs.Variants.{State}
-use Rattle.batch_keeper.specs.declared.error.KeepError.{KeepError}
+use Rattle.batch_model.specs.WellFormed.{IsWellFormed}
 use Rattle.batch_keeper.specs.declared.error.KeepError.TheVariants.{Failed, Memory as NoMemory}
 use Rattle.batch_desk.specs.declared.entry.Entry.{Entry}
 use Rattle.batch_desk.specs.Kept.{Tells}
-use Rattle.batch_desk.specs.Answers.{FailsToOpen}
 use Rattle.batch_desk.specs.Laws.{KeepsLaws}
 use Rattle.batch_desk.specs.History.{IsLegal, after_all, asked_of, fault_count}
 use Rattle.batch_wire.specs.Tables.{tables_text}
@@ -115,9 +112,10 @@ abbrev pub RanFormula : FormulaOptions → List ℕ → Option (List ℕ) → Op
 RanFormula options formula before taken None = ⊥
 RanFormula options formula before taken (Some end) = FormulaRan options.now options.dedicated formula before taken end
 
--- the tables text of the loaded tables was written whole, and the keeper tells the same tables as before
+-- the tables text of the loaded tables, which are well formed, was written whole, and the keeper tells the same tables as before
 pub record IsExported (seen : Observed) : Type 0 where
   pub tables : State
+  pub well_formed : IsWellFormed tables
   pub loaded : IfSome seen.loaded (λ s. tables ≡ s)
   pub kept : seen.kept ≡ seen.loaded
   pub written : Gains seen.taken_before seen.taken_now (tables_text tables)
@@ -125,6 +123,7 @@ pub record IsExported (seen : Observed) : Type 0 where
 -- a prefix of it was written, and the keeper tells the same tables as before
 pub record IsExportCut (seen : Observed) : Type 0 where
   pub tables : State
+  pub well_formed : IsWellFormed tables
   pub loaded : IfSome seen.loaded (λ s. tables ≡ s)
   pub kept : seen.kept ≡ seen.loaded
   pub written : GainsFront seen.taken_before seen.taken_now (tables_text tables)
@@ -200,12 +199,13 @@ RanDrill count seen JournalFull = ⊥
 abbrev pub RanNothing : Observed → Status → Type 0
 RanNothing seen status = ((status ≡ Usage) ⊎ (status ≡ Memory)) × Gains seen.taken_before seen.taken_now []
 
--- what a status says of a command, of what the source tells, and of sink and keeper; `serve` is not done
+-- What a status says of a command, of what the source tells, and of sink and keeper. Of a command that reads a source it says that there is a
+-- script or formula of which all of this holds: what the source told, if it told its bytes, and else some bytes. `serve` is not done.
 abbrev pub RanCommand : Command → Option (List ℕ) → Observed → Status → Type 0
-RanCommand (Replay options) left seen status = IfSome left (λ script. RanWith options script seen status)
-RanCommand (Calendar options) left seen status = IfSome left (λ script. CalendarRan options script seen status)
+RanCommand (Replay options) left seen status = HoldsOfInput left (λ script. RanWith options script seen status)
+RanCommand (Calendar options) left seen status = HoldsOfInput left (λ script. CalendarRan options script seen status)
 RanCommand (Formula options) left seen status =
-    IfSome left (λ formula. RanFormula options formula seen.taken_before seen.taken_now (end_of status))
+    HoldsOfInput left (λ formula. RanFormula options formula seen.taken_before seen.taken_now (end_of status))
 RanCommand Export left seen status = RanExport seen status
 RanCommand (Drill count) left seen status = RanDrill count seen status
 RanCommand (Serve options) left seen status = RanNothing seen status

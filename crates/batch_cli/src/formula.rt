@@ -1,6 +1,7 @@
 //! The command `formula`, as one of the program's.
-ghost use Rattle.std.specs.Prelude.{◌≡◌, Some, IfSome};
+ghost use Rattle.std.specs.Prelude.{◌≡◌, Some};
 ghost use Rattle.bt_base.specs.Causes.{Rose};
+ghost use Rattle.byte_streams.specs.Content.{HoldsOfInput};
 ghost use Rattle.batch_cli.specs.Headline.{RanFormula, WritesNothing, end_of};
 
 use crate::status::Status;
@@ -30,7 +31,7 @@ pub fn formula<R: Source, W: Sink>(
     source: &mut R,
     sink: &mut W,
 ) -> Status
-    ensures ran { IfSome (R.left source.old) (λ formula. RanFormula options formula (W.taken sink.old) (W.taken sink.new) (end_of result)) }
+    ensures ran { HoldsOfInput (R.left source.old) (λ formula. RanFormula options formula (W.taken sink.old) (W.taken sink.new) (end_of result)) }
     ensures unwritten { WritesNothing result → sink.new ≡ sink.old }
     ensures no_usage { result ≡ Status.Usage → ⊥ }
     ensures no_keeper_fault { result ≡ Status.KeeperFault → ⊥ }

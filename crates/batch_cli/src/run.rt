@@ -1,6 +1,7 @@
 //! The top call.
-ghost use Rattle.std.specs.Prelude.{◌≡◌, ◌≤◌, ◌⊎◌, IfSome, nat_lt, if◌then◌else◌};
+ghost use Rattle.std.specs.Prelude.{◌≡◌, ◌≤◌, ◌⊎◌, nat_lt, if◌then◌else◌};
 ghost use Rattle.bt_base.specs.Causes.{Rose};
+ghost use Rattle.byte_streams.specs.Content.{HoldsOfInput};
 ghost use Rattle.batch_desk.specs.Answers.{IsInOrder, Begins};
 ghost use Rattle.cli_words.specs.Commands.{command_of};
 ghost use Rattle.cli_words.specs.Ranges.{IsInRange};
@@ -54,7 +55,7 @@ fn run_desk<R: Source, W: Sink, K: Keeper + Drop>(
 ) -> Status
     requires in_order { IsInOrder K.told K.faults desk.old }
     requires begins { Begins desk.old desk.old.seats desk.old.limit }
-    ensures ran { IfSome (R.left source.old) (λ script. DeskRan K.faults desk.old desk.new script (W.taken sink.old) (W.taken sink.new) result) }
+    ensures ran { HoldsOfInput (R.left source.old) (λ script. DeskRan K.faults desk.old desk.new script (W.taken sink.old) (W.taken sink.new) result) }
     ensures unwritten { WritesNothing result → sink.new ≡ sink.old }
     ensures in_order { IsInOrder K.told K.faults desk.new }
     ensures later { K.faults desk.old.keeper ≤ K.faults desk.new.keeper }
@@ -85,7 +86,7 @@ fn replay<R: Source, W: Sink, K: Keeper + Drop>(
 ) -> (Status, K)
     requires some { 1 ≤ options.seats }
     requires few { options.seats ≤ 32 }
-    ensures ran { IfSome (R.left source.old) (λ script. RanWith options script
+    ensures ran { HoldsOfInput (R.left source.old) (λ script. RanWith options script
         (record {
           taken_before = W.taken sink.old;
           taken_now = W.taken sink.new;
@@ -122,7 +123,7 @@ fn run_calendar<R: Source, W: Sink, K: Keeper + Drop>(
 ) -> (Status, Desk<K>)
     requires in_order { IsInOrder K.told K.faults desk }
     requires begins { Begins desk desk.seats desk.limit }
-    ensures ran { IfSome (R.left source.old) (λ script. CalDeskRan K.faults desk result.1 script (W.taken sink.old) (W.taken sink.new) result.0) }
+    ensures ran { HoldsOfInput (R.left source.old) (λ script. CalDeskRan K.faults desk result.1 script (W.taken sink.old) (W.taken sink.new) result.0) }
     ensures unwritten { WritesNothing result.0 → sink.new ≡ sink.old }
     ensures keeps { KeepsDesk K.told K.faults desk result.1 }
     ensures no_usage { result.0 ≡ Status.Usage → ⊥ }
@@ -152,7 +153,7 @@ fn calendar<R: Source, W: Sink, K: Keeper + Drop>(
 ) -> (Status, K)
     requires some { 1 ≤ options.seats }
     requires few { options.seats ≤ 32 }
-    ensures ran { IfSome (R.left source.old) (λ script. CalendarRan options script
+    ensures ran { HoldsOfInput (R.left source.old) (λ script. CalendarRan options script
         (record {
           taken_before = W.taken sink.old;
           taken_now = W.taken sink.new;
@@ -240,8 +241,9 @@ pub fn run_words<R: Source, W: Sink, K: Keeper + Drop>(
     sink: &mut W,
     keeper: K,
 ) -> (Status, K)
-    // If the source tells its bytes, and without that for `export` and `drill`: the written bytes, the status and the kept tables
-    // are those of one legal history, or the bytes and the status those of one evaluation or of the loaded tables.
+    // There is a script or formula, which is what the source told if it told its bytes, and the written bytes, the status and the kept
+    // tables are those of one legal history of its calls, or the bytes and the status those of its evaluation. `export` and `drill` read
+    // none: what they leave follows from the loaded tables and the number of tasks.
     ensures ran { Ran (command_of words.now) (R.left source.old)
         (record {
           taken_before = W.taken sink.old;

@@ -3,6 +3,7 @@ ghost use Rattle.std.specs.Prelude.{◌≡◌, ◌<◌, ◌≤◌, ◌+◌, ◌-
 ghost use Rattle.std.specs.Io.{ReadsAtMost};
 ghost use Rattle.std.specs.Io.KnownBytes.{ReadConsumes, IsAtEnd};
 ghost use Rattle.bt_base.specs.Causes.{Rose, HasCause};
+ghost use Rattle.byte_streams.specs.Content.{HoldsOfInput};
 ghost use Rattle.byte_streams.specs.declared.source.ReadFault.TheVariants.{Memory, Failed as FailedToRead};
 
 use std::alloc::{AllocError, Global};
@@ -219,7 +220,7 @@ pub fn read_all<R: Source>(
     ensures whole { IfOk result (λ bytes. IfSome (R.left source.old) (λ left. bytes.items ≡ left)) }
     ensures end { IfOk result (λ _. IsAtEnd (R.left source.new)) }
     ensures within { IfOk result (λ bytes. vec_len bytes ≤ limit) }
-    ensures long { IsErrOf result ReadFault.TooLong → IfSome (R.left source.old) (λ left. limit < length left) }
+    ensures long { IsErrOf result ReadFault.TooLong → HoldsOfInput (R.left source.old) (λ input. limit < length input) }
     ensures failed { IsErrOf result ReadFault.Failed → Rose (R.faults source.old) (R.faults source.new) }
     ensures later { R.faults source.old ≤ R.faults source.new }
 {

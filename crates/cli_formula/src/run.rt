@@ -1,6 +1,7 @@
 //! The command `formula`.
-ghost use Rattle.std.specs.Prelude.{◌≡◌, ◌≤◌, IfSome};
+ghost use Rattle.std.specs.Prelude.{◌≡◌};
 ghost use Rattle.bt_base.specs.Causes.{Rose};
+ghost use Rattle.byte_streams.specs.Content.{HoldsOfInput};
 ghost use Rattle.cli_formula.specs.Showing.{FormulaRan, IsUnwritten};
 ghost use Rattle.cli_formula.specs.Shown.{shown_of, Writes};
 
@@ -40,7 +41,7 @@ pub fn run_formula<R: Source, W: Sink>(
     source: &mut R,
     sink: &mut W,
 ) -> End
-    ensures ran { IfSome (R.left source.old) (λ bytes. FormulaRan options.now options.dedicated bytes (W.taken sink.old) (W.taken sink.new) result) }
+    ensures ran { HoldsOfInput (R.left source.old) (λ bytes. FormulaRan options.now options.dedicated bytes (W.taken sink.old) (W.taken sink.new) result) }
     ensures unwritten { IsUnwritten result → sink.new ≡ sink.old }
     ensures source_fault { result ≡ End.SourceFault → Rose (R.faults source.old) (R.faults source.new) }
     ensures sink_fault { result ≡ End.SinkFault → Rose (W.faults sink.old) (W.faults sink.new) }

@@ -1,7 +1,6 @@
 use Rattle.std.proofs.Common.{refl, sym, subst, IfOk, OnErr}
 use Rattle.bt_base.specs.Fails.{Fails}
 use Rattle.batch_cli.specs.CalendarAdvance.{CalDid, CalHalts}
-use Rattle.batch_cli.proofs.Advancing.{at_err_anyway}
 use Rattle.batch_cli.proofs.CalendarAdvancing.{keeps_itself}
 use Rattle.batch_cli.proofs.CalendarGoingOn.{halts_at_once, refusal_did, refusal_halts}
 use Rattle.schedule_lines.specs.Lines.{cal_line_of}

@@ -1,4 +1,4 @@
-use Rattle.std.proofs.Common.{ap, refl, sym, subst, OnErr, IfOk, IsErrOf, ◌≡◌, ◌∙◌}
+use Rattle.std.proofs.Common.{ap, sym, subst, OnErr, IfOk, ◌∙◌}
 use Rattle.std.specs.Str.Lines.{lines}
 use Rattle.batch_cli.specs.CalendarAdvance.{KeepsDesk}
 use Rattle.batch_cli.specs.CalendarGoing.{CalPart, LinesDone}

@@ -1,5 +1,18 @@
+use Rattle.std.proofs.Common.{rules, inl}
+use Rattle.byte_streams.proofs.Gaining.{gains_nothing}
+use Rattle.byte_streams.proofs.Reading.{of_input}
 use Rattle.batch_cli.proofs.Headlines.{ran_opened}
 use Rattle.batch_cli.proofs.run.replay.Goals as goal
+
+pub returns-in-Err-default-Memory-clause-ran : goal.returns-in-Err-default-Memory-clause-ran
+returns-in-Err-default-Memory-clause-ran g c =
+    of_input (g.R.Source.left c.args.source.now) _
+    (λ script. inl (record { fails = search rules; written = gains_nothing (g.W.Sink.taken c.args.sink.now) }))
+
+pub returns-in-Err-default-Failed-clause-ran : goal.returns-in-Err-default-Failed-clause-ran
+returns-in-Err-default-Failed-clause-ran g c =
+    of_input (g.R.Source.left c.args.source.now) _
+    (λ script. inl (record { fails = search rules; written = gains_nothing (g.W.Sink.taken c.args.sink.now) }))
 
 pub returns-in-Ok-clause-ran : goal.returns-in-Ok-clause-ran
 returns-in-Ok-clause-ran g c =
