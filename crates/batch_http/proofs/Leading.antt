@@ -54,7 +54,7 @@ module _ {A C : Type 0} (exchanged : A → Exchange → A → Type 0) (gives : C
         moments = first.moments;
       }
 
-  pub is_served : {old new : HttpService A C} {left before now : Option (List ℕ)} {end : End} → Served (Answers exchanged gives) old new left before now end → IsServed exchanged gives old new left before now end
+  pub is_served : {old new : HttpService A C} {left rest before now : Option (List ℕ)} {end : End} → Served (Answers exchanged gives) old new left rest before now end → IsServed exchanged gives old new left rest before now end
   is_served {old} s = record {
     served = s;
     made = subst (λ w. AreMade exchanged gives old s.exchanges w) s.service (all _ s.position s.exchanges s.leads);

@@ -42,6 +42,6 @@ module _ {A C : Type 0} (exchanged : A → Exchange → A → Type 0) (gives : C
     pub moments : GivesMoments gives old.clock exchanges new.clock
 
   -- a connection was served, and so were its messages
-  pub record IsServed (old new : HttpService A C) (left before now : Option (List ℕ)) (end : End) : Type 0 where
-    pub served : Served (Answers exchanged gives) old new left before now end
+  pub record IsServed (old new : HttpService A C) (left rest before now : Option (List ℕ)) (end : End) : Type 0 where
+    pub served : Served (Answers exchanged gives) old new left rest before now end
     pub made : AreMade old served.exchanges new

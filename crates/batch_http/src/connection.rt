@@ -19,7 +19,7 @@ pub fn serve<L: Link, A: Ask, C: Clock>(
     link: &mut L,
     service: &mut HttpService<A, C>,
 ) -> End
-    ensures served { IsServed A.exchanged C.gives service.old service.new (L.left link.old) (L.taken link.old) (L.taken link.new) result }
+    ensures served { IsServed A.exchanged C.gives service.old service.new (L.left link.old) (L.left link.new) (L.taken link.old) (L.taken link.new) result }
     ensures later { L.faults link.old ≤ L.faults link.new }
     ensures fault { result ≡ End.LinkFault → Rose (L.faults link.old) (L.faults link.new) }
 {

@@ -38,7 +38,7 @@ module _ {A C N L : Type 0} (exchanged : A → Exchange → A → Type 0) (gives
     pub given : L
     pub handed : L
     pub asked : accepted old.listener (Link given) waiting
-    pub served : IsServed exchanged gives old.service new.service (left given) (taken given) (taken handed) end
+    pub served : IsServed exchanged gives old.service new.service (left given) (left handed) (taken given) (taken handed) end
     pub later : faults given ≤ faults handed
     pub fault : end ≡ LinkFault → Rose (faults given) (faults handed)
     pub back : taken_back waiting handed new.listener

@@ -1,17 +1,18 @@
 -- A connection under way.
-use Rattle.std.proofs.Common.{◌≡◌, ◌+◌, ◌<◌, ℕ, Bool, true, false, List, [], ◌∷◌, ◌++◌, Option, None, Some, append_assoc, refl, sym, ap, ◌∙◌, subst, inl, inr}
+use Rattle.std.proofs.Common.{◌≡◌, ◌+◌, ◌<◌, ℕ, Bool, true, false, List, [], ◌∷◌, ◌++◌, length, Option, None, Some, append_assoc, refl, sym, ap, ◌∙◌, subst, inl, inr}
 use Rattle.std.proofs.lemmas.List.{append-nil}
 use Rattle.std.proofs.lemmas.Grind.{flat_map-append}
 use Rattle.std.specs.Io.KnownBytes.{Consumes}
 use Rattle.byte_streams.specs.Content.{Gains}
 use Rattle.byte_streams.proofs.Gaining.{gains_nothing, gains_more}
+use Rattle.http_link.specs.declared.room.TheConstants.{FILL_BYTES}
 use Rattle.http_serving.specs.declared.connection.TheConstants.{MESSAGE_LIMIT}
 use Rattle.http_serving.specs.declared.end.End.{End}
 use Rattle.http_serving.specs.declared.end.End.TheVariants.{Closed, Asked, Spent, Truncated, BadHead, BadFraming, OriginRefused, HeadTooLong, BodyTooLong, LinkFault, Memory}
 use Rattle.http_serving.specs.declared.response.Response.{Response}
 use Rattle.http_serving.specs.Services.{Request}
 use Rattle.http_serving.specs.Reading.{AllowsEnd, IsFault, unread}
-use Rattle.http_serving.specs.Connection.{Position, Exchange, IsExchange, Exchanges, exchange_text, exchanges_text, last_text, AreTold, AnswerCut, IsClosed, BreaksBefore, BreaksWithin, Ended, Served}
+use Rattle.http_serving.specs.Connection.{Position, Exchange, IsExchange, Exchanges, exchange_text, exchanges_text, last_text, AreTold, AnswerCut, IsClosed, BreaksBefore, BreaksWithin, Ended, IsReadPast, ReadsNoMore, Served}
 use Rattle.http_serving.specs.Stages.{ExchangedBy, Steps, EndsBefore, EndsWithin, Ends}
 use Rattle.http_serving.proofs.Buffers.{consumes_none, consumes_more}
 
@@ -43,6 +44,23 @@ ended_within BadFraming p exchanges before now h b = absurd h
 ended_within OriginRefused p exchanges before now h b = absurd h
 ended_within HeadTooLong p exchanges before now h b = absurd h
 ended_within BodyTooLong p exchanges before now h b = absurd h
+
+-- after a fault nothing is said of reads
+read_at_fault : (end : End) (bytes : List ℕ) (rest : Option (List ℕ)) → IsFault end → ReadsNoMore bytes rest end
+read_at_fault LinkFault bytes rest h = tt
+read_at_fault Memory bytes rest h = tt
+read_at_fault Closed bytes rest h = absurd h
+read_at_fault Asked bytes rest h = absurd h
+read_at_fault Spent bytes rest h = absurd h
+read_at_fault Truncated bytes rest h = absurd h
+read_at_fault BadHead bytes rest h = absurd h
+read_at_fault BadFraming bytes rest h = absurd h
+read_at_fault OriginRefused bytes rest h = absurd h
+read_at_fault HeadTooLong bytes rest h = absurd h
+read_at_fault BodyTooLong bytes rest h = absurd h
+
+read_past : (past : List ℕ) (rest : Option (List ℕ)) → length past < FILL_BYTES → IsReadPast (past ++ unread rest) rest
+read_past past rest few = record { past = past; few = few; cut = refl }
 
 -- no further request was answered
 module _ {S : Type 0} (planned : End) (answered : ℕ) (service : S) (left : List ℕ) (exchanges : List Exchange) (before middle now : Option (List ℕ))
@@ -79,6 +97,20 @@ module _ {S : Type 0} (planned : End) (answered : ℕ) (service : S) (left : Lis
   ended_before OriginRefused c = record { ends = (refl, less, as_planned OriginRefused c.0); written = all_written OriginRefused c.1 }
   ended_before HeadTooLong c = record { ends = (refl, less, as_planned HeadTooLong c.0); written = all_written HeadTooLong c.1 }
   ended_before BodyTooLong c = record { ends = (refl, less, as_planned BodyTooLong c.0); written = all_written BodyTooLong c.1 }
+
+  -- it ended at no message
+  read_before : (end : End) (rest : Option (List ℕ)) → IsClosed planned end middle now → ReadsNoMore left rest end
+  read_before Asked rest c = absurd (as_planned Asked c.0)
+  read_before Spent rest c = absurd (as_planned Spent c.0)
+  read_before LinkFault rest c = tt
+  read_before Memory rest c = tt
+  read_before Closed rest c = tt
+  read_before Truncated rest c = tt
+  read_before BadHead rest c = tt
+  read_before BadFraming rest c = tt
+  read_before OriginRefused rest c = tt
+  read_before HeadTooLong rest c = tt
+  read_before BodyTooLong rest c = tt
 
 module _ {S : Type 0} (answers : S → Request → Response → S → Type 0) where
   exchanges_snoc : (p q r : Position S) (xs : List Exchange) (x : Exchange) → Exchanges answers p xs q → IsExchange answers q x r → Exchanges answers p (xs ++ x ∷ []) r
@@ -120,8 +152,8 @@ module _ {S : Type 0} (answers : S → Request → Response → S → Type 0) wh
       gained = gained_by before taken took g.exchanges s.exchanged.exchange g.gained s.written;
     }
 
-    pub served_asked : {last_left took : Option (List ℕ)} {after : List ℕ} → answered < MESSAGE_LIMIT → Steps answers now next later last_left buffer after taken took true → Served answers old next left before took Asked
-    served_asked {last_left} {took} {after} less s = record {
+    pub served_asked : {last_left took : Option (List ℕ)} {after : List ℕ} → answered < MESSAGE_LIMIT → length after < FILL_BYTES → Steps answers now next later last_left buffer after taken took true → Served answers old next left last_left before took Asked
+    served_asked {last_left} {took} {after} less few s = record {
       bytes = (g.read ++ s.exchanged.piece) ++ unread last_left;
       told = told_of left last_left (g.read ++ s.exchanged.piece) (consumes_more left later last_left g.read s.exchanged.piece g.given s.exchanged.given);
       exchanges = g.exchanges ++ s.exchanged.exchange ∷ [];
@@ -132,10 +164,11 @@ module _ {S : Type 0} (answers : S → Request → Response → S → Type 0) wh
         ends = refl;
         written = subst (λ w. Gains before took w) (sym (append-nil (exchanges_text (g.exchanges ++ s.exchanged.exchange ∷ [])))) (gained_by before taken took g.exchanges s.exchanged.exchange g.gained s.written);
       };
+      read = read_past after last_left few;
     }
 
     -- a fault while a response is written
-    served_within : {last_left took : Option (List ℕ)} (end : End) → answered < MESSAGE_LIMIT → EndsWithin answers now next later last_left buffer taken took end → Served answers old next left before took end
+    served_within : {last_left took : Option (List ℕ)} (end : End) → answered < MESSAGE_LIMIT → EndsWithin answers now next later last_left buffer taken took end → Served answers old next left last_left before took end
     served_within {last_left} {took} end less e =
         record {
           bytes = (g.read ++ e.exchanged.piece) ++ unread last_left;
@@ -152,10 +185,11 @@ module _ {S : Type 0} (answers : S → Request → Response → S → Type 0) wh
             responses = g.gained;
             response = e.written;
           });
+          read = read_at_fault end (e.after ++ unread last_left) last_left e.fault;
         }
 
     -- the end before a message
-    served_before : {last_left took : Option (List ℕ)} (end : End) → answered < MESSAGE_LIMIT → EndsBefore answers now next later last_left buffer taken took end → Served answers old next left before took end
+    served_before : {last_left took : Option (List ℕ)} (end : End) → answered < MESSAGE_LIMIT → EndsBefore answers now next later last_left buffer taken took end → Served answers old next left last_left before took end
     served_before {last_left} {took} end less e = record {
       bytes = (g.read ++ e.piece) ++ unread last_left;
       told = told_of left last_left (g.read ++ e.piece) (consumes_more left later last_left g.read e.piece g.given e.given);
@@ -165,14 +199,15 @@ module _ {S : Type 0} (answers : S → Request → Response → S → Type 0) wh
           (subst (λ w. Exchanges answers (position_at false 0 old (g.read ++ (e.piece ++ unread last_left))) g.exchanges (position_at false answered now w)) (sym (append_assoc buffer e.piece (unread last_left))) (g.leads (e.piece ++ unread last_left)));
       service = sym e.same;
       ended = ended_before e.planned answered now ((buffer ++ e.piece) ++ unread last_left) g.exchanges before taken took less e.allows g.gained end e.closed;
+      read = read_before e.planned answered now ((buffer ++ e.piece) ++ unread last_left) g.exchanges before taken took less e.allows g.gained end last_left e.closed;
     }
 
-    pub served_end : {last_left took : Option (List ℕ)} (end : End) → answered < MESSAGE_LIMIT → Ends answers now next later last_left buffer taken took end → Served answers old next left before took end
+    pub served_end : {last_left took : Option (List ℕ)} (end : End) → answered < MESSAGE_LIMIT → Ends answers now next later last_left buffer taken took end → Served answers old next left last_left before took end
     served_end end less (inl e) = served_before end less e
     served_end end less (inr e) = served_within end less e
 
-  pub served_spent : {old now : S} {answered : ℕ} {left later : Option (List ℕ)} {buffer : List ℕ} {before taken : Option (List ℕ)} → Going old now answered left later buffer before taken → answered ≡ MESSAGE_LIMIT → Served answers old now left before taken Spent
-  served_spent {old} {now} {answered} {left} {later} {buffer} {before} {taken} g full = record {
+  pub served_spent : {old now : S} {answered : ℕ} {left later : Option (List ℕ)} {buffer : List ℕ} {before taken : Option (List ℕ)} → Going old now answered left later buffer before taken → length buffer < FILL_BYTES → answered ≡ MESSAGE_LIMIT → Served answers old now left later before taken Spent
+  served_spent {old} {now} {answered} {left} {later} {buffer} {before} {taken} g few full = record {
     bytes = g.read ++ unread later;
     told = told_of left later g.read g.given;
     exchanges = g.exchanges;
@@ -183,4 +218,5 @@ module _ {S : Type 0} (answers : S → Request → Response → S → Type 0) wh
       ends = (refl, full);
       written = subst (λ w. Gains before taken w) (sym (append-nil (exchanges_text g.exchanges))) g.gained;
     };
+    read = read_past buffer later few;
   }

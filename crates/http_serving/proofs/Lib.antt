@@ -3,3 +3,4 @@ pub mod Bodies
 pub mod Buffers
 pub mod Cutting
 pub mod Exchanging
+pub mod Nearing

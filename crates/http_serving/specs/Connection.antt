@@ -1,10 +1,12 @@
 -- A connection: requests one after the other, each with its response, and an end. It is a relation between all the bytes that the
--- link had, the exchanges, the bytes that were written, and the end; how the bytes came is no part of it.
-use Rattle.std.specs.Prelude.{◌≡◌, ℕ, ◌+◌, ◌<◌, ◌⊎◌, Bool, true, false, List, [], ◌∷◌, ◌++◌, Option, Some, None, ⊤}
+-- link had, the exchanges, the bytes that were written, and the end; how the bytes came is no part of it, but that nothing is read
+-- after the last message of a connection that ends at it.
+use Rattle.std.specs.Prelude.{◌≡◌, ℕ, ◌+◌, ◌<◌, ◌⊎◌, Bool, true, false, List, [], ◌∷◌, ◌++◌, length, Option, Some, None, ⊤}
 use Rattle.std.specs.List.{flat_map}
 use Rattle.std.specs.Str.{bytes_eq}
 use Rattle.httparse.specs.Grammar.{RequestHead}
 use Rattle.byte_streams.specs.Content.{Gains}
+use Rattle.http_link.specs.declared.room.TheConstants.{FILL_BYTES}
 use Rattle.http_link.specs.Writing.{GainsPart}
 use Rattle.http_head.specs.Fields.{fields_of}
 use Rattle.http_head.specs.Framing.{is_last}
@@ -14,7 +16,7 @@ use Rattle.http_serving.specs.declared.end.End.TheVariants.{Closed, Asked, Spent
 use Rattle.http_serving.specs.declared.response.Response.{Response}
 use Rattle.http_serving.specs.Services.{Request}
 use Rattle.http_serving.specs.Responses.{head_text, text_of, end_text}
-use Rattle.http_serving.specs.Reading.{HasMessage, AllowsEnd}
+use Rattle.http_serving.specs.Reading.{HasMessage, AllowsEnd, unread}
 
 -- where a connection is: whether its last request asked that it end, how many requests were answered, the service, and the
 -- bytes that are left
@@ -119,8 +121,21 @@ Ended p exchanges before now LinkFault = BreaksBefore p exchanges before now ⊎
 Ended p exchanges before now Memory = BreaksBefore p exchanges before now ⊎ BreaksWithin exchanges before now
 Ended p exchanges before now end = EndsWhole p exchanges before now end
 
--- what a connection was: the bytes of the link, the exchanges from the first position on, and what was written
-pub record Served {S : Type 0} (answers : S → Request → Response → S → Type 0) (old new : S) (left before now : Option (List ℕ)) (end : End) : Type 0 where
+-- the link has these bytes left, but for fewer than one read may give, as where the last read came before the message in front of
+-- them was whole
+pub record IsReadPast (bytes : List ℕ) (rest : Option (List ℕ)) : Type 0 where
+  pub past : List ℕ
+  pub few : length past < FILL_BYTES
+  pub cut : bytes ≡ past ++ unread rest
+
+-- what was read past the last message, where a connection ends at it: these bytes follow it, and the link has this left
+abbrev pub ReadsNoMore : List ℕ → Option (List ℕ) → End → Type 0
+ReadsNoMore bytes rest Asked = IsReadPast bytes rest
+ReadsNoMore bytes rest Spent = IsReadPast bytes rest
+ReadsNoMore bytes rest end = ⊤
+
+-- what a connection was: the bytes that the link had and has left, the exchanges from the first position on, and what was written
+pub record Served {S : Type 0} (answers : S → Request → Response → S → Type 0) (old new : S) (left rest before now : Option (List ℕ)) (end : End) : Type 0 where
   pub bytes : List ℕ
   pub told : AreTold left bytes
   pub exchanges : List Exchange
@@ -128,3 +143,4 @@ pub record Served {S : Type 0} (answers : S → Request → Response → S → T
   pub leads : Exchanges answers (record { asked = false; answered = 0; service = old; left = bytes }) exchanges position
   pub service : position.service ≡ new
   pub ended : Ended position exchanges before now end
+  pub read : ReadsNoMore position.left rest end

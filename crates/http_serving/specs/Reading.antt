@@ -1,13 +1,16 @@
 -- What is at the front of the bytes of a connection, and which ends they allow.
 use Rattle.std.specs.Prelude.{◌≡◌, ◌≢◌, ℕ, ◌+◌, ◌<◌, ◌≤◌, ◌⊎◌, List, [], ◌++◌, length, Option, Some, None, ⊤, Bool, true, false, IsTrue, IsFalse}
 use Rattle.std.specs.Io.KnownBytes.{Consumes, IsAtEnd}
+use Rattle.std.specs.List.{list_any}
 use Rattle.httparse.specs.Grammar.{RequestHead, print_request, ReadsRequest}
+use Rattle.http_link.specs.declared.room.TheConstants.{FILL_BYTES}
 use Rattle.http_head.specs.declared.framing.Framing.{Framing}
 use Rattle.http_head.specs.declared.framing.Framing.TheVariants.{Bad, TooLong, Body}
 use Rattle.http_head.specs.declared.heads.Head.{Head}
 use Rattle.http_head.specs.declared.heads.TheConstants.{HEAD_LIMIT, FIELD_LIMIT}
 use Rattle.http_head.specs.Fields.{fields_of, has_origin}
 use Rattle.http_head.specs.Framing.{framing_of}
+use Rattle.http_head.specs.Lines.{is_line_feed}
 use Rattle.http_head.specs.Heads.{IsHeadAt, IsHead, NeverHasHead, HasLongHead, IsOpen}
 use Rattle.http_serving.specs.declared.end.End.{End}
 use Rattle.http_serving.specs.declared.end.End.TheVariants.{Closed, Asked, Spent, Truncated, BadHead, BadFraming, OriginRefused, HeadTooLong, BodyTooLong, LinkFault, Memory}
@@ -103,6 +106,14 @@ pub record FillsLine (left now : Option (List ℕ)) (old new : List ℕ) (more :
   pub grows : Grows left now old new
   pub some : IsTrue more → length old < length new
   pub none : IsFalse more → IsAtEnd now
+
+-- the buffer grew, and no line ended in what came before its last piece, which is no longer than one read may give
+pub record GrowsByLine (old new : List ℕ) : Type 0 where
+  pub front : List ℕ
+  pub last : List ℕ
+  pub cut : new ≡ (old ++ front) ++ last
+  pub no_line : list_any is_line_feed front ≡ false
+  pub few : length last ≤ FILL_BYTES
 
 -- the link gave bytes, and those of the buffer with these and with what is left allow this end
 pub record Stops (left now : Option (List ℕ)) (old : List ℕ) (end : End) : Type 0 where

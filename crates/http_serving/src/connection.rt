@@ -17,9 +17,10 @@ pub const MESSAGE_LIMIT: u64 = 10_000;
 /// the next one is looked at. Returns `LinkFault` only if the link failed in this call, and `Memory` if memory ran out. Either cuts
 /// one text short at most, the last one: that of a response, or the answer before an end; all responses before it were written
 /// whole. With every other end all was written. No fault comes any more once the last response before `Asked` or `Spent` is
-/// written. Each read takes a byte of the link at least, or meets the end of its bytes.
+/// written, and nothing is read once its request is whole: of what follows it fewer bytes were read than http_link `FILL_BYTES`.
+/// Each read takes a byte of the link at least, or meets the end of its bytes.
 pub fn serve_link<L: Link, S: Service>(alloc: Global, link: &mut L, service: &mut S) -> End
-    ensures served { Served S.answers service.old service.new (L.left link.old) (L.taken link.old) (L.taken link.new) result }
+    ensures served { Served S.answers service.old service.new (L.left link.old) (L.left link.new) (L.taken link.old) (L.taken link.new) result }
     ensures later { L.faults link.old ≤ L.faults link.new }
     ensures fault { result ≡ End.LinkFault → Rose (L.faults link.old) (L.faults link.new) }
 {

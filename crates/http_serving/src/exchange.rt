@@ -1,10 +1,11 @@
 //! One exchange of a connection: a message is read, answered and taken from the buffer.
-ghost use Rattle.std.specs.Prelude.{◌≡◌, ◌≤◌, ◌⊎◌, drop, length, OnErr, IsErrOf, MatchResult, vec_len, IsUtf8};
+ghost use Rattle.std.specs.Prelude.{◌≡◌, ◌≤◌, ◌<◌, ◌⊎◌, drop, length, OnOk, OnErr, IsErrOf, MatchResult, vec_len, IsUtf8};
 ghost use Rattle.std.specs.Str.{bytes_eq};
 ghost use Rattle.httparse.specs.Spans.{IsWithin, span_bytes};
 ghost use Rattle.bt_base.specs.Causes.{Rose};
 ghost use Rattle.byte_streams.specs.Content.{Gains};
 ghost use Rattle.http_link.specs.Writing.{GainsPart};
+ghost use Rattle.http_link.specs.declared.room.TheConstants.{FILL_BYTES};
 ghost use Rattle.http_serving.specs.Responses.{head_text, text_of};
 ghost use Rattle.http_serving.specs.Reading.{IsFault};
 ghost use Rattle.http_serving.specs.Connection.{IsClosed};
@@ -141,9 +142,11 @@ pub fn serve_one<L: Link, S: Service>(
     buffer: &mut Vec<u8>,
     service: &mut S,
 ) -> Result<bool, End>
+    requires { length buffer.old.items < FILL_BYTES }
     ensures served { MatchResult result
         (λ last. Steps S.answers service.old service.new (L.left link.old) (L.left link.new) buffer.old.items buffer.new.items (L.taken link.old) (L.taken link.new) last)
         (λ end. Ends S.answers service.old service.new (L.left link.old) (L.left link.new) buffer.old.items (L.taken link.old) (L.taken link.new) end) }
+    ensures few { OnOk result (length buffer.new.items < FILL_BYTES) }
     ensures later { L.faults link.old ≤ L.faults link.new }
     ensures failed { IsErrOf result End.LinkFault → Rose (L.faults link.old) (L.faults link.new) }
 {

@@ -1,11 +1,12 @@
 //! Whole messages at the front of a buffer.
-ghost use Rattle.std.specs.Prelude.{◌≡◌, ◌≢◌, false, ◌≤◌, ◌<◌, ◌++◌, List, ℕ, MatchResult, IsErrOf, length};
+ghost use Rattle.std.specs.Prelude.{◌≡◌, ◌≢◌, false, ◌≤◌, ◌<◌, ◌++◌, List, ℕ, ◌+◌, MatchResult, IsErrOf, IfOk, OnOk, length};
 ghost use Rattle.bt_base.specs.Causes.{Rose};
 ghost use Rattle.http_link.specs.Filling.{Fills, Loses};
+ghost use Rattle.http_link.specs.declared.room.TheConstants.{FILL_BYTES};
 ghost use Rattle.http_head.specs.Heads.{IsHead, IsOpen};
 ghost use Rattle.http_head.specs.declared.heads.TheConstants.{HEAD_LIMIT};
 ghost use Rattle.http_head.specs.declared.framing.TheConstants.{BODY_LIMIT};
-ghost use Rattle.http_serving.specs.Reading.{end_of_origin, FillsLine, FoundHead, FoundMessage, Stops, AllowsEnd, IsFault};
+ghost use Rattle.http_serving.specs.Reading.{end_of_origin, FillsLine, GrowsByLine, FoundHead, FoundMessage, Stops, AllowsEnd, IsFault};
 
 use crate::end::End;
 use http_head::{Framing, HEAD_LIMIT, Head, HeadRead, read_head};
@@ -43,6 +44,7 @@ fn fill_line<L: Link>(link: &mut L, buffer: &mut Vec<u8>) -> Result<bool, End>
     ensures bytes { MatchResult result
         (λ more. FillsLine (L.left link.old) (L.left link.new) buffer.old.items buffer.new.items more)
         (λ end. Loses (L.left link.old) (L.left link.new) × IsFault end) }
+    ensures by_line { OnOk result (GrowsByLine buffer.old.items buffer.new.items) }
     ensures same_taken { L.taken link.new ≡ L.taken link.old }
     ensures later { L.faults link.old ≤ L.faults link.new }
     ensures failed { IsErrOf result End.LinkFault → Rose (L.faults link.old) (L.faults link.new) }
@@ -74,9 +76,11 @@ fn end_of(buffer: &[u8]) -> End
 
 /// Reads until the buffer begins with a head. It is parsed again only once a further line has ended.
 fn find_head<L: Link>(link: &mut L, buffer: &mut Vec<u8>) -> Result<Head, End>
+    requires { length buffer.old.items < FILL_BYTES }
     ensures found { MatchResult result
         (λ head. FoundHead (L.left link.old) (L.left link.new) buffer.old.items buffer.new.items head)
         (λ end. Stops (L.left link.old) (L.left link.new) buffer.old.items end) }
+    ensures few { IfOk result (λ head. length buffer.new.items < head.len + FILL_BYTES) }
     ensures same_taken { L.taken link.new ≡ L.taken link.old }
     ensures later { L.faults link.old ≤ L.faults link.new }
     ensures failed { IsErrOf result End.LinkFault → Rose (L.faults link.old) (L.faults link.new) }
@@ -108,9 +112,11 @@ fn find_body<L: Link>(
     requires small { size ≤ BODY_LIMIT }
     requires framed { head.framing ≡ Framing.Body size }
     requires no_origin { head.has_origin ≡ false }
+    requires few { length buffer.old.items < head.len + FILL_BYTES }
     ensures found { MatchResult result
         (λ m. FoundMessage (L.left link.old) (L.left link.new) buffer.old.items buffer.new.items m)
         (λ end. Stops (L.left link.old) (L.left link.new) buffer.old.items end) }
+    ensures few { IfOk result (λ m. length buffer.new.items < m.len + FILL_BYTES) }
     ensures same_taken { L.taken link.new ≡ L.taken link.old }
     ensures later { L.faults link.old ≤ L.faults link.new }
     ensures failed { IsErrOf result End.LinkFault → Rose (L.faults link.old) (L.faults link.new) }
@@ -139,9 +145,11 @@ fn end_of_origin(framing: Framing) -> End
 /// Reads until the buffer begins with a whole message. An error is the end of a connection whose bytes allow it. A head with a
 /// field `Origin` is refused before any byte of its body is waited for.
 pub fn find_message<L: Link>(link: &mut L, buffer: &mut Vec<u8>) -> Result<Message, End>
+    requires { length buffer.old.items < FILL_BYTES }
     ensures found { MatchResult result
         (λ m. FoundMessage (L.left link.old) (L.left link.new) buffer.old.items buffer.new.items m)
         (λ end. Stops (L.left link.old) (L.left link.new) buffer.old.items end) }
+    ensures few { IfOk result (λ m. length buffer.new.items < m.len + FILL_BYTES) }
     ensures same_taken { L.taken link.new ≡ L.taken link.old }
     ensures later { L.faults link.old ≤ L.faults link.new }
     ensures failed { IsErrOf result End.LinkFault → Rose (L.faults link.old) (L.faults link.new) }

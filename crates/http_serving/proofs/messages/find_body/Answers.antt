@@ -8,6 +8,7 @@ use Rattle.http_serving.proofs.messages.find_body.Goals as goal
 pub body-init : goal.body-init
 body-init g c = record {
   grows = grows_none (g.L.Link.left c.args.link.now) c.args.buffer.now.items;
+  few = omega (arith, c.requires.few);
   same_taken = refl;
   later = omega arith;
 }
