@@ -8,8 +8,11 @@ use byte_streams::Failed;
 /// The numbers of the calls that fail, counted from 1, and how many calls were made and failed.
 #[derive(Drop)]
 pub(crate) struct CallCounter {
+    /// The numbers of the calls that fail; a number may be there twice.
     pub fails: Vec<u64>,
+    /// How many calls were made, 2^64 - 1 at most.
     pub calls: u64,
+    /// How many of them failed, 2^64 - 1 at most.
     pub faults: u64,
 }
 

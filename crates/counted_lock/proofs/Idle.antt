@@ -20,6 +20,13 @@ module _ {S E O : Type 0} where
   pub idle_same : (me after : Me S (View E O)) → after ≡ me → IsIdleView me.0 → IsIdleView after.0
   idle_same me after e idle = subst (λ (m : Me S (View E O)). IsIdleView m.0) (sym e) idle
 
+  -- what is left of a seat that gave away the number that it had taken
+  pub idle_given : (n : ℕ) (me after given : Me S (View E O)) → TakesNumber me after (Some n) → given ≡ (without_spare after.0, after.1)
+      → IsIdleView me.0 → IsIdleView given.0
+  idle_given n me after given t e idle = let p = idle.plain in subst (λ (m : Me S (View E O)). IsIdleView m.0) (sym e)
+      (subst (λ (m : Me S (View E O)). IsIdleView (without_spare m.0)) (sym t.0)
+      record { plain = record { numbered = p.numbered; no_spare = refl; few_parts = p.few_parts; not_sole = p.not_sole; not_told = p.not_told }; free = idle.free })
+
 module _ {D E O : Type 0} (entries : D → List E) (origin : D → O) (about : D) where
   pub gives_taken : (id n : ℕ) (me after : Me (Option D) (View E O)) → TakesNumber me after (Some n) → IsIdleView me.0
       → Splits (IsKept entries origin about) id after.0 (without_spare after.0) (new_pass after.0)

@@ -55,8 +55,8 @@ module _ {E O : Type 0} where
     pub each : (k : ℕ) (d : PassState E O) → k < length ps → slice_index_or qs k d ≡ whole (slice_index_or ps k d)
 
 -- What `close` returns: the journal of the object is the history without numbers. The history begins with what each of the passes has
--- seen, and has no entry under the number of a pass that this pass has not seen, and none without a number. No two of the passes have the
--- same number, and the history has no entries under any other number.
+-- seen. Under the number of a pass it has no entry that this pass has not seen, and without a number none but those that each of them has
+-- seen. No two of the passes have the same number, and the history has no entries under any other number.
 pub record IsShared {D E O : Type 0} (entries : D → List E) (object : D) (ps : List (PassState E O)) : Type 0 where
   pub history : List (Stamped E)
   pub journal : entries object ≡ map entry_of history

@@ -189,7 +189,10 @@ fn take_out<D: Journaled<E, O>, E, O>(lock: CountedLock<D, E, O>, all: Place<D, 
     requires fresh { all.me.0.stage ≡ Fresh }
     ensures { LeavesObject D.entries D.origin lock.origin all.me.0 result }
 {
-    let CountedLock { table } = lock;
+    let CountedLock {
+        table,
+        queue: _queue,
+    } = lock;
     let mut closed = table.close_with(all);
     let slot = closed.take(0);
     closed.free();

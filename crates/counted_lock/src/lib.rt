@@ -12,8 +12,10 @@ mod plays;
 mod rule;
 mod steps;
 mod views;
+mod wait_queue;
 
 pub use closing::PassesOut;
 pub use lock::CountedLock;
 pub use pass::{Held, Pass};
 pub use views::{Journaled, Stage, Stamped, View};
+pub use wait_queue::WaitQueue;

@@ -8,6 +8,7 @@ use crate::pass::{Held, Pass};
 use crate::rule::Counting;
 use crate::steps;
 use crate::views::{Journaled, View};
+use crate::wait_queue::WaitQueue;
 use atomic_table::Table;
 use std::alloc::Global;
 use std::marker::Model;
@@ -18,6 +19,7 @@ use std::sync::Wait;
 #[derive(Drop)]
 pub struct CountedLock<D: Journaled<E, O>, E, O> {
     pub(crate) table: Table<Option<D>, View<E, O>, Snapshot<D>, Counting<D, E, O>, Global>,
+    pub(crate) queue: WaitQueue,
 }
 
 impl<D: Journaled<E, O>, E, O> Model for CountedLock<D, E, O> {
@@ -46,7 +48,7 @@ impl<D: Journaled<E, O>, E, O> CountedLock<D, E, O> {
     {
         let board = &self.table.shared;
         let (number, mut seat) = pass.into_seat();
-        steps::take_turn(rt, board, &mut seat);
+        steps::take_turn(rt, board, &self.queue, &mut seat);
         steps::look(board, &mut seat);
         let object = steps::take_object(board, &mut seat);
         (Held::of(number, seat), object)
@@ -67,6 +69,7 @@ impl<D: Journaled<E, O>, E, O> CountedLock<D, E, O> {
         let (number, mut seat) = held.into_seat();
         steps::enter_object(board, &mut seat, object);
         steps::leave(board, &mut seat);
+        self.queue.wake_first();
         Pass::of(number, seat)
     }
 
@@ -83,6 +86,7 @@ impl<D: Journaled<E, O>, E, O> CountedLock<D, E, O> {
         let (number, mut seat) = held.into_seat();
         steps::put_object(board, &mut seat, object);
         steps::leave(board, &mut seat);
+        self.queue.wake_first();
         Pass::of(number, seat)
     }
 }

@@ -6,6 +6,7 @@ ghost use Rattle.counted_lock.specs.Passes.{IsPassOf};
 use crate::lock::CountedLock;
 use crate::pass::Pass;
 use crate::views::Journaled;
+use crate::wait_queue::WaitQueue;
 use atomic_table::{Refused, Table};
 use std::alloc::{AllocFailed, Global};
 use std::snapshot::Snapshot;
@@ -45,11 +46,28 @@ impl<D: Journaled<E, O>, E, O> CountedLock<D, E, O> {
         ensures first { IfOk result (λ r. (r.1.number ≡ 0) × (r.1.seen ≡ map (stamped None) (D.entries object))) }
         ensures err { IfErr result (λ d. d ≡ object) }
     {
+        match WaitQueue::new(alloc) {
+            Some(queue) => CountedLock::open_with(alloc, object, queue),
+            None => Err(object),
+        }
+    }
+
+    /// The same, with this queue, which is empty.
+    fn open_with(
+        alloc: Global,
+        object: D,
+        queue: WaitQueue,
+    ) -> Result<(CountedLock<D, E, O>, Pass<E, O>), D>
+        ensures pass { IfOk result (λ r. IsPassOf r.0 r.1) }
+        ensures origin { IfOk result (λ r. r.0.origin ≡ D.origin object) }
+        ensures first { IfOk result (λ r. (r.1.number ≡ 0) × (r.1.seen ≡ map (stamped None) (D.entries object))) }
+        ensures err { IfErr result (λ d. d ≡ object) }
+    {
         let about = Snapshot::of(&object);
         let count = object.entry_count();
         let slots = alone(alloc, object)?;
         match Table::new(alloc, &[count, 0, 1], slots, &about) {
-            Ok((table, seat)) => Ok((CountedLock { table }, Pass::of(0, seat))),
+            Ok((table, seat)) => Ok((CountedLock { table, queue }, Pass::of(0, seat))),
             Err(Refused { slots }) => Err(only(slots)),
         }
     }

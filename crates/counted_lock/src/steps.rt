@@ -7,11 +7,11 @@ ghost use Rattle.counted_lock.specs.Turns.{IsBoard, SeesWhole, OutWith, EntersOn
 use crate::plays::{Enter, GiveBack, Look, Release, TakeSlot, TakeTurn};
 use crate::rule::Counting;
 use crate::views::{Journaled, View};
+use crate::wait_queue::WaitQueue;
 use atomic_table::{Seat, Shared};
 use std::snapshot::Snapshot;
 use std::sync::Wait;
-use std::thread::{self, Parker};
-use std::time::Duration;
+use std::thread;
 
 /// The table of a lock, as all threads share it.
 pub(crate) type Board<D, E, O> = Shared<Option<D>, View<E, O>, Snapshot<D>, Counting<D, E, O>>;
@@ -28,25 +28,83 @@ pub(crate) const GATE: usize = 1;
 /// The word that counts the passes made, 1 at least.
 pub(crate) const MADE: usize = 2;
 
-/// How many tries a pass makes for the turn, and lets other threads go first after each, before it sleeps between tries.
+/// How many tries a pass makes for the turn, and lets other threads go first after each, before it sleeps in the queue.
 const QUICK_TRIES: u32 = 16;
 
-/// How long it then sleeps between two tries, in microseconds.
-const NAP_MICROS: u64 = 50;
+/// A wait for the turn, of which contracts see nothing.
+#[derive(Drop)]
+struct Waiting {
+    /// Its ticket in the queue; None as long as it is not in it.
+    ticket: Option<u64>,
+    /// How often its place was woken, when it last prepared to sleep; None while it is awake.
+    woken: Option<u64>,
+    /// How many tries it has made since it came, or since it was woken.
+    tries: u32,
+}
 
-/// Lets other threads go first, after so many tries for the turn: for a moment, or once these are many, for `NAP_MICROS`.
-fn let_others_go<R: Wait>(rt: &R, parker: &Parker, tries: u32) {
-    if tries < QUICK_TRIES {
-        thread::yield_now();
-    } else {
-        parker.park_timeout(rt, Duration::from_micros(NAP_MICROS));
+impl Waiting {
+    fn new() -> Waiting {
+        Waiting {
+            ticket: None,
+            woken: None,
+            tries: 0,
+        }
+    }
+
+    /// Whether it may try for the turn.
+    fn may_try(&self, queue: &WaitQueue) -> bool {
+        match self.ticket {
+            Some(ticket) => queue.is_first(ticket),
+            None => queue.is_open(),
+        }
+    }
+
+    /// It has the turn.
+    fn end(&self, queue: &WaitQueue) {
+        if let Some(ticket) = self.ticket {
+            queue.advance(ticket);
+        }
+    }
+
+    /// It does not have the turn, and waits: for a moment; or once its tries were many, it enters the queue, and sleeps after another try.
+    fn wait<R: Wait>(&mut self, rt: &R, queue: &WaitQueue) {
+        if let (Some(ticket), Some(woken)) = (self.ticket, self.woken) {
+            queue.sleep(rt, ticket, woken);
+            self.woken = None;
+            self.tries = 0;
+            return;
+        }
+        if self.tries < QUICK_TRIES && self.may_try_soon(queue) {
+            self.tries += 1;
+            thread::yield_now();
+            return;
+        }
+        let ticket = match self.ticket {
+            Some(ticket) => ticket,
+            None => queue.join(),
+        };
+        self.ticket = Some(ticket);
+        self.woken = Some(queue.prepare_to_sleep(ticket));
+    }
+
+    /// Whether it stays awake after a failed try: outside of the queue, and as the first in it, for which the next turn is then reserved.
+    fn may_try_soon(&self, queue: &WaitQueue) -> bool {
+        match self.ticket {
+            None => true,
+            Some(ticket) if queue.is_first(ticket) => {
+                queue.reserve();
+                true
+            }
+            Some(_) => false,
+        }
     }
 }
 
-/// Waits for the turn: swaps 1 into the gate until it was 0.
+/// Waits for the turn: swaps 1 into the gate until it was 0. The queue says when it tries.
 pub(crate) fn take_turn<E, O, D: Journaled<E, O>, R: Wait>(
     rt: &R,
     board: &Board<D, E, O>,
+    queue: &WaitQueue,
     seat: &mut Place<D, E, O>,
 )
     requires board { IsBoard board.now seat.old.table_id }
@@ -55,14 +113,13 @@ pub(crate) fn take_turn<E, O, D: Journaled<E, O>, R: Wait>(
     ensures same { (seat.new.table_id ≡ seat.old.table_id) × (seat.new.id ≡ seat.old.id) }
     ensures turn { seat.new.me ≡ (staged Turn seat.old.me.0, seat.old.me.1) }
 {
-    let parker = Parker::new();
-    let mut tries = 0u32;
+    let mut waiting = Waiting::new();
     for _ in rt.forever() {
-        if board.swap::<TakeTurn>(seat, GATE, 1) == 0 {
+        if waiting.may_try(queue) && board.swap::<TakeTurn>(seat, GATE, 1) == 0 {
+            waiting.end(queue);
             return;
         }
-        let_others_go(rt, &parker, tries);
-        tries = tries.saturating_add(1);
+        waiting.wait(rt, queue);
     }
     unreachable!()
 }

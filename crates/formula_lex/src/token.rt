@@ -7,7 +7,9 @@ use bt_base::Num;
 /// A part of a text: the bytes from the place `from`, without the one at `to`. Places count from 0.
 #[derive(Clone, Copy, PartialEq, Eq, Debug)]
 pub struct Span {
+    /// The place of its first byte.
     pub from: usize,
+    /// The place after its last byte.
     pub to: usize,
 }
 
@@ -66,8 +68,11 @@ pub enum Kind {
 /// A token, and the part of the text that it is.
 #[derive(Clone, Copy, PartialEq, Eq, Debug)]
 pub struct Token {
+    /// What it is.
     pub kind: Kind,
+    /// The place of its first byte, from 0.
     pub from: usize,
+    /// The place after its last byte.
     pub to: usize,
 }
 

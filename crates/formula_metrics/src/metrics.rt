@@ -11,7 +11,9 @@ use std::alloc::Global;
 /// One metric: its value now, if it has one, and its last samples.
 #[derive(Debug)]
 pub struct MetricPart {
+    /// Its value now; None if it has none.
     pub current: Option<Num>,
+    /// Its last samples, 2,880 at most.
     pub history: History,
 }
 
@@ -27,15 +29,25 @@ impl Drop for MetricPart {
 /// The metrics of a pool.
 #[derive(Debug)]
 pub struct Metrics {
+    /// `$CPUPercent`.
     pub cpu_percent: MetricPart,
+    /// `$ActiveTasks`.
     pub active_tasks: MetricPart,
+    /// `$RunningTasks`.
     pub running_tasks: MetricPart,
+    /// `$PendingTasks`.
     pub pending_tasks: MetricPart,
+    /// `$SucceededTasks`.
     pub succeeded_tasks: MetricPart,
+    /// `$FailedTasks`.
     pub failed_tasks: MetricPart,
+    /// `$TaskSlotsPerNode`.
     pub task_slots_per_node: MetricPart,
+    /// `$CurrentDedicatedNodes`.
     pub current_dedicated_nodes: MetricPart,
+    /// `$CurrentLowPriorityNodes`.
     pub current_low_priority_nodes: MetricPart,
+    /// `$PreemptedNodeCount`.
     pub preempted_node_count: MetricPart,
 }
 

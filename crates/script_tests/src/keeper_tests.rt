@@ -119,122 +119,146 @@ const ONE_TABLES: &str = "tables 0\npool drill active steady 8 0 4 spread\nnode 
     node 6 drill 6 idle\nnode 7 drill 7 idle\nnode 8 drill 8 idle\njob drill drill active 0 -\n\
     task drill 1 completed success 0 0\nrun 1 task 1 drill 1 ended 0\n";
 
-/// Whether a run over the tables that the script left has this status and output, and leaves these tables.
-fn leaves(
-    alloc: Global,
-    script: &str,
-    run: Run,
+/// A run over the tables that a script left, what it writes, and the tables that it leaves.
+#[derive(Clone, Copy)]
+struct Case {
+    before: &'static str,
+    words: &'static [&'static str],
+    input: &'static str,
+    /// The numbers of the calls of source, sink and keeper that fail.
+    fails: [&'static [u64]; 3],
     status: Status,
-    output: &str,
-    kept: &str,
-) -> Result<bool, AllocError> {
-    let outcome = outcome_after(alloc, script, run)?;
+    output: &'static str,
+    kept: &'static str,
+}
+
+/// Whether a run gives and leaves what is expected.
+fn leaves(alloc: Global, case: Case) -> Result<bool, AllocError> {
+    let run = Run {
+        words: case.words,
+        input: case.input.as_bytes(),
+        source_fails: case.fails[0],
+        sink_fails: case.fails[1],
+        keeper_fails: case.fails[2],
+    };
+    let outcome = outcome_after(alloc, case.before, run)?;
     Ok(
-        outcome.status == status
-            && outcome.output.as_slice() == output.as_bytes()
-            && outcome.kept.as_str() == kept,
+        outcome.status == case.status
+            && outcome.output.as_slice() == case.output.as_bytes()
+            && outcome.kept.as_str() == case.kept,
     )
 }
 
-/// A source that fails is not read: the command has none.
+/// Scripts that end at a fault of the sink.
+const CUT_OFF: &[Case] = &[
+    Case {
+        before: "",
+        words: SCRIPT,
+        input: ENDED,
+        fails: [&[], &[1], &[]],
+        status: Status::SinkFault,
+        output: "",
+        kept: POOL_TABLES,
+    },
+    Case {
+        before: "",
+        words: SCRIPT,
+        input: ENDED,
+        fails: [&[], &[2], &[]],
+        status: Status::SinkFault,
+        output: POOL_OUTPUT,
+        kept: JOB_TABLES,
+    },
+];
+
+/// Commands that have no source, so one that fails is not read.
+const WITHOUT_SOURCE: &[Case] = &[
+    Case {
+        before: "",
+        words: DRILL,
+        input: "nonsense",
+        fails: [&[1], &[], &[]],
+        status: Status::Done,
+        output: ONE,
+        kept: ONE_TABLES,
+    },
+    Case {
+        before: "",
+        words: EXPORT,
+        input: "nonsense",
+        fails: [&[1], &[], &[]],
+        status: Status::Done,
+        output: "tables 0\n",
+        kept: "tables 0\n",
+    },
+    Case {
+        before: TAKEN,
+        words: EXPORT,
+        input: "nonsense",
+        fails: [&[1], &[], &[]],
+        status: Status::Done,
+        output: TAKEN_TABLES,
+        kept: TAKEN_TABLES,
+    },
+    Case {
+        before: ENDED,
+        words: EXPORT,
+        input: "nonsense",
+        fails: [&[1], &[], &[]],
+        status: Status::Done,
+        output: ENDED_TABLES,
+        kept: ENDED_TABLES,
+    },
+];
+
+/// Commands whose keeper does not load.
+const NOT_LOADED: &[Case] = &[
+    Case {
+        before: TAKEN,
+        words: EXPORT,
+        input: "",
+        fails: [&[], &[], &[1]],
+        status: Status::KeeperFault,
+        output: "",
+        kept: TAKEN_TABLES,
+    },
+    Case {
+        before: TAKEN,
+        words: DRILL,
+        input: "",
+        fails: [&[], &[], &[1]],
+        status: Status::KeeperFault,
+        output: "",
+        kept: TAKEN_TABLES,
+    },
+];
+
+/// Lines after the opening of the tables of a taken run.
+const LATER: &str = "20 tick\n21 end 1 0\n";
+
+/// A script over the tables of a taken run.
+const OPENED: &[Case] = &[Case {
+    before: TAKEN,
+    words: SCRIPT,
+    input: LATER,
+    fails: [&[], &[], &[]],
+    status: Status::Done,
+    output: OPENED_OUTPUT,
+    kept: OPENED_TABLES,
+}];
+
 #[test]
 fn runs_leave_tables(rt: HostRuntime) -> Result<(), Fail> {
-    let lines = "20 tick\n21 end 1 0\n";
-    let rows: [(&str, &[&str], &str, [&[u64]; 3], Status, &str, &str); 9] = [
-        (
-            "",
-            SCRIPT,
-            ENDED,
-            [&[], &[1], &[]],
-            Status::SinkFault,
-            "",
-            POOL_TABLES,
-        ),
-        (
-            "",
-            SCRIPT,
-            ENDED,
-            [&[], &[2], &[]],
-            Status::SinkFault,
-            POOL_OUTPUT,
-            JOB_TABLES,
-        ),
-        (
-            "",
-            DRILL,
-            "nonsense",
-            [&[1], &[], &[]],
-            Status::Done,
-            ONE,
-            ONE_TABLES,
-        ),
-        (
-            "",
-            EXPORT,
-            "nonsense",
-            [&[1], &[], &[]],
-            Status::Done,
-            "tables 0\n",
-            "tables 0\n",
-        ),
-        (
-            TAKEN,
-            EXPORT,
-            "nonsense",
-            [&[1], &[], &[]],
-            Status::Done,
-            TAKEN_TABLES,
-            TAKEN_TABLES,
-        ),
-        (
-            ENDED,
-            EXPORT,
-            "nonsense",
-            [&[1], &[], &[]],
-            Status::Done,
-            ENDED_TABLES,
-            ENDED_TABLES,
-        ),
-        (
-            TAKEN,
-            EXPORT,
-            "",
-            [&[], &[], &[1]],
-            Status::KeeperFault,
-            "",
-            TAKEN_TABLES,
-        ),
-        (
-            TAKEN,
-            DRILL,
-            "",
-            [&[], &[], &[1]],
-            Status::KeeperFault,
-            "",
-            TAKEN_TABLES,
-        ),
-        (
-            TAKEN,
-            SCRIPT,
-            lines,
-            [&[], &[], &[]],
-            Status::Done,
-            OPENED_OUTPUT,
-            OPENED_TABLES,
-        ),
-    ];
-    for (script, words, input, fails, status, output, kept) in rows {
-        let run = Run {
-            words,
-            input: input.as_bytes(),
-            source_fails: fails[0],
-            sink_fails: fails[1],
-            keeper_fails: fails[2],
-        };
-        assert!(rt;
-            leaves(rt.alloc(), script, run, status, output, kept)?,
-            "{words:?}{output}{kept}"
-        );
+    for cases in [CUT_OFF, WITHOUT_SOURCE, NOT_LOADED, OPENED] {
+        for case in cases {
+            assert!(rt;
+                leaves(rt.alloc(), *case)?,
+                "{:?}{}{}",
+                case.words,
+                case.output,
+                case.kept
+            );
+        }
     }
     Ok(())
 }

@@ -1,8 +1,8 @@
-//! A test of the lock in one thread.
+//! A test of the lock in one thread, and of its line: who waits has the turn in order.
 ghost use Rattle.std.specs.Prelude.{◌≡◌};
 ghost use Rattle.counted_lock.specs.Passes.{IsPassOf};
 
-use counted_lock::{CountedLock, Journaled, Pass, PassesOut};
+use counted_lock::{CountedLock, Journaled, Pass, PassesOut, WaitQueue};
 use std::sync::Wait;
 use std::test::Fail;
 
@@ -91,5 +91,34 @@ fn passes_take_turns_and_close(rt: HostRuntime) -> Result<(), Fail> {
         panic!(rt; "not closed with all passes")
     };
     assert!(rt; numbers.added.as_slice() == [7, 8, 9].as_slice());
+    Ok(())
+}
+
+#[test]
+fn those_who_wait_are_in_order(rt: HostRuntime) -> Result<(), Fail> {
+    let Some(queue) = WaitQueue::new(rt.alloc()) else {
+        panic!(rt; "out of memory")
+    };
+    let tickets = [queue.join(), queue.join(), queue.join()];
+    let at_first = [queue.is_first(0), queue.is_first(1), queue.is_first(2)];
+    // a call that comes before the sleep ends it
+    let woken = queue.prepare_to_sleep(0);
+    queue.wake_first();
+    queue.sleep(&rt, 0, woken);
+    queue.reserve();
+    let is_reserved = !queue.is_open();
+    queue.advance(0);
+    let at_second = [queue.is_first(0), queue.is_first(1), queue.is_first(2)];
+    // the second one is woken, and not the third
+    let woken = queue.prepare_to_sleep(1);
+    let others = queue.prepare_to_sleep(2);
+    queue.wake_first();
+    queue.sleep(&rt, 1, woken);
+    let is_left = queue.prepare_to_sleep(2) == others;
+    queue.advance(1);
+    queue.advance(2);
+    assert!(rt; tickets == [0, 1, 2]);
+    assert!(rt; at_first == [true, false, false] && at_second == [false, true, false]);
+    assert!(rt; is_reserved && is_left && queue.is_open());
     Ok(())
 }

@@ -1,12 +1,11 @@
-//! Tests of the service and of its adapters to the system.
+//! Tests of the service over parts in memory: the shared desk and its lock, runs of child programs and their words, the crew, and the
+//! command `serve`.
 #![tactic(auto)]
 
 #[cfg(test)]
 mod batch_crew_tests;
 #[cfg(test)]
 mod batch_serve_tests;
-#[cfg(test)]
-mod child_programs_tests;
 #[cfg(test)]
 mod child_runs_tests;
 #[cfg(test)]
@@ -15,9 +14,3 @@ mod child_words_tests;
 mod counted_lock_tests;
 #[cfg(test)]
 mod shared_desk_tests;
-#[cfg(test)]
-mod system_clock_tests;
-#[cfg(test)]
-mod tcp_accept_tests;
-#[cfg(test)]
-mod tcp_links_tests;

@@ -86,8 +86,8 @@ pub record LooksAsked (o : Opening) (p q : Caller) (numbers : Result (List ℕ) 
   pub sees : SeesLegal o p q
   pub shown : IfOk numbers (λ shows. shows ≡ asked_runs (tables_after o q.seen))
 
--- The journal is a shared history without numbers. The history begins with what each of these passes has seen, and has no call under the
--- number of a pass that this pass has not seen, and none without a number: these are the calls of the desk's journal at the opening. No two
--- of these passes have the same number, and there are no calls under any other number.
+-- The journal is a shared history without numbers. The history begins with what each of these passes has seen. Under the number of a pass it
+-- has no call that this pass has not seen, and without a number none but those that each of them has seen: the calls of the desk's journal at
+-- the opening. No two of these passes have the same number, and there are no calls under any other number.
 abbrev pub IsSharedJournal : Journal → List Caller → Type 0
 IsSharedJournal journal passes = IsShared (λ (j : Journal). j.entries) journal passes

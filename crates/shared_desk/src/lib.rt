@@ -14,6 +14,6 @@ mod turns;
 
 pub use asker::{Asker, exchanges_stand_in_the_history};
 pub use closing::NotClosed;
-pub use monitor::{CallMonitor, NoMonitor};
+pub use monitor::{CallMonitor, NoMonitor, SeatQueues};
 pub use ordered::Origin;
 pub use shared::{Pass, SharedDesk};

@@ -5,6 +5,7 @@ ghost use Rattle.run_index.specs.Seats.{asked_runs};
 ghost use Rattle.child_words.specs.Queued.{queued_at};
 ghost use Rattle.batch_desk.specs.Answers.{AnswersCall, HasSameOpening, IsInOrder};
 
+use crate::monitor::SeatQueues;
 use batch_desk::{Answer, Desk, Entry};
 use batch_keeper::Keeper;
 use bt_base::{List, Moment, NoMemory};
@@ -63,6 +64,15 @@ impl<K: Keeper + Drop> Journaled<Entry, Origin> for OrderedDesk<K> {
 
     fn entry_count(&self) -> u64 {
         self.desk.entry_count()
+    }
+}
+
+impl<K: Keeper + Drop> SeatQueues for OrderedDesk<K> {
+    fn lowest_number_at(&self, seat: u8) -> Option<u64> {
+        match self.desk.lowest_at(seat) {
+            Some(run) => Some(run.number),
+            None => None,
+        }
     }
 }
 

@@ -88,6 +88,7 @@ impl<K: Keeper + Drop, M: CallMonitor + Drop> SharedDesk<K, M> {
         let mine = mem::replace(pass, Pass::blank());
         let (mine, answer) = self.asked(rt, alloc, mine, moment, event);
         *pass = mine;
+        self.monitor.turn_left();
         answer
     }
 

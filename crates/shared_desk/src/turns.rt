@@ -52,6 +52,7 @@ impl<K: Keeper + Drop, M: CallMonitor + Drop> SharedDesk<K, M> {
         self.monitor.call_begins(moment, &event);
         let answer = desk.call(alloc, moment, event);
         self.monitor.call_answered(desk.entry_count(), &answer);
+        self.monitor.runs_queued(&desk);
         match &answer {
             Answer::Done { .. } => (self.lock.enter(held, desk), answer),
             Answer::KeeperFault => (self.lock.enter(held, desk), answer),
