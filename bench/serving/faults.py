@@ -64,20 +64,28 @@ def fill(name):
                 pass
 
 
-def adds_while_full(service, until, acknowledged):
-    """Tries to add a task every half second; the statuses."""
-    statuses = []
-    while time.monotonic() < until:
-        name = f"full{len(statuses)}"
+class Adding(threading.Thread):
+    """A request to add a task: its status, once it is answered, or how its connection ended."""
+
+    def __init__(self, service, name):
+        super().__init__()
+        self.service, self.name_of_task, self.status = service, name, None
+
+    def run(self):
         try:
-            status = service.ask("POST", "/jobs/j/tasks", {"id": name, "commandLine": "true"}, patience=30)[0]
+            self.status = self.service.ask("POST", "/jobs/j/tasks", {"id": self.name_of_task, "commandLine": "true"}, patience=90)[0]
         except (OSError, http.client.HTTPException) as error:
-            status = repr(error)
-        statuses.append(status)
-        if status == 201:
-            acknowledged.append(name)
+            self.status = repr(error)
+
+
+def adds_while_full(service, until):
+    """Asks to add a task every half second. A request whose call was made is answered only once it is written, so each has a thread."""
+    adding = []
+    while time.monotonic() < until:
+        adding.append(Adding(service, f"full{len(adding)}"))
+        adding[-1].start()
         time.sleep(0.5)
-    return statuses
+    return adding
 
 
 def disk(checks, path, folder):
@@ -113,14 +121,20 @@ def over_small(checks, service, folder, small):
     with open(go, "w", encoding="utf-8"):
         pass
     time.sleep(1)
-    since, spent, acknowledged = time.monotonic(), service.processor_seconds(), []
-    statuses = adds_while_full(service, since + FULL_SECONDS, acknowledged)
+    since, spent = time.monotonic(), service.processor_seconds()
+    adding = adds_while_full(service, since + FULL_SECONDS)
+    early = [each.status for each in adding]
     seconds = time.monotonic() - since
     share = (service.processor_seconds() - spent) / seconds * 100
-    kinds = {status: statuses.count(status) for status in set(statuses)}
-    checks.check(f"disk: while it is full, tasks are refused or acknowledged ({kinds})", set(statuses) <= {201, 500}, statuses)
+    checks.check(f"disk: while it is full, {early.count(500)} tasks are refused, and {early.count(None)} requests wait", set(early) <= {None, 500} and 500 in early, early)
     checks.check(f"disk: the service takes {share:.1f} % of a processor meanwhile, under 5 ({rest:.1f} % before)", share < 5)
     os.remove(os.path.join(small, "fill"))
+    for each in adding:
+        each.join()
+    statuses = [each.status for each in adding]
+    kinds = {status: statuses.count(status) for status in set(statuses)}
+    checks.check(f"disk: after room is made, those that waited are answered: in all {kinds}", set(statuses) <= {201, 500}, statuses)
+    acknowledged = [each.name_of_task for each in adding if each.status == 201]
     made_room(checks, service, acknowledged, before)
     # the log has the place of each call in the journal, and is written a moment after it
     time.sleep(1)
