@@ -4,10 +4,10 @@ import statistics
 import subprocess
 import time
 
-from service import Service, wait_for
+from service import Service, is_there, shell, text_of, wait_for
 
 NODES, COLLECTION, ROUNDS = 8, 100, 3
-SECONDS_AT_REST = 3
+SECONDS_AT_REST, STARTS, SECONDS_BETWEEN = 3, 20, 0.4
 CONNECTIONS = (1, 4, 16)
 
 
@@ -79,7 +79,7 @@ def children_round(path, plain, folder, number, count):
         rates[name] = count / run_children(service, count)
         spent = (service.processor_seconds() - before) / count * 1e6
         print(f"round {number}, {name}: {spent:.0f} us of processor time a child program in the service itself, "
-              f"{service.status_line('VmHWM') / 1024:.0f} MB at most; at rest {empty:.0f} % of a processor before, and {rest(service):.0f} % after", flush=True)
+              f"{service.status_line('VmHWM') / 1024:.0f} MB at most; at rest {empty:.1f} % of a processor before, and {rest(service):.1f} % after", flush=True)
         service.kill()
     return rates
 
@@ -101,6 +101,31 @@ def children(path, plain, folder, count):
     print(f"medians: {told({name: statistics.median(each[name] for each in rounds) for name in rounds[0]})}, load {os.getloadavg()[0]:.1f}", flush=True)
 
 
+def started_after(service, client, folder, name):
+    """How long it is from before the request that adds a task to what its child program tells as its time, in milliseconds."""
+    told = os.path.join(folder, name)
+    since = time.time_ns()
+    client.add("/jobs/j/tasks", {"id": name, "commandLine": shell(f"date +%s%N > {told}.new; mv {told}.new {told}")})
+    if not is_there(told):
+        raise RuntimeError(f"the task {name} was not started")
+    return (int(text_of(told)) - since) / 1e6
+
+
+def starts(path, folder):
+    """Prints how soon an idle service starts a task, and what it takes at rest."""
+    for name, words in (("memory", []), ("store", ["--store", "night.db"])):
+        service = begun(path, folder, f"starts-{name}", *words)
+        with service.client() as client:
+            client.ask("POST", "/jobs/j/enable")
+            times = []
+            for number in range(1, STARTS + 1):
+                time.sleep(SECONDS_BETWEEN)
+                times.append(started_after(service, client, folder, f"{name}{number}"))
+        print(f"{name}: from the request that adds a task to an idle service to its child program {statistics.median(times):.1f} ms, "
+              f"{min(times):.1f} to {max(times):.1f}, of {STARTS}; at rest {rest(service):.1f} % of a processor, load {os.getloadavg()[0]:.1f}", flush=True)
+        service.kill()
+
+
 def requests(path, plain, folder, count):
     """Prints how many requests are answered in a second."""
     for name, words in (("memory", []), ("store", ["--store", "night.db"])):
@@ -111,5 +136,5 @@ def requests(path, plain, folder, count):
                 print(f"{name}, {text}, {connections} connections: {statistics.median(rates):.0f} a second, in rounds "
                       f"{', '.join(f'{rate:.0f}' for rate in rates)}, load {os.getloadavg()[0]:.1f}", flush=True)
         tasks = sum(service.counts("j")[state] for state in ("active", "running", "completed"))
-        print(f"{name}: {tasks} tasks, {service.status_line('VmHWM') / 1024:.0f} MB at most; at rest {rest(service):.0f} % of a processor", flush=True)
+        print(f"{name}: {tasks} tasks, {service.status_line('VmHWM') / 1024:.0f} MB at most; at rest {rest(service):.1f} % of a processor", flush=True)
         service.kill()

@@ -1,1 +1,2 @@
+mod Roles
 mod Sends

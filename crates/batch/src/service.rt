@@ -9,7 +9,7 @@ mod workers;
 use crate::service::apart::{Ending, wait_for_end};
 use crate::service::host::Host;
 use crate::service::serving::{serve_in_memory, serve_in_store};
-use crate::stores::{open_store, warn_of_moment};
+use crate::stores::{close_store, open_store, warn_of_moment};
 use batch_serve::ServeStatus;
 use bt_base::{Word, text_of};
 use byte_streams::Sink;
@@ -71,12 +71,12 @@ impl From<AllocError> for ServeFault {
     }
 }
 
-/// Does the command over the tables that the store at the path has, in this thread.
+/// Does the command over the tables that the store at the path has, in this thread. The store is closed in the end, also if the service cannot begin.
 fn serve_store<R: Host + Send + Sync + 'static, W: Sink>(
     rt: &R,
     host: &HostRuntime,
     command: StoreCommand<'_>,
-    ending: &Ending,
+    ending: &Ending<R>,
     sink: &mut W,
 ) -> Result<ServeStatus, ServeFault>
 where
@@ -87,14 +87,17 @@ where
         options,
         path,
     } = command;
-    let mut store = match open_store(host, &path, OpenMode::MakeIfMissing) {
+    let mut store = match open_store(rt, host, &path, OpenMode::MakeIfMissing) {
         Ok(store) => store,
         Err(error) => return Err(ServeFault::Store { path, error }),
     };
-    warn_of_moment(host, &mut store);
-    ending.watch(rt, store.health())?;
+    warn_of_moment(rt, &mut store);
+    if let Err(fault) = ending.watch(rt, store.sync()) {
+        close_store(rt, store);
+        return Err(ServeFault::Start(fault));
+    }
     let path = text_of(path.as_bytes()).unwrap_or("");
-    Ok(serve_in_store(rt, host, words, options, sink, store, path)?)
+    Ok(serve_in_store(rt, words, options, sink, store, path)?)
 }
 
 /// Does the command, in this thread.
@@ -102,7 +105,7 @@ fn serve_here<R: Host + Send + Sync + 'static, W: Sink>(
     rt: &R,
     host: &HostRuntime,
     command: ServeCommand,
-    ending: &Ending,
+    ending: &Ending<R>,
     sink: &mut W,
 ) -> Result<ServeStatus, ServeFault>
 where

@@ -20,9 +20,10 @@ pub(crate) fn now(rt: &impl Clock) -> Moment {
     }
 }
 
-/// The moment as an instant of ISO 8601 in UTC with milliseconds, as `2026-11-30T22:15:03.120Z`.
-pub(crate) fn instant_text(alloc: Global, moment: Moment) -> Result<String, AllocError> {
-    let ms = moment.ms();
+/// These milliseconds since 1970 as an instant of ISO 8601 in UTC, as `2026-11-30T22:15:03.120Z`. A moment after the year 9999 counts as its
+/// last one. The only error is out of memory.
+pub fn instant_text(alloc: Global, ms: u64) -> Result<String, AllocError> {
+    let ms = ms.min(LAST_MOMENT_MS);
     let date = civil((ms * 10_000) as i64);
     let (year, month, day) = (date.year, date.month, date.day);
     let (hour, minute, second) = (date.hour, date.minute, date.second);

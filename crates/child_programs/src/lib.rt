@@ -22,6 +22,7 @@ mod table;
 mod waits;
 
 pub use folders::ServiceFolders;
+pub use instants::instant_text;
 pub use monitor::StartMonitor;
 pub use spawner::ProgramSpawner;
 pub use stopper::ProgramStopper;

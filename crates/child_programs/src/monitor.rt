@@ -1,8 +1,13 @@
 //! What is told of starts.
 use std::io;
 
-/// What is told of child programs that cannot be started yet, and of the list of runs. No clause speaks of it.
+/// What lets child programs be started, and is told of those that cannot be yet, and of the list of runs. No clause speaks of it.
 pub trait StartMonitor {
+    /// The child program of the run with this number is about to be started. It may wait; the run ends as not started if it returns false.
+    fn before_start(&self, _number: u64) -> bool {
+        true
+    }
+
     /// The child program of the run with this number cannot be started yet, for this cause; its start is tried again for up to 10
     /// minutes. It is told once for each start that waits.
     fn start_waits(&self, number: u64, cause: io::Error);

@@ -23,6 +23,8 @@ pub(crate) enum NotStarted {
     Refused(io::Error),
     /// It was tried for 10 minutes, and failed for this cause at last.
     GivenUp(io::Error),
+    /// The service did not let it be started, since what is known of the run could not be saved.
+    Unsaved,
 }
 
 /// Whether the error of a start lies in the command line: a program that is not there or may not be executed, a file that is no
@@ -71,6 +73,7 @@ impl fmt::Display for NotStarted {
                 None => write!(f, "{error}"),
             },
             NotStarted::GivenUp(error) => write!(f, "it was tried for 10 minutes: {error}"),
+            NotStarted::Unsaved => f.write_str("the run could not be saved in the store"),
         }
     }
 }

@@ -135,9 +135,9 @@ impl EndedRun<'_> {
 
     /// Adds the fields of when and how it ended, and of its command line.
     fn push_end(&self, alloc: Global, fields: &mut Vec<Vec<u8>>) -> Result<(), AllocError> {
-        let began = instant_text(alloc, self.began)?;
+        let began = instant_text(alloc, self.began.ms())?;
         push(fields, alloc, began.as_str().as_bytes())?;
-        let ended = instant_text(alloc, self.ended)?;
+        let ended = instant_text(alloc, self.ended.ms())?;
         push(fields, alloc, ended.as_str().as_bytes())?;
         push(fields, alloc, ending_text(self.how).as_bytes())?;
         let code = code_text(alloc, self.how)?;

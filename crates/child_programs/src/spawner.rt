@@ -99,8 +99,11 @@ impl<
         }
     }
 
-    /// Starts the child program of a run, again after each fault that passes, for 10 minutes.
+    /// Starts the child program of a run once the monitor lets it, again after each fault that passes, for 10 minutes.
     fn attempts(&self, alloc: Global, start: &Start<'_>, number: u64) -> Result<Child, StartFault> {
+        if !self.monitor.before_start(number) {
+            return Err(StartFault::NotStarted(NotStarted::Unsaved));
+        }
         for earlier in 0..WAITS {
             match start.attempt(&self.rt, alloc) {
                 Err(StartFault::Passing(cause)) => self.pause(number, earlier, cause),
@@ -199,6 +202,8 @@ impl<
     /// other words as its arguments. The program is looked up in PATH if the word has no slash; a relative folder in PATH is in the working
     /// folder. A relative path with a slash is in the service's folder. The environment is that of the service with the names of the run
     /// and of its folders.
+    ///
+    /// The monitor is asked first, and may wait. Returns `NotStarted` if it does not let the child program be started.
     ///
     /// If the folders, the files or the child program cannot be made for a cause that passes, as a full disk, or too many open files or
     /// processes, the start is tried again for 10 minutes. Returns `NotStarted` after that, and at once if there is no word, if a word

@@ -1,6 +1,8 @@
 //! The clocks of workers.
 ghost use Rattle.std.specs.Prelude.{◌≡◌, ⊤, false, IfOk};
 
+use crate::ticks::TickTimes;
+use crate::wakes::Wakes;
 use crate::writer::LogWriter;
 use bt_base::{Moment, NoMemory};
 use bt_clock::Clock;
@@ -14,31 +16,56 @@ use std::sync::{Arc, Wait};
 use std::time::Clock as Time;
 use system_clock::SystemClock;
 
-/// How long a worker pauses that has nothing to do, in milliseconds.
+/// How long the timer pauses at least, in milliseconds, and a lane at first while the last write to the store failed.
 pub const PAUSE_MS: u64 = 50;
+
+/// How long a lane or the timer pauses at most while writes to the store succeed and nothing wakes it, in milliseconds.
+const REST_MS: u64 = 1_000;
 
 /// How many pauses the timer makes at least after the input of a child program was open, so that one that a lane is about to start keeps it.
 const QUIET_PAUSES: u32 = 40;
 
 /// How long a lane pauses at most while the last write to the store failed, in milliseconds.
-pub const LAST_PAUSE_MS: u64 = 5_000;
+const LAST_PAUSE_MS: u64 = 5_000;
+
+/// What a pause of a lane waits for.
+#[derive(Drop)]
+pub struct LaneWait {
+    /// What wakes it.
+    pub wakes: Arc<Wakes>,
+    /// Its seat.
+    pub seat: u8,
+    /// Whether the last write to the store failed; None without a store.
+    pub health: Option<StoreHealth>,
+}
+
+/// What a pause of the timer waits for, and the child programs for which it goes on.
+#[derive(Drop)]
+pub struct TimerWait {
+    /// What wakes it.
+    pub wakes: Arc<Wakes>,
+    /// The child programs.
+    pub table: Arc<ProgramTable>,
+}
 
 /// What the pauses of a worker depend on.
 #[derive(Drop)]
 enum Role<R: Wait + Files<File = File> + Eprint + Drop> {
-    /// A lane: it pauses longer while the last write to the store failed.
+    /// A lane: it pauses until it is woken, and longer while the last write to the store failed.
     Lane {
-        /// Whether the last write to the store failed; None without a store.
-        health: Option<StoreHealth>,
+        /// What it waits for.
+        wait: LaneWait,
         /// How long its last pause took beyond `PAUSE_MS`, in milliseconds; 0 while writes succeed.
         extra_ms: u64,
     },
     /// The timer: it writes the log, and goes on while the input of a child program is open.
     Timer {
-        /// The child programs.
-        table: Arc<ProgramTable>,
+        /// What it waits for.
+        wait: TimerWait,
         /// What writes the log.
         log: LogWriter<R>,
+        /// When it ticks.
+        ticks: TickTimes,
         /// How many pauses it has made since the input of a child program was open.
         quiet: u32,
     },
@@ -46,8 +73,10 @@ enum Role<R: Wait + Files<File = File> + Eprint + Drop> {
     Door,
 }
 
-/// The clock of a worker, over the clock of the system. It pauses for `PAUSE_MS`. A lane pauses longer while the last write to the store failed:
-/// twice as long each time, up to `LAST_PAUSE_MS`. A pause of the timer writes the log of calls.
+/// The clock of a worker, over the clock of the system. A lane pauses until it is woken, and for `REST_MS` at most; and while the last write to
+/// the store failed, for more than `PAUSE_MS`, which nothing ends early: twice as long each time, up to `LAST_PAUSE_MS`. A pause of the timer
+/// writes the log of calls, lasts `PAUSE_MS`, and then until it is woken or a tick is due, for `REST_MS` in all at most. Once all listeners have
+/// ended, a lane does not pause, and the timer for `PAUSE_MS`.
 ///
 /// The service is to end once all its listeners have ended; the timer only when no input of a child program was open for a while either, so that
 /// child programs are asked to stop to the end. Contracts see it as whether one of its pauses has returned false.
@@ -80,29 +109,18 @@ impl<R: Time + Wait + Files<File = File> + Eprint + Copy + Drop> WorkerClock<R> 
         })
     }
 
-    /// The clock of a lane. `health` tells whether the last write to the store failed, if there is one. The only error is out of memory.
-    pub fn lane(
-        rt: R,
-        inner: &SystemClock<R>,
-        health: Option<StoreHealth>,
-    ) -> Result<WorkerClock<R>, NoMemory>
+    /// The clock of a lane. The only error is out of memory.
+    pub fn lane(rt: R, inner: &SystemClock<R>, wait: LaneWait) -> Result<WorkerClock<R>, NoMemory>
         ensures { IfOk result (λ c. c ≡ false) }
     {
-        WorkerClock::of(
-            rt,
-            inner,
-            Role::Lane {
-                health,
-                extra_ms: 0,
-            },
-        )
+        WorkerClock::of(rt, inner, Role::Lane { wait, extra_ms: 0 })
     }
 
     /// The clock of the timer, whose pauses write the log. The only error is out of memory.
     pub fn timer(
         rt: R,
         inner: &SystemClock<R>,
-        table: Arc<ProgramTable>,
+        wait: TimerWait,
         log: LogWriter<R>,
     ) -> Result<WorkerClock<R>, NoMemory>
         ensures { IfOk result (λ c. c ≡ false) }
@@ -111,8 +129,9 @@ impl<R: Time + Wait + Files<File = File> + Eprint + Copy + Drop> WorkerClock<R> 
             rt,
             inner,
             Role::Timer {
-                table,
+                wait,
                 log,
+                ticks: TickTimes::new(),
                 quiet: 0,
             },
         )
@@ -145,27 +164,58 @@ fn next_extra_ms(last_ms: u64, is_failing: bool) -> u64 {
     }
 }
 
+/// Waits as a lane does whose pause takes so much longer than `PAUSE_MS` since writes fail, or 0.
+fn wait_as_lane<R: Time + Wait + Drop>(
+    rt: &R,
+    inner: &SystemClock<R>,
+    wait: &LaneWait,
+    extra_ms: u64,
+) {
+    if extra_ms > 0 {
+        inner.sleep_ms(extra_ms.saturating_add(PAUSE_MS));
+    } else if !inner.is_ending() {
+        wait.wakes.wait_at(rt, wait.seat, REST_MS);
+    }
+}
+
 impl<R: Time + Wait + Files<File = File> + Eprint + Drop> Role<R> {
-    /// Does what the worker does in a pause. Returns how long the pause takes, in milliseconds.
-    fn begin_pause(&mut self) -> u64 {
+    /// Does what the worker does in a pause, and waits.
+    fn wait(&mut self, rt: &R, inner: &SystemClock<R>) {
         match self {
-            Role::Lane { health, extra_ms } => {
-                *extra_ms = next_extra_ms(*extra_ms, is_failing(health));
-                extra_ms.saturating_add(PAUSE_MS)
+            Role::Lane { wait, extra_ms } => {
+                *extra_ms = next_extra_ms(*extra_ms, is_failing(&wait.health));
+                wait_as_lane(rt, inner, wait, *extra_ms);
             }
-            Role::Timer { log, .. } => {
+            Role::Timer {
+                wait,
+                log,
+                ticks,
+                ..
+            } => {
                 log.write();
-                PAUSE_MS
+                inner.sleep_ms(PAUSE_MS);
+                let rest_ms = ticks.ms_to_tick().clamp(PAUSE_MS, REST_MS) - PAUSE_MS;
+                if rest_ms > 0 && !inner.is_ending() {
+                    wait.wakes.wait_for_call(rt, rest_ms);
+                }
             }
-            Role::Door => PAUSE_MS,
+            Role::Door => inner.sleep_ms(PAUSE_MS),
+        }
+    }
+
+    /// Notes a moment that the worker is given.
+    fn note(&mut self, moment: Moment) {
+        match self {
+            Role::Timer { ticks, .. } => ticks.note(moment),
+            Role::Lane { .. } | Role::Door => {}
         }
     }
 
     /// Whether the worker goes on, though all listeners have ended.
     fn goes_on(&mut self, rt: &R) -> bool {
         match self {
-            Role::Timer { table, quiet, .. } => {
-                *quiet = if table.has_open(rt) {
+            Role::Timer { wait, quiet, .. } => {
+                *quiet = if wait.table.has_open(rt) {
                     0
                 } else {
                     quiet.saturating_add(1)
@@ -185,13 +235,14 @@ impl<R: Time + Wait + Files<File = File> + Eprint + Drop> Clock for WorkerClock<
     ghost has_ended = { λ c. c };
 
     fn now(&mut self) -> Moment {
-        self.inner.now()
+        let moment = self.inner.now();
+        self.role.note(moment);
+        moment
     }
 
-    /// Sleeps for the time of a pause, and then returns false if the worker is to end.
+    /// Waits, and then returns false if the worker is to end.
     fn pause(&mut self) -> bool {
-        let pause_ms = self.role.begin_pause();
-        self.inner.sleep_ms(pause_ms);
+        self.role.wait(&self.rt, &self.inner);
         if self.inner.is_ending() && !self.role.goes_on(&self.rt) {
             self.has_ended = true;
             return false;

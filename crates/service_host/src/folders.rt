@@ -1,7 +1,6 @@
 //! The folders and files of a service.
-use bt_base::{LAST_MOMENT_MS, NoMemory};
-use bt_times::civil;
-use child_programs::ServiceFolders;
+use bt_base::NoMemory;
+use child_programs::{ServiceFolders, instant_text};
 use std::alloc::{AllocError, Global};
 use std::rt::Files;
 use std::{fs, io};
@@ -9,14 +8,12 @@ use std::{fs, io};
 /// The folder with the folders of services without a store, in the folder of the service.
 const RUNS_FOLDER: &str = "batch-runs";
 
-/// This moment in names of files, in UTC: as `20261130T221503.120Z`, for milliseconds since 1970. A moment after the year 9999 counts as its last one.
+/// This moment in names of files, in UTC: as `20261130T221503.120Z`, for milliseconds since 1970. A moment after the year 9999 counts as its last
+/// one. The only error is out of memory.
 pub fn file_instant(alloc: Global, ms: u64) -> Result<String, AllocError> {
-    let ms = ms.min(LAST_MOMENT_MS);
-    let date = civil((ms * 10_000) as i64);
-    let (year, month, day) = (date.year, date.month, date.day);
-    let (hour, minute, second) = (date.hour, date.minute, date.second);
-    let rest = ms % 1_000;
-    format!(in alloc; "{year:04}{month:02}{day:02}T{hour:02}{minute:02}{second:02}.{rest:03}Z")
+    let instant = instant_text(alloc, ms)?;
+    let without_hyphens = instant.as_str().replace(alloc, '-', "")?;
+    without_hyphens.as_str().replace(alloc, ':', "")
 }
 
 /// The folder of the runs of a service: beside its store, or in `batch-runs` with the instant of its start as its name.

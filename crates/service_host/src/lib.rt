@@ -7,15 +7,22 @@ mod clock;
 mod folders;
 mod log;
 mod monitor;
+mod queues;
 mod reports;
 mod requests;
+mod semaphore;
 mod threads;
+mod ticks;
+mod wakes;
+#[cfg(test)]
+mod wakes_tests;
 mod writer;
 
-pub use clock::{LAST_PAUSE_MS, PAUSE_MS, WorkerClock};
+pub use clock::{LaneWait, PAUSE_MS, TimerWait, WorkerClock};
 pub use folders::{file_instant, log_path, make_folders, runs_path};
 pub use log::{CallLog, LogLines};
 pub use monitor::HostMonitor;
-pub use reports::Reports;
+pub use reports::{Reports, ServiceReports};
 pub use threads::has_threads;
+pub use wakes::Wakes;
 pub use writer::LogWriter;

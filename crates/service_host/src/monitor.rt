@@ -1,12 +1,13 @@
 //! What a service tells of itself while it runs.
 use crate::log::CallLog;
+use crate::wakes::Wakes;
 use batch_crew::LaneEnd;
 use batch_desk::Answer;
 use batch_serve::ServiceMonitor;
 use bt_base::Moment;
 use bt_rows::event::Event;
 use http_doors::DoorEnd;
-use shared_desk::CallMonitor;
+use shared_desk::{CallMonitor, SeatQueues};
 use std::io::Eprint;
 use std::sync::atomic::{AtomicBool, Ordering};
 use std::sync::{Arc, Wait};
@@ -26,27 +27,31 @@ fn reason_of(end: LaneEnd) -> Option<&'static str> {
 
 /// The monitor of a service: it logs each call, and says on standard error what else a user should know of: that nine tenths of the journal
 /// are used, and why a lane, the timer or a door ended otherwise than asked. If the timer ended so, the flag `stopping` is raised. Faults of
-/// standard error change nothing.
+/// standard error change nothing. It notes in the turn of a call which lanes are to be woken, and wakes them and the timer after it, and all of them when a
+/// door ends.
 #[derive(Drop)]
 pub struct HostMonitor<R: Wait + Eprint + Drop> {
     rt: R,
     log: Arc<CallLog>,
+    wakes: Arc<Wakes>,
     journal_limit: u64,
     is_journal_low: AtomicBool,
     stopping: Arc<AtomicBool>,
 }
 
 impl<R: Wait + Eprint + Drop> HostMonitor<R> {
-    /// A monitor that logs into this log. The journal has `journal_limit` entries at most. It does not allocate.
+    /// A monitor that logs into this log, and wakes these lanes and this timer. The journal has `journal_limit` entries at most. It does not allocate.
     pub fn new(
         rt: R,
         log: Arc<CallLog>,
+        wakes: Arc<Wakes>,
         journal_limit: u32,
         stopping: Arc<AtomicBool>,
     ) -> HostMonitor<R> {
         HostMonitor {
             rt,
             log,
+            wakes,
             journal_limit: u64::from(journal_limit),
             is_journal_low: AtomicBool::new(false),
             stopping,
@@ -68,11 +73,21 @@ impl<R: Wait + Eprint + Drop> HostMonitor<R> {
 impl<R: Wait + Eprint + Drop> CallMonitor for HostMonitor<R> {
     fn call_begins(&self, moment: Moment, event: &Event) {
         self.log.begin(&self.rt, moment, event);
+        self.wakes.begin(&self.rt, event);
     }
 
     fn call_answered(&self, entries: u64, answer: &Answer) {
         self.log.end(&self.rt, entries, answer);
+        self.wakes.answer(&self.rt, answer);
         self.watch_journal(entries);
+    }
+
+    fn runs_queued<Q: SeatQueues>(&self, queues: &Q) {
+        self.wakes.look(&self.rt, queues);
+    }
+
+    fn turn_left(&self) {
+        self.wakes.wake(&self.rt);
     }
 }
 
@@ -93,6 +108,7 @@ impl<R: Wait + Eprint + Drop> ServiceMonitor for HostMonitor<R> {
     }
 
     fn door_ended(&self, end: DoorEnd) {
+        self.wakes.wake_all(&self.rt);
         if end.failed {
             let _ = self.rt.eprintln(
                 "batch: a door ended: a connection could not be accepted; start the service again",

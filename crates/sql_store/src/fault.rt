@@ -1,22 +1,24 @@
 //! Why a write or a close failed.
 use crate::error::answer_after;
 use batch_keeper::KeepError;
+use bt_base::NoMemory;
 use sqlite::{Error, ErrorCode};
 use std::fmt;
 
-/// Why a write failed. None of its edits is in the file then, but after `Shut`, when the file has all of them or none.
+/// Why writes failed. None of their edits is in the file then, but after `Shut`, when the file has all of them or none. They are kept, and those
+/// who wait for them try again, but after `Shut`; until that succeeds, further writes are refused.
 #[derive(Clone, Copy, Debug, PartialEq, Eq)]
 pub enum WriteFault {
-    /// The disk has no room for the log or the file. The next write tries again.
+    /// The disk has no room for the log or the file.
     DiskFull,
-    /// The system did not write the log or the file. The next write tries again.
+    /// The system did not write the log or the file.
     CannotWrite,
-    /// Another process has the file. The next write tries again.
+    /// Another process has the file.
     Busy,
-    /// The disk did not confirm a write: the store does nothing more, and answers each call with a fault until it is opened again. What
-    /// earlier writes that answered `Ok` wrote is in the file.
+    /// The disk did not confirm a write: the store does nothing more, and answers each call with a fault until it is opened again. The
+    /// writes that were waited for are in the file.
     Shut,
-    /// A row or a number is greater than a file can have. The next write tries again.
+    /// A row or a number is greater than a file can have: the write is refused, and the next one is not.
     TooLarge,
     /// What was read back is not what was written.
     Damaged,
@@ -72,6 +74,22 @@ pub enum WriteError {
     Memory,
 }
 
+impl WriteError {
+    /// What the write answers.
+    pub(crate) fn answer(&self) -> KeepError {
+        match self {
+            WriteError::Fault(_) => KeepError::Failed,
+            WriteError::Memory => KeepError::Memory,
+        }
+    }
+}
+
+impl From<NoMemory> for WriteError {
+    fn from(_: NoMemory) -> WriteError {
+        WriteError::Memory
+    }
+}
+
 impl From<Error> for WriteError {
     fn from(error: Error) -> WriteError {
         match answer_after(error) {
@@ -81,13 +99,15 @@ impl From<Error> for WriteError {
     }
 }
 
-/// Why the log was not copied into the file at a close. Nothing is lost: the log beside the file has what was written.
+/// Why a store was not closed as it should be.
 #[derive(Clone, Copy, Debug, PartialEq, Eq)]
 pub enum CloseError {
-    /// The file or its disk failed.
+    /// The file or its disk failed when the log was to be copied. Nothing is lost: the log beside the file has what was written.
     Fault(WriteFault),
-    /// Memory ran out.
+    /// Memory ran out when the log was to be copied. Nothing is lost either.
     Memory,
+    /// So many writes are not in the file, the last ones, since it could not be written.
+    Unwritten(u64),
 }
 
 impl From<Error> for CloseError {
@@ -105,6 +125,10 @@ impl fmt::Display for CloseError {
         match self {
             CloseError::Fault(fault) => write!(f, "{fault}")?,
             CloseError::Memory => f.write_str("out of memory: give the program more memory")?,
+            CloseError::Unwritten(count) => return write!(
+                f,
+                "it could not be written for a minute, or is shut; the last {count} saves are not in it: calls and steps of which nothing was shown yet"
+            ),
         }
         f.write_str(
             "; nothing is lost: the log beside the file, whose name ends in -wal, has what was saved, and the next start finds it",

@@ -3,19 +3,23 @@ ghost use Rattle.std.specs.Prelude.{◌≡◌, ◌≤◌, ◌+◌, ◌-◌, ◌^
 ghost use Rattle.batch_keeper.specs.Told.{FailsWithCause};
 
 use crate::error::OpenError;
-use crate::fault::{CloseError, WriteError, WriteFault};
+use crate::fault::{CloseError, WriteError};
 use crate::health::StoreHealth;
 use crate::look::{Found, look};
 use crate::monitor::{StoreMonitor, Watch};
+use crate::queue::OpenFile;
 use crate::reading::{ReadError, ReadFault, next_place, read_all, read_metas};
 use crate::schema::{Content, content_of};
 use crate::statements::{Statements, make_tables, prepare_all};
-use crate::writing::write_all;
+use crate::sync::StoreSync;
+use crate::writing::{CopiedEdits, copy_edits};
 use batch_keeper::KeepError;
 use keeper_store::{Edit, Store, Stored};
 use sqlite::{Alter, Connection, Error, ErrorCode, File, FileStore};
 use std::alloc::Global;
 use std::marker::Model;
+use std::sync::Wait;
+use std::time::Clock;
 
 /// Whether an open may make a file or its tables.
 #[derive(Clone, Copy, Debug, PartialEq, Eq)]
@@ -26,32 +30,33 @@ pub enum OpenMode {
     MustExist,
 }
 
-/// A store in a file of SQL. Contracts see how many faults it counted.
-pub struct SqlStore<M: StoreMonitor + Drop> {
-    connection: Connection<FileStore<File>>,
-    statements: Statements,
-    place: u64,
+/// How long a read and a close wait at most for writes that fail, in milliseconds.
+const LAST_WAIT_MS: u64 = 60_000;
+
+/// A store in a file of SQL. A write that answers `Ok` is in the file once `sync` has waited for it. Contracts see how many faults it counted.
+pub struct SqlStore<R: Drop, M: StoreMonitor + Drop> {
+    rt: R,
+    sync: StoreSync<M>,
+    health: StoreHealth,
     faults: u64,
     is_new: bool,
-    watch: Watch<M>,
     read_fault: Option<ReadFault>,
 }
 
-impl<M: StoreMonitor + Drop> Drop for SqlStore<M> {
+impl<R: Drop, M: StoreMonitor + Drop> Drop for SqlStore<R, M> {
     fn drop(self) {
         let SqlStore {
-            connection: _connection,
-            statements: _statements,
-            place: _,
+            rt: _rt,
+            sync: _sync,
+            health: _health,
             faults: _,
             is_new: _,
-            watch: _watch,
             read_fault: _read_fault,
         } = self;
     }
 }
 
-impl<M: StoreMonitor + Drop> Model for SqlStore<M> {
+impl<R: Drop, M: StoreMonitor + Drop> Model for SqlStore<R, M> {
     ghost use Rattle.std.specs.Prelude.{ℕ};
 
     ghost Value = { ℕ };
@@ -118,50 +123,11 @@ fn begin<S: Alter>(
     prepare(connection).map_err(OpenError::of_sql)
 }
 
-/// A file that is open as a store.
-struct OpenedFile {
-    connection: Connection<FileStore<File>>,
-    statements: Statements,
-    place: u64,
-}
-
-impl Drop for OpenedFile {
-    fn drop(self) {
-        let OpenedFile {
-            connection: _connection,
-            statements: _statements,
-            place: _,
-        } = self;
-    }
-}
-
-impl OpenedFile {
-    /// The store of the file, as which this was found.
-    fn into_store<M: StoreMonitor + Drop>(self, watch: Watch<M>, found: Found) -> SqlStore<M>
-        ensures { result ≡ 0 }
-    {
-        let OpenedFile {
-            connection,
-            statements,
-            place,
-        } = self;
-        SqlStore {
-            connection,
-            statements,
-            place,
-            faults: 0,
-            is_new: found != Found::Store,
-            watch,
-            read_fault: None,
-        }
-    }
-}
-
 /// Opens the file, at whose path this was found, and makes its tables if it has none.
-fn open_file(rt: &HostRuntime, path: &str, found: Found) -> Result<OpenedFile, OpenError> {
+fn open_file(rt: &HostRuntime, path: &str, found: Found) -> Result<OpenFile, OpenError> {
     let mut connection = connect(rt, path, found)?;
     match begin(&mut connection, found) {
-        Ok((statements, place)) => Ok(OpenedFile {
+        Ok((statements, place)) => Ok(OpenFile {
             connection,
             statements,
             place,
@@ -173,39 +139,37 @@ fn open_file(rt: &HostRuntime, path: &str, found: Found) -> Result<OpenedFile, O
     }
 }
 
-/// Whether the connection answers nothing any more, since its disk did not confirm a write. It reads no row.
-fn is_shut<S: Alter>(connection: &mut Connection<S>) -> bool {
-    match connection.prepare("SELECT 1") {
-        Ok(statement) => {
-            drop(statement);
-            false
-        }
-        Err(error) => error == Error::SqliteFailure(ErrorCode::Closed),
-    }
-}
-
-impl<M: StoreMonitor + Drop> SqlStore<M> {
-    /// Opens the file, and tells the monitor of its writes. It looks at the file first, and changes nothing of one that is not a store. If
-    /// the mode is `MakeIfMissing`, a file is made if there is none, and its tables if it has none.
+impl<R: Drop, M: StoreMonitor + Drop> SqlStore<R, M> {
+    /// Opens the file with the runtime of the program, and tells the monitor of its writes. `rt` is what its calls wait with. It looks at the
+    /// file first, and changes nothing of one that is not a store. If the mode is `MakeIfMissing`, a file is made if there is none, and its
+    /// tables if it has none.
     ///
     /// `Missing` and `Empty` come only if the mode is `MustExist`: there is no file, or it has no tables. `Foreign` comes if the file is not
     /// a store, or has more than a store has; it is then as it was, byte for byte, and nothing was made beside it. `InUse` comes if a
     /// process has it open, `NotMade` if it cannot be made, `Unusable` if it cannot be read and written, `DiskFull` if there is no room,
     /// and `Damaged` if it is not whole. What the tables contain is not tested here but by `read`.
     pub fn open(
-        rt: &HostRuntime,
+        host: &HostRuntime,
+        rt: R,
         path: &str,
         mode: OpenMode,
         monitor: M,
-    ) -> Result<SqlStore<M>, OpenError>
+    ) -> Result<SqlStore<R, M>, OpenError>
         ensures { IfOk result (λ store. store ≡ 0) }
     {
-        let health = StoreHealth::new(rt.alloc())?;
-        let found = allowed(rt, path, mode)?;
-        match open_file(rt, path, found) {
-            Ok(opened) => Ok(opened.into_store(Watch::new(monitor, health), found)),
-            Err(error) => Err(error),
-        }
+        let alloc = host.alloc();
+        let health = StoreHealth::new(alloc)?;
+        let watch = Watch::new(monitor, health.share()?);
+        let found = allowed(host, path, mode)?;
+        let file = open_file(host, path, found)?;
+        Ok(SqlStore {
+            rt,
+            sync: StoreSync::new(alloc, file, watch)?,
+            health,
+            faults: 0,
+            is_new: found != Found::Store,
+            read_fault: None,
+        })
     }
 
     /// Whether the open made the file, or its tables.
@@ -213,41 +177,51 @@ impl<M: StoreMonitor + Drop> SqlStore<M> {
         self.is_new
     }
 
-    /// The last moment of the tables that the file has, in milliseconds since 1970; None if it has none, or cannot be read. It counts no fault.
-    pub fn last_moment(&mut self) -> Option<u64>
-        ensures { self.new ≡ self.old }
-    {
-        match read_metas(&mut self.connection, &self.statements.reads.metas) {
-            Ok(metas) => metas.moment,
-            Err(_) => None,
-        }
+    /// What its writes wait in until they are in the file: `share` of it is for another thread.
+    pub fn sync(&self) -> &StoreSync<M> {
+        &self.sync
     }
 
     /// Whether its writes fail, for others to ask: `share` of it is for another thread.
     pub fn health(&self) -> &StoreHealth {
-        self.watch.health()
+        &self.health
     }
 
     /// Why the last `read` failed; None if it did not fail, or memory ran out.
     pub fn read_fault(&self) -> Option<&ReadFault> {
         self.read_fault.as_ref()
     }
+}
 
-    /// Copies the log into the file and closes both. The file alone then has all that was written; the log stays beside it, with no
-    /// rows. A store that is dropped leaves rows in the log, and then the file and its log belong together. An error comes if the log
-    /// cannot be copied, as on a full disk. Nothing is lost then: the log beside the file has what was written, as if the store was
-    /// dropped, and the next open finds it.
+impl<R: Wait + Clock + Drop, M: StoreMonitor + Drop> SqlStore<R, M> {
+    /// The last moment of the tables that the file has, in milliseconds since 1970; None if it has none, or cannot be read. It counts no fault.
+    pub fn last_moment(&mut self) -> Option<u64>
+        ensures { self.new ≡ self.old }
+    {
+        let mut file = self.sync.take_file(&self.rt);
+        let read = read_metas(&mut file.connection, &file.statements.reads.metas);
+        self.sync.put_file(&self.rt, file);
+        match read {
+            Ok(metas) => metas.moment,
+            Err(_) => None,
+        }
+    }
+
+    /// Waits for all writes, at most a minute if they fail, copies the log into the file and closes both. The file alone then has all that
+    /// was written; the log stays beside it, with no rows. A store that is dropped leaves rows in the log, and then the file and its log
+    /// belong together; writes that were not waited for are lost then.
+    ///
+    /// `Unwritten` comes if writes could not be made in that time: they are lost, and nobody who waited for them was told that they are
+    /// in the file. Another error comes if the log cannot be copied, as on a full disk. Nothing is lost then: the log beside the file has
+    /// what was written, as if the store was dropped, and the next open finds it.
     pub fn close(self) -> Result<(), CloseError> {
-        let SqlStore {
-            connection,
-            statements: _,
-            place: _,
-            faults: _,
-            is_new: _,
-            watch: _,
-            read_fault: _,
-        } = self;
-        match connection.close() {
+        let _ = self.sync.wait(&self.rt, Some(LAST_WAIT_MS));
+        let closed = self.sync.take_file(&self.rt).close();
+        let unwritten = self.sync.close(&self.rt);
+        if unwritten > 0 {
+            return Err(CloseError::Unwritten(unwritten));
+        }
+        match closed {
             Ok(()) => Ok(()),
             Err(error) => Err(error.into()),
         }
@@ -278,38 +252,59 @@ impl<M: StoreMonitor + Drop> SqlStore<M> {
         }
     }
 
-    // Notes why a write failed, and that the store is shut if it is; what the write answers.
-    fn note_write(&mut self, error: WriteError) -> KeepError
-        ensures { self.new ≡ self.old }
-    {
-        match error {
-            WriteError::Fault(fault) => {
-                self.watch.note_fault(fault);
-                if is_shut(&mut self.connection) {
-                    self.watch.note_fault(WriteFault::Shut);
-                }
-                KeepError::Failed
-            }
-            WriteError::Memory => KeepError::Memory,
+    // Reads the file once all writes are in it.
+    fn read_file(&self, alloc: Global) -> Result<Stored, ReadError> {
+        if self.sync.wait(&self.rt, Some(LAST_WAIT_MS)).is_err() {
+            return Err(match self.sync.queue(&self.rt).fault() {
+                Some(WriteError::Fault(fault)) => ReadError::Fault(ReadFault::Unread(fault)),
+                Some(WriteError::Memory) | None => ReadError::Memory,
+            });
         }
+        let mut file = self.sync.take_file(&self.rt);
+        let read = read_all(alloc, &mut file.connection, &file.statements.reads);
+        self.sync.put_file(&self.rt, file);
+        read
+    }
+
+    // Adds the copies to the edits that wait to be written. Whether these are to be written now.
+    fn add_copies(&self, copied: CopiedEdits) -> Result<bool, WriteError> {
+        let mut queue = self.sync.queue(&self.rt);
+        match queue.add(copied) {
+            Ok(()) => Ok(queue.is_long()),
+            Err(error) => Err(error),
+        }
+    }
+
+    // Adds the edits to those that wait to be written. If there are many then, one attempt is made to write them.
+    fn add(&self, alloc: Global, edits: &[Edit]) -> Result<(), WriteError> {
+        let copied = match copy_edits(alloc, edits) {
+            Ok(copied) => copied,
+            Err(WriteError::Fault(fault)) => return Err(self.sync.queue(&self.rt).refuse(fault)),
+            Err(WriteError::Memory) => return Err(WriteError::Memory),
+        };
+        if self.add_copies(copied)? {
+            let _ = self.sync.wait(&self.rt, Some(0));
+        }
+        Ok(())
     }
 }
 
-impl<M: StoreMonitor + Drop> Store for SqlStore<M> {
+impl<R: Wait + Clock + Drop, M: StoreMonitor + Drop> Store for SqlStore<R, M> {
     ghost use Rattle.std.specs.Prelude.{None};
 
     ghost content = { λ _. None };
 
     ghost faults = { λ s. s };
 
-    /// Reads the file. Each error but one of memory is counted as a fault, and `read_fault` then says why.
+    /// Waits for all writes, at most a minute if they fail, and reads the file. Each error but one of memory is counted as a fault, and
+    /// `read_fault` then says why.
     fn read(&mut self, alloc: Global) -> Result<Stored, KeepError>
         ensures cause { FailsWithCause self.old self.new result }
         ensures faulted { IsErrOf result KeepError.Failed → self.new ≡ min (self.old + 1) (2 ^ 64 - 1) }
         ensures faultless { ¬ IsErrOf result KeepError.Failed → self.new ≡ self.old }
     {
         self.read_fault = None;
-        match read_all(alloc, &mut self.connection, &self.statements.reads) {
+        match self.read_file(alloc) {
             Ok(stored) => Ok(stored),
             Err(error) => {
                 let answer = self.note_read(error);
@@ -319,26 +314,19 @@ impl<M: StoreMonitor + Drop> Store for SqlStore<M> {
         }
     }
 
-    /// Makes the edits in one transaction. Each error but one of memory is counted as a fault, and told to the monitor. After a fault the
-    /// next write tries again, unless the store has shut itself.
-    fn write(&mut self, _: Global, edits: &[Edit]) -> Result<(), KeepError>
+    /// Adds the edits to those that wait to be written: they are all made in one transaction, after those of earlier writes, and at the
+    /// latest when one waits for them (`sync`). It writes nothing itself, unless some thousands of edits wait. Each error but one of
+    /// memory is counted as a fault, and told to the monitor. While the last attempt to write has failed it answers that fault, until one
+    /// who waits has made an attempt that succeeded.
+    fn write(&mut self, alloc: Global, edits: &[Edit]) -> Result<(), KeepError>
         ensures cause { FailsWithCause self.old self.new result }
         ensures faulted { IsErrOf result KeepError.Failed → self.new ≡ min (self.old + 1) (2 ^ 64 - 1) }
         ensures faultless { ¬ IsErrOf result KeepError.Failed → self.new ≡ self.old }
     {
-        match write_all(
-            &mut self.connection,
-            &self.statements.writes,
-            self.place,
-            edits,
-        ) {
-            Ok(place) => {
-                self.place = place;
-                self.watch.note_success();
-                Ok(())
-            }
+        match self.add(alloc, edits) {
+            Ok(()) => Ok(()),
             Err(error) => {
-                let answer = self.note_write(error);
+                let answer = error.answer();
                 self.count(answer);
                 Err(answer)
             }

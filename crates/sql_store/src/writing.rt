@@ -2,10 +2,11 @@
 use crate::fault::{WriteError, WriteFault};
 use crate::meta::{PLACE, text_of};
 use crate::statements::Writes;
-use bt_base::Text;
-use keeper_store::{Edit, Entry};
+use bt_base::{Duplicate, Text};
+use keeper_store::{Edit, Entry, MetaName, Metas};
 use row_texts::RowKind;
 use sqlite::{Alter, Connection, Row, Statement, Transaction, params};
+use std::alloc::Global;
 
 /// The number as a value of SQL, which has none above 2^63 - 1.
 fn value_of(number: u64) -> Result<i64, WriteError> {
@@ -13,6 +14,62 @@ fn value_of(number: u64) -> Result<i64, WriteError> {
         Ok(value) => Ok(value),
         Err(_) => Err(WriteError::Fault(WriteFault::TooLarge)),
     }
+}
+
+/// The greatest size of a key and a body together, in bytes. SQL has no greater rows.
+const MAX_ROW: usize = 900_000_000;
+
+/// Copies of the edits of a write.
+#[derive(Drop)]
+pub struct CopiedEdits {
+    /// The copies, in order.
+    pub edits: Vec<Edit>,
+    /// How many rows they put.
+    pub puts: u64,
+}
+
+/// A copy of the edit. It fails if no file can have its row or its number.
+fn copy_edit(edit: &Edit) -> Result<Edit, WriteError> {
+    match edit {
+        Edit::Put(kind, entry) => {
+            let size = entry
+                .key
+                .as_str()
+                .len()
+                .saturating_add(entry.text.as_str().len());
+            if size > MAX_ROW {
+                return Err(WriteError::Fault(WriteFault::TooLarge));
+            }
+            Ok(Edit::Put(*kind, entry.copy()?))
+        }
+        Edit::Drop(kind, key) => Ok(Edit::Drop(*kind, key.copy()?)),
+        Edit::Meta(name, number) => {
+            value_of(*number)?;
+            Ok(Edit::Meta(*name, *number))
+        }
+    }
+}
+
+/// Copies of the edits. It fails if no file can have one of their rows or numbers.
+pub fn copy_edits(alloc: Global, edits: &[Edit]) -> Result<CopiedEdits, WriteError> {
+    let mut copies = match Vec::with_capacity(alloc, edits.len()) {
+        Ok(copies) => copies,
+        Err(_) => return Err(WriteError::Memory),
+    };
+    let mut puts = 0u64;
+    for edit in edits {
+        let copy = copy_edit(edit)?;
+        if let Edit::Put(_, _) = &copy {
+            puts = puts.saturating_add(1);
+        }
+        if copies.push(copy).is_err() {
+            return Err(WriteError::Memory);
+        }
+    }
+    Ok(CopiedEdits {
+        edits: copies,
+        puts,
+    })
 }
 
 fn place_of(row: &Row) -> Result<i64, WriteError> {
@@ -82,7 +139,7 @@ fn put_meta<S: Alter>(
     }
 }
 
-/// Makes the edit, with this place for a new row. Returns the place of the next new row.
+/// Makes the edit of a row, with this place for a new one. Returns the place of the next new row. A number is not set.
 fn make_edit<S: Alter>(
     transaction: &mut Transaction<'_, S>,
     writes: &Writes,
@@ -95,14 +152,47 @@ fn make_edit<S: Alter>(
             drop_row(transaction, &writes.drop_row, *kind, key)?;
             Ok(place)
         }
-        Edit::Meta(name, number) => {
-            put_meta(transaction, &writes.put_meta, text_of(*name), *number)?;
-            Ok(place)
-        }
+        Edit::Meta(_, _) => Ok(place),
     }
 }
 
-/// Makes the edits in order, with places from this one on for new rows. Returns the place of the next new row.
+/// The last numbers that the edits set, each of which stands for all of its name.
+fn metas_of(edits: &[Edit]) -> Metas {
+    let mut metas = Metas {
+        next_node: None,
+        next_run: None,
+        moment: None,
+        version: None,
+    };
+    for edit in edits {
+        if let Edit::Meta(name, number) = edit {
+            metas = metas.with(*name, *number);
+        }
+    }
+    metas
+}
+
+/// Sets these numbers.
+fn put_metas<S: Alter>(
+    transaction: &mut Transaction<'_, S>,
+    statement: &Statement,
+    metas: Metas,
+) -> Result<(), WriteError> {
+    let numbers = [
+        (MetaName::NextNode, metas.next_node),
+        (MetaName::NextRun, metas.next_run),
+        (MetaName::Moment, metas.moment),
+        (MetaName::Version, metas.version),
+    ];
+    for (name, number) in numbers {
+        if let Some(number) = number {
+            put_meta(transaction, statement, text_of(name), number)?;
+        }
+    }
+    Ok(())
+}
+
+/// Makes the edits in order, with places from this one on for new rows; each number is set once. Returns the place of the next new row.
 fn make_edits<S: Alter>(
     transaction: &mut Transaction<'_, S>,
     writes: &Writes,
@@ -116,6 +206,7 @@ fn make_edits<S: Alter>(
     if next != place {
         put_meta(transaction, &writes.put_meta, PLACE, next)?;
     }
+    put_metas(transaction, &writes.put_meta, metas_of(edits))?;
     Ok(next)
 }
 

@@ -38,7 +38,7 @@ fn make(rt: &HostRuntime, path: &str, sql: &str, has_log: bool) -> Result<(), Fa
 fn refusal_of(rt: &HostRuntime, path: &str, mode: OpenMode) -> Result<OpenError, Fail> {
     let before = fs::read(rt, path)?;
     let monitor = Counting::new(rt.alloc())?;
-    let error = match SqlStore::open(rt, path, mode, monitor) {
+    let error = match SqlStore::open(rt, *rt, path, mode, monitor) {
         Ok(store) => {
             drop(store);
             return Err("opened".into());
@@ -152,14 +152,14 @@ fn files_without_sqlite_are_left(rt: HostRuntime) -> Result<(), Fail> {
 fn a_path_without_a_file_is_told(rt: HostRuntime) -> Result<(), Fail> {
     remove(&rt, "absent.db", "absent.db-wal");
     let monitor = Counting::new(rt.alloc())?;
-    let missing = SqlStore::open(&rt, "absent.db", OpenMode::MustExist, monitor);
+    let missing = SqlStore::open(&rt, rt, "absent.db", OpenMode::MustExist, monitor);
     assert!(rt; matches!(missing, Err(OpenError::Missing)));
     drop(missing);
     assert!(rt; !fs::exists(&rt, "absent.db")?);
-    let folder = open(&rt, ".");
+    let folder = open(&rt, &rt, ".");
     assert!(rt; matches!(folder, Err(OpenError::Foreign(ForeignFile::NotAFile))));
     drop(folder);
-    let nowhere = open(&rt, "no_such_folder/store.db");
+    let nowhere = open(&rt, &rt, "no_such_folder/store.db");
     assert!(rt; matches!(nowhere, Err(OpenError::NotMade)));
     Ok(())
 }

@@ -16,4 +16,6 @@ mod sql_keeper_tests;
 #[cfg(test)]
 mod sql_store_tests;
 #[cfg(test)]
+mod sql_sync_tests;
+#[cfg(test)]
 mod store_keeper_tests;

@@ -6,7 +6,9 @@ use keeper_store::{Edit, MetaName, Store, Stored, SureStore};
 use row_texts::RowKind;
 use sql_store::SqlStore;
 use std::alloc::Global;
+use std::sync::Wait;
 use std::test::Fail;
+use std::time::Clock;
 
 /// How many edits are made.
 const EDITS: u64 = 500;
@@ -100,10 +102,10 @@ fn edit(alloc: Global, numbers: &mut Numbers) -> Result<Edit, NoMemory> {
 }
 
 /// Makes the next edit in both stores.
-fn edit_both(
+fn edit_both<R: Wait + Clock + Drop>(
     alloc: Global,
     numbers: &mut Numbers,
-    file: &mut SqlStore<Counting>,
+    file: &mut SqlStore<R, Counting>,
     memory: &mut SureStore,
 ) -> Result<(), KeepError> {
     let mut edits = Vec::new(alloc);
@@ -117,9 +119,9 @@ fn edit_both(
 }
 
 /// Whether both stores contain the same.
-fn agree(
+fn agree<R: Wait + Clock + Drop>(
     alloc: Global,
-    file: &mut SqlStore<Counting>,
+    file: &mut SqlStore<R, Counting>,
     memory: &mut SureStore,
 ) -> Result<bool, KeepError> {
     let first = file.read(alloc)?;
@@ -137,9 +139,9 @@ fn agree(
 }
 
 /// Whether both stores contain the same after each 50th of the edits.
-fn agree_through(
+fn agree_through<R: Wait + Clock + Drop>(
     alloc: Global,
-    file: &mut SqlStore<Counting>,
+    file: &mut SqlStore<R, Counting>,
     memory: &mut SureStore,
 ) -> Result<bool, KeepError> {
     let mut numbers = Numbers { state: 20_240_229 };
@@ -154,28 +156,33 @@ fn agree_through(
 }
 
 /// Whether both stores contain the same through the edits, and after the file was dropped and opened again.
-fn agree_after_all(rt: &HostRuntime, memory: &mut SureStore) -> Result<(bool, bool), Fail> {
-    let alloc = rt.alloc();
-    let mut file = open(rt, "random.db").map_err(|_| "made")?;
+fn agree_after_all<R: Wait + Clock + Copy + Drop>(
+    host: &HostRuntime,
+    rt: &R,
+    memory: &mut SureStore,
+) -> Result<(bool, bool), Fail> {
+    let alloc = host.alloc();
+    let mut file = open(host, rt, "random.db").map_err(|_| "made")?;
     let through = agree_through(alloc, &mut file, memory);
+    let is_written = file.sync().wait(rt, None).is_ok();
     drop(file);
-    let mut again = open(rt, "random.db").map_err(|_| "opened")?;
+    let mut again = open(host, rt, "random.db").map_err(|_| "opened")?;
     let after = agree(alloc, &mut again, memory);
     let is_closed = again.close().is_ok();
-    let mut closed = open(rt, "random.db").map_err(|_| "opened again")?;
+    let mut closed = open(host, rt, "random.db").map_err(|_| "opened again")?;
     let at_last = agree(alloc, &mut closed, memory);
     drop(closed);
     let through = through.map_err(|_| "edited")?;
     let after = after.map_err(|_| "read")?;
     let at_last = at_last.map_err(|_| "read again")?;
-    Ok((through, is_closed & after & at_last))
+    Ok((through & is_written, is_closed & after & at_last))
 }
 
 #[test]
 fn a_file_agrees_with_memory(rt: HostRuntime) -> Result<(), Fail> {
     remove(&rt, "random.db", "random.db-wal");
     let mut memory = SureStore::new(Stored::empty(rt.alloc()));
-    let seen = agree_after_all(&rt, &mut memory);
+    let seen = agree_after_all(&rt, &rt, &mut memory);
     drop(memory);
     remove(&rt, "random.db", "random.db-wal");
     let (through, after) = seen?;

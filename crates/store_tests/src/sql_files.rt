@@ -66,9 +66,13 @@ impl StoreMonitor for Counting {
 }
 
 /// Opens the store at the path, or makes it, beside a monitor that is not asked.
-pub fn open(rt: &HostRuntime, path: &str) -> Result<SqlStore<Counting>, OpenError> {
-    let monitor = Counting::new(rt.alloc()).map_err(|_| OpenError::Memory)?;
-    SqlStore::open(rt, path, OpenMode::MakeIfMissing, monitor)
+pub fn open<R: Copy + Drop>(
+    host: &HostRuntime,
+    rt: &R,
+    path: &str,
+) -> Result<SqlStore<R, Counting>, OpenError> {
+    let monitor = Counting::new(host.alloc()).map_err(|_| OpenError::Memory)?;
+    SqlStore::open(host, *rt, path, OpenMode::MakeIfMissing, monitor)
 }
 
 /// Removes the file and its log, if they are there.

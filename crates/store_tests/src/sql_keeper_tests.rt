@@ -6,13 +6,19 @@ use bt_rows::tables::Change;
 use keeper_store::{Store, Stored};
 use sql_store::SqlStore;
 use std::alloc::Global;
+use std::sync::Wait;
 use std::test::Fail;
+use std::time::Clock;
 use store_keeper::StoreKeeper;
 
 /// Saves these changes in the file, one save after another, and closes it.
-fn save_all(rt: &HostRuntime, saves: [&[Change]; 2]) -> Result<(), Fail> {
-    let alloc = rt.alloc();
-    let store = open(rt, "tables.db").map_err(|_| "made")?;
+fn save_all<R: Wait + Clock + Copy + Drop>(
+    host: &HostRuntime,
+    rt: &R,
+    saves: [&[Change]; 2],
+) -> Result<(), Fail> {
+    let alloc = host.alloc();
+    let store = open(host, rt, "tables.db").map_err(|_| "made")?;
     let mut keeper = StoreKeeper::new(store);
     let first = keeper.save(alloc, saves[0]);
     let second = keeper.save(alloc, saves[1]);
@@ -25,7 +31,10 @@ fn save_all(rt: &HostRuntime, saves: [&[Change]; 2]) -> Result<(), Fail> {
 }
 
 /// What is seen of the loaded tables, and what the store has.
-fn load(alloc: Global, store: SqlStore<Counting>) -> Result<(Seen, Stored), KeepError> {
+fn load<R: Wait + Clock + Drop>(
+    alloc: Global,
+    store: SqlStore<R, Counting>,
+) -> Result<(Seen, Stored), KeepError> {
     let mut keeper = StoreKeeper::new(store);
     let seen = loaded(alloc, &mut keeper);
     let mut store = keeper.into_store();
@@ -46,11 +55,11 @@ fn saved_tables_are_loaded_from_a_file(rt: HostRuntime) -> Result<(), Fail> {
     remove(&rt, "tables.db", "tables.db-wal");
     let first = puts(alloc, &[1, 2], (2, 1, 1))?;
     let second = puts(alloc, &[3, 4, 5, 6, 8], (2, 2, 9))?;
-    let saved = save_all(&rt, [first.as_slice(), second.as_slice()]);
+    let saved = save_all(&rt, &rt, [first.as_slice(), second.as_slice()]);
     drop(first);
     drop(second);
     saved?;
-    let store = open(&rt, "tables.db").map_err(|_| "opened")?;
+    let store = open(&rt, &rt, "tables.db").map_err(|_| "opened")?;
     let found = load(alloc, store);
     remove(&rt, "tables.db", "tables.db-wal");
     let (seen, stored) = found.map_err(|_| "loaded")?;

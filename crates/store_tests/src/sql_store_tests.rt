@@ -8,7 +8,9 @@ use sqlite::Connection;
 use std::alloc::Global;
 use std::fs::remove_file;
 use std::process::Abort;
+use std::sync::Wait;
 use std::test::Fail;
+use std::time::Clock;
 
 /// Three jobs, of which the first is put again and the second dropped, a pool, and two numbers.
 fn push_first(alloc: Global, edits: &mut Vec<Edit>) -> Result<(), NoMemory> {
@@ -48,8 +50,8 @@ enum Written {
 }
 
 /// Writes these edits.
-fn write(
-    store: &mut SqlStore<Counting>,
+fn write<R: Wait + Clock + Drop>(
+    store: &mut SqlStore<R, Counting>,
     alloc: Global,
     which: Written,
 ) -> Result<(), &'static str> {
@@ -69,7 +71,10 @@ fn write(
 }
 
 /// What the store contains once the second edits are written.
-fn write_and_read(store: &mut SqlStore<Counting>, alloc: Global) -> Result<Stored, &'static str> {
+fn write_and_read<R: Wait + Clock + Drop>(
+    store: &mut SqlStore<R, Counting>,
+    alloc: Global,
+) -> Result<Stored, &'static str> {
     write(store, alloc, Written::Second)?;
     store.read(alloc).map_err(|_| "read")
 }
@@ -80,9 +85,13 @@ fn assert_entry(rt: &impl Abort, entry: &Entry, key: &str, row: &str) {
 }
 
 /// Writes the first edits; whether the open has made the file.
-fn write_first(rt: &HostRuntime, path: &str) -> Result<bool, Fail> {
-    let alloc = rt.alloc();
-    let mut store = open(rt, path).map_err(|_| "made")?;
+fn write_first<R: Wait + Clock + Copy + Drop>(
+    host: &HostRuntime,
+    rt: &R,
+    path: &str,
+) -> Result<bool, Fail> {
+    let alloc = host.alloc();
+    let mut store = open(host, rt, path).map_err(|_| "made")?;
     let is_new = store.is_new();
     let written = write(&mut store, alloc, Written::First);
     store.close().map_err(|_| "closed")?;
@@ -94,10 +103,10 @@ fn write_first(rt: &HostRuntime, path: &str) -> Result<bool, Fail> {
 fn a_file_keeps_its_content(rt: HostRuntime) -> Result<(), Fail> {
     let alloc = rt.alloc();
     remove(&rt, "kept.db", "kept.db-wal");
-    assert!(rt; write_first(&rt, "kept.db")?);
+    assert!(rt; write_first(&rt, &rt, "kept.db")?);
     // the file alone has all that was written
     let _ = remove_file(&rt, "kept.db-wal");
-    let mut store = open(&rt, "kept.db").map_err(|_| "opened")?;
+    let mut store = open(&rt, &rt, "kept.db").map_err(|_| "opened")?;
     let is_new = store.is_new();
     let read = write_and_read(&mut store, alloc);
     let is_closed = store.close().is_ok();
@@ -123,7 +132,10 @@ fn a_file_keeps_its_content(rt: HostRuntime) -> Result<(), Fail> {
 }
 
 /// The keys of the jobs that the store has, each after a space.
-fn job_keys(store: &mut SqlStore<Counting>, alloc: Global) -> Result<String, &'static str> {
+fn job_keys<R: Wait + Clock + Drop>(
+    store: &mut SqlStore<R, Counting>,
+    alloc: Global,
+) -> Result<String, &'static str> {
     let stored = store.read(alloc).map_err(|_| "read")?;
     let mut keys = String::new(alloc);
     let mut is_whole = true;
@@ -146,15 +158,18 @@ fn execute(rt: &HostRuntime, path: &str, sql: &str) -> Result<(), Fail> {
 }
 
 /// The keys of the jobs of a store in which a program set the number `place` back, before the second edits.
-fn keys_after_place(rt: &HostRuntime) -> Result<String, Fail> {
-    let alloc = rt.alloc();
-    write_first(rt, "place.db")?;
+fn keys_after_place<R: Wait + Clock + Copy + Drop>(
+    host: &HostRuntime,
+    rt: &R,
+) -> Result<String, Fail> {
+    let alloc = host.alloc();
+    write_first(host, rt, "place.db")?;
     execute(
-        rt,
+        host,
         "place.db",
         "UPDATE batch_meta SET value = 0 WHERE name = 'place'",
     )?;
-    let mut store = open(rt, "place.db").map_err(|_| "opened")?;
+    let mut store = open(host, rt, "place.db").map_err(|_| "opened")?;
     let written = write(&mut store, alloc, Written::Second);
     let keys = job_keys(&mut store, alloc);
     drop(store);
@@ -165,20 +180,24 @@ fn keys_after_place(rt: &HostRuntime) -> Result<String, Fail> {
 #[test]
 fn a_new_row_goes_to_the_end(rt: HostRuntime) -> Result<(), Fail> {
     remove(&rt, "place.db", "place.db-wal");
-    let keys = keys_after_place(&rt);
+    let keys = keys_after_place(&rt, &rt);
     remove(&rt, "place.db", "place.db-wal");
     assert_eq!(rt; keys?.as_str(), " night alone day");
     Ok(())
 }
 
 /// Whether the file's content is read after this statement, and no fault is kept then.
-fn is_read_after(rt: &HostRuntime, sql: &str) -> Result<bool, Fail> {
-    remove(rt, "other.db", "other.db-wal");
-    let made = open(rt, "other.db").map_err(|_| "made")?;
+fn is_read_after<R: Wait + Clock + Copy + Drop>(
+    host: &HostRuntime,
+    rt: &R,
+    sql: &str,
+) -> Result<bool, Fail> {
+    remove(host, "other.db", "other.db-wal");
+    let made = open(host, rt, "other.db").map_err(|_| "made")?;
     made.close().map_err(|_| "closed")?;
-    execute(rt, "other.db", sql)?;
-    let mut store = open(rt, "other.db").map_err(|_| "opened")?;
-    let is_read = match store.read(rt.alloc()) {
+    execute(host, "other.db", sql)?;
+    let mut store = open(host, rt, "other.db").map_err(|_| "opened")?;
+    let is_read = match store.read(host.alloc()) {
         Ok(stored) => {
             drop(stored);
             true
@@ -187,7 +206,7 @@ fn is_read_after(rt: &HostRuntime, sql: &str) -> Result<bool, Fail> {
     };
     let has_fault = store.read_fault().is_some();
     drop(store);
-    remove(rt, "other.db", "other.db-wal");
+    remove(host, "other.db", "other.db-wal");
     if has_fault == is_read {
         return Err("fault".into());
     }
@@ -208,21 +227,26 @@ fn other_content_is_a_fault(rt: HostRuntime) -> Result<(), Fail> {
         ("INSERT INTO batch_meta VALUES (NULL, 1)", false),
     ];
     for (sql, is_read) in statements {
-        assert_eq!(rt; is_read_after(&rt, sql)?, is_read, "after {sql}");
+        assert_eq!(rt; is_read_after(&rt, &rt, sql)?, is_read, "after {sql}");
     }
     Ok(())
 }
 
 /// What a monitor is told of three writes that fail and one that succeeds, and the keys of the jobs then.
-fn told_of_faults(rt: &HostRuntime) -> Result<((u64, u64, u64), String), Fail> {
-    let alloc = rt.alloc();
+fn told_of_faults<R: Wait + Clock + Copy + Drop>(
+    host: &HostRuntime,
+    rt: &R,
+) -> Result<((u64, u64, u64), String), Fail> {
+    let alloc = host.alloc();
     let counting = Counting::new(alloc)?;
     let mut store = SqlStore::open(
-        rt,
+        host,
+        *rt,
         "faults.db",
         OpenMode::MakeIfMissing,
         counting.share()?,
-    ).map_err(|_| "made")?;
+    )
+    .map_err(|_| "made")?;
     let first = write(&mut store, alloc, Written::First);
     let is_sound = !store.health().is_failing();
     let mut is_refused = true;
@@ -246,7 +270,7 @@ fn told_of_faults(rt: &HostRuntime) -> Result<((u64, u64, u64), String), Fail> {
 #[test]
 fn a_write_that_fails_in_its_middle_leaves_nothing(rt: HostRuntime) -> Result<(), Fail> {
     remove(&rt, "faults.db", "faults.db-wal");
-    let told = told_of_faults(&rt);
+    let told = told_of_faults(&rt, &rt);
     remove(&rt, "faults.db", "faults.db-wal");
     let (told, keys) = told?;
     assert_eq!(rt; keys.as_str(), " night alone");
@@ -258,7 +282,7 @@ fn a_write_that_fails_in_its_middle_leaves_nothing(rt: HostRuntime) -> Result<()
 
 /// Whether the store at the path is refused as one that is in use.
 fn is_in_use(rt: &HostRuntime, path: &str) -> bool {
-    match open(rt, path) {
+    match open(rt, rt, path) {
         Ok(store) => {
             drop(store);
             false
@@ -268,25 +292,31 @@ fn is_in_use(rt: &HostRuntime, path: &str) -> bool {
 }
 
 /// Whether a second open is refused, and the keys of the jobs once the first store was dropped without a close.
-fn after_a_drop(rt: &HostRuntime) -> Result<(bool, String), Fail> {
-    let alloc = rt.alloc();
-    let mut store = open(rt, "dropped.db").map_err(|_| "made")?;
+fn after_a_drop<R: Wait + Clock + Copy + Drop>(
+    host: &HostRuntime,
+    rt: &R,
+) -> Result<(bool, String), Fail> {
+    let alloc = host.alloc();
+    let mut store = open(host, rt, "dropped.db").map_err(|_| "made")?;
     let written = write(&mut store, alloc, Written::First);
-    let is_refused = is_in_use(rt, "dropped.db");
+    let is_refused = is_in_use(host, "dropped.db");
     let written_again = write(&mut store, alloc, Written::Second);
+    let is_waited = store.sync().wait(rt, None).is_ok();
     drop(store);
-    let mut again = open(rt, "dropped.db").map_err(|_| "opened")?;
+    let mut again = open(host, rt, "dropped.db").map_err(|_| "opened")?;
     let keys = job_keys(&mut again, alloc);
     drop(again);
     written?;
     written_again?;
-    Ok((is_refused, keys?))
+    Ok((is_refused & is_waited, keys?))
 }
 
 #[test]
-fn a_second_open_is_refused_and_a_drop_loses_nothing(rt: HostRuntime) -> Result<(), Fail> {
+fn a_second_open_is_refused_and_a_drop_loses_nothing_that_was_waited_for(
+    rt: HostRuntime,
+) -> Result<(), Fail> {
     remove(&rt, "dropped.db", "dropped.db-wal");
-    let seen = after_a_drop(&rt);
+    let seen = after_a_drop(&rt, &rt);
     remove(&rt, "dropped.db", "dropped.db-wal");
     let (is_refused, keys) = seen?;
     assert!(rt; is_refused);

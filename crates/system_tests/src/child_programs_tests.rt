@@ -5,11 +5,14 @@ use bt_rows::run::RunKind;
 use child_programs::{ProgramSpawner, ProgramStopper, ProgramTable, ServiceFolders, StartMonitor};
 use child_runs::{ChildEnding, Ran, RunIdentity, Spawner, Stopper};
 use std::alloc::{AllocError, Global};
-use std::fs::Permissions;
+use std::fs::{File, Permissions};
 use std::os::unix::fs::PermissionsExt;
+use std::process::{Processes, SystemProcess};
+use std::rt::Files;
+use std::sync::Wait;
 use std::sync::atomic::{AtomicU64, Ordering};
 use std::test::Fail;
-use std::time::Duration;
+use std::time::{Clock, Duration};
 use std::{fs, io, process, thread};
 
 /// How often the monitor of a test was told of each.
@@ -106,18 +109,74 @@ fn task_run(alloc: Global) -> Result<RunIdentity, Fail> {
     })
 }
 
-/// The path of a new folder for a service.
-fn new_folder(rt: &HostRuntime, name: &str) -> Result<String, Fail> {
-    let number = process::id(rt.process());
-    let folder = format!(in rt.alloc(); "/tmp/child_programs-{name}-{number}")?;
-    fs::create_dir(rt, folder.as_str())?;
-    Ok(folder)
+/// A service in a new folder, with what its monitor was told.
+struct Service {
+    folder: String,
+    folders: ServiceFolders,
+    told: Told,
+    table: ProgramTable,
 }
 
-/// What the file at this path in the folder has.
-fn content(rt: &HostRuntime, folder: &str, path: &str) -> Result<String, Fail> {
-    let path = format!(in rt.alloc(); "{folder}/{path}")?;
-    Ok(fs::read_to_string(rt, path.as_str())?)
+impl Drop for Service {
+    fn drop(self) {
+        let Service {
+            folder: _folder,
+            folders: _folders,
+            told: _told,
+            table: _table,
+        } = self;
+    }
+}
+
+impl Service {
+    /// Makes the folder, which has the name in its own.
+    fn new(rt: &HostRuntime, name: &str) -> Result<Service, Fail> {
+        let number = process::id(rt.process());
+        let folder = format!(in rt.alloc(); "/tmp/child_programs-{name}-{number}")?;
+        let folders = ServiceFolders::new(rt.alloc(), folder.as_str(), "runs")?;
+        let table = ProgramTable::new(rt.alloc())?;
+        fs::create_dir(rt, folder.as_str())?;
+        Ok(Service {
+            folder,
+            folders,
+            told: Told::new(),
+            table,
+        })
+    }
+
+    /// A spawner of the service's child programs, whose monitor counts.
+    fn spawner<
+        R: Processes<Started = SystemProcess> + Files<File = File> + Clock + Wait + Copy + Drop,
+    >(&self, rt: &R) -> Result<ProgramSpawner<R, CountingMonitor<'_>>, Fail> {
+        let monitor = CountingMonitor(&self.told);
+        Ok(ProgramSpawner::new(*rt, &self.table, &self.folders, monitor)?)
+    }
+
+    /// Runs a child program with these words, by a spawner of its own.
+    fn run<
+        R: Processes<Started = SystemProcess>
+            + Files<File = File>
+            + Clock
+            + Wait
+            + AllocGlobal
+            + Copy
+            + Drop,
+    >(&self, rt: &R, run: RunIdentity, number: u64, texts: &[&str]) -> Result<Ran, Fail> {
+        let words = words(rt.alloc(), texts)?;
+        let mut spawner = self.spawner(rt)?;
+        Ok(spawner.run(rt.alloc(), &run, number, words.as_slice()))
+    }
+
+    /// What the file at this path in the folder has.
+    fn content(&self, rt: &HostRuntime, path: &str) -> Result<String, Fail> {
+        let path = format!(in rt.alloc(); "{}/{path}", self.folder.as_str())?;
+        Ok(fs::read_to_string(rt, path.as_str())?)
+    }
+
+    /// Removes the folder with all that is in it.
+    fn remove(&self, rt: &HostRuntime) -> Result<(), Fail> {
+        Ok(fs::remove_dir_all(rt, self.folder.as_str())?)
+    }
 }
 
 /// Whether the file has the line that these two make.
@@ -129,12 +188,10 @@ fn has_line(alloc: Global, file: &str, name: &str, value: &str) -> Result<bool, 
 #[test]
 fn programs_run_and_stop(rt: HostRuntime) -> Result<(), Fail> {
     let alloc = rt.alloc();
-    let folder = new_folder(&rt, "stop")?;
-    let folders = ServiceFolders::new(alloc, folder.as_str(), "runs")?;
-    let told = Told::new();
-    let table = ProgramTable::new(alloc)?;
-    let mut spawner = ProgramSpawner::new(rt, &table, &folders, CountingMonitor(&told))?;
-    let mut stopper = ProgramStopper::new(rt, &table)?;
+    let service = Service::new(&rt, "stop")?;
+    let table = &service.table;
+    let mut spawner = service.spawner(&rt)?;
+    let mut stopper = ProgramStopper::new(rt, table)?;
     let run = start_run(alloc)?;
     let exits = words(alloc, &["sh", "-c", "echo told; exit 3"])?;
     let waits = words(alloc, &["/bin/cat"])?;
@@ -151,48 +208,34 @@ fn programs_run_and_stop(rt: HostRuntime) -> Result<(), Fail> {
             (open, stopper.stop(4))
         },
     );
-    let output = content(
-        &rt,
-        folder.as_str(),
-        "runs/pool.start/render/node-3/1/stdout.txt",
-    )?;
-    fs::remove_dir_all(&rt, folder.as_str())?;
+    let output = service.content(&rt, "runs/pool.start/render/node-3/1/stdout.txt")?;
+    service.remove(&rt)?;
     assert_eq!(rt; ended, Ran::Ended(ChildEnding::Code(3)));
     assert_eq!(rt; output.as_str(), "told\n");
     assert_eq!(rt; stopped_before, Ran::Ended(ChildEnding::Code(0)));
     assert_eq!(rt; stopped_after, Ran::Ended(ChildEnding::Code(0)));
     assert!(rt; asked.is_ok() && asked_after.is_ok());
     assert!(rt; !open_before && open_while && !table.has_open(&rt));
-    assert_eq!(rt; told.counts(), (0, 0, 0, 0));
+    assert_eq!(rt; service.told.counts(), (0, 0, 0, 0));
     Ok(())
 }
 
 #[test]
 fn a_child_has_its_names_and_folders(rt: HostRuntime) -> Result<(), Fail> {
     let alloc = rt.alloc();
-    let folder = new_folder(&rt, "names")?;
-    let folders = ServiceFolders::new(alloc, folder.as_str(), "runs")?;
-    let told = Told::new();
-    let table = ProgramTable::new(alloc)?;
-    let mut spawner = ProgramSpawner::new(rt, &table, &folders, CountingMonitor(&told))?;
-    let shows = words(
-        alloc,
-        &["sh", "-c", "env; pwd; ls -d \"$AZ_BATCH_NODE_SHARED_DIR\""],
-    )?;
-    let ended = spawner.run(alloc, &task_run(alloc)?, 12, shows.as_slice());
-    let at_start = spawner.run(alloc, &start_run(alloc)?, 13, shows.as_slice());
-    let task = content(&rt, folder.as_str(), "runs/film/frame-7/12/stdout.txt")?;
-    let start = content(
-        &rt,
-        folder.as_str(),
-        "runs/pool.start/render/node-3/13/stdout.txt",
-    )?;
-    fs::remove_dir_all(&rt, folder.as_str())?;
+    let service = Service::new(&rt, "names")?;
+    let shows = ["sh", "-c", "env; pwd; ls -d \"$AZ_BATCH_NODE_SHARED_DIR\""];
+    let ended = service.run(&rt, task_run(alloc)?, 12, &shows)?;
+    let at_start = service.run(&rt, start_run(alloc)?, 13, &shows)?;
+    let task = service.content(&rt, "runs/film/frame-7/12/stdout.txt")?;
+    let start = service.content(&rt, "runs/pool.start/render/node-3/13/stdout.txt")?;
+    service.remove(&rt)?;
     assert_eq!(rt; ended, Ran::Ended(ChildEnding::Code(0)));
     assert_eq!(rt; at_start, Ran::Ended(ChildEnding::Code(0)));
-    let own = format!(in alloc; "{}/runs/film/frame-7/12", folder.as_str())?;
-    let work = format!(in alloc; "{}/wd", own.as_str())?;
-    let shared = format!(in alloc; "{}/shared", folder.as_str())?;
+    let folder = service.folder.as_str();
+    let own = format!(in alloc; "{folder}/runs/film/frame-7/12")?;
+    let work = format!(in alloc; "{folder}/runs/film/frame-7/12/wd")?;
+    let shared = format!(in alloc; "{folder}/shared")?;
     let expected = [
         ("AZ_BATCH_POOL_ID=", "render"),
         ("AZ_BATCH_NODE_ID=", "node-3"),
@@ -200,7 +243,7 @@ fn a_child_has_its_names_and_folders(rt: HostRuntime) -> Result<(), Fail> {
         ("AZ_BATCH_TASK_ID=", "frame-7"),
         ("AZ_BATCH_TASK_DIR=", own.as_str()),
         ("AZ_BATCH_TASK_WORKING_DIR=", work.as_str()),
-        ("AZ_BATCH_NODE_ROOT_DIR=", folder.as_str()),
+        ("AZ_BATCH_NODE_ROOT_DIR=", folder),
         ("AZ_BATCH_NODE_SHARED_DIR=", shared.as_str()),
         ("", work.as_str()),
         ("", shared.as_str()),
@@ -220,23 +263,13 @@ fn a_child_has_its_names_and_folders(rt: HostRuntime) -> Result<(), Fail> {
 #[test]
 fn runs_of_a_job_have_folders(rt: HostRuntime) -> Result<(), Fail> {
     let alloc = rt.alloc();
-    let folder = new_folder(&rt, "kinds")?;
-    let folders = ServiceFolders::new(alloc, folder.as_str(), "runs")?;
-    let told = Told::new();
-    let table = ProgramTable::new(alloc)?;
-    let mut spawner = ProgramSpawner::new(rt, &table, &folders, CountingMonitor(&told))?;
-    let echoes = words(alloc, &["sh", "-c", "echo $AZ_BATCH_JOB_ID; echo gone >&2"])?;
-    let prepares = job_run(alloc, RunKind::Prep)?;
-    let releases = job_run(alloc, RunKind::Release)?;
-    let prepared = spawner.run(alloc, &prepares, 20, echoes.as_slice());
-    let released = spawner.run(alloc, &releases, 21, echoes.as_slice());
-    let output = content(
-        &rt,
-        folder.as_str(),
-        "runs/film/job.preparation/20/stdout.txt",
-    )?;
-    let errors = content(&rt, folder.as_str(), "runs/film/job.release/21/stderr.txt")?;
-    fs::remove_dir_all(&rt, folder.as_str())?;
+    let service = Service::new(&rt, "kinds")?;
+    let echoes = ["sh", "-c", "echo $AZ_BATCH_JOB_ID; echo gone >&2"];
+    let prepared = service.run(&rt, job_run(alloc, RunKind::Prep)?, 20, &echoes)?;
+    let released = service.run(&rt, job_run(alloc, RunKind::Release)?, 21, &echoes)?;
+    let output = service.content(&rt, "runs/film/job.preparation/20/stdout.txt")?;
+    let errors = service.content(&rt, "runs/film/job.release/21/stderr.txt")?;
+    service.remove(&rt)?;
     assert_eq!(rt; prepared, Ran::Ended(ChildEnding::Code(0)));
     assert_eq!(rt; released, Ran::Ended(ChildEnding::Code(0)));
     assert_eq!(rt; output.as_str(), "film\n");
@@ -247,20 +280,16 @@ fn runs_of_a_job_have_folders(rt: HostRuntime) -> Result<(), Fail> {
 #[test]
 fn a_relative_program_is_in_the_folder_of_the_service(rt: HostRuntime) -> Result<(), Fail> {
     let alloc = rt.alloc();
-    let folder = new_folder(&rt, "relative")?;
-    let script = format!(in alloc; "{}/work.sh", folder.as_str())?;
+    let service = Service::new(&rt, "relative")?;
+    let folder = service.folder.as_str();
+    let script = format!(in alloc; "{folder}/work.sh")?;
     fs::write(&rt, script.as_str(), "#!/bin/sh\necho \"$1\"; pwd\n")?;
     fs::set_permissions(&rt, script.as_str(), Permissions::from_mode(0o755))?;
-    let folders = ServiceFolders::new(alloc, folder.as_str(), "runs")?;
-    let told = Told::new();
-    let table = ProgramTable::new(alloc)?;
-    let mut spawner = ProgramSpawner::new(rt, &table, &folders, CountingMonitor(&told))?;
-    let works = words(alloc, &["./work.sh", "./first"])?;
-    let ended = spawner.run(alloc, &task_run(alloc)?, 30, works.as_slice());
-    let output = content(&rt, folder.as_str(), "runs/film/frame-7/30/stdout.txt")?;
-    fs::remove_dir_all(&rt, folder.as_str())?;
+    let ended = service.run(&rt, task_run(alloc)?, 30, &["./work.sh", "./first"])?;
+    let output = service.content(&rt, "runs/film/frame-7/30/stdout.txt")?;
+    service.remove(&rt)?;
     assert_eq!(rt; ended, Ran::Ended(ChildEnding::Code(0)));
-    let expected = format!(in alloc; "./first\n{}/runs/film/frame-7/30/wd\n", folder.as_str())?;
+    let expected = format!(in alloc; "./first\n{folder}/runs/film/frame-7/30/wd\n")?;
     assert_eq!(rt; output.as_str(), expected.as_str());
     Ok(())
 }
@@ -268,14 +297,9 @@ fn a_relative_program_is_in_the_folder_of_the_service(rt: HostRuntime) -> Result
 #[test]
 fn a_reason_stands_in_standard_error(rt: HostRuntime) -> Result<(), Fail> {
     let alloc = rt.alloc();
-    let folder = new_folder(&rt, "reasons")?;
-    let text = format!(in alloc; "{}/text", folder.as_str())?;
+    let service = Service::new(&rt, "reasons")?;
+    let text = format!(in alloc; "{}/text", service.folder.as_str())?;
     fs::write(&rt, text.as_str(), "no program")?;
-    let folders = ServiceFolders::new(alloc, folder.as_str(), "runs")?;
-    let told = Told::new();
-    let table = ProgramTable::new(alloc)?;
-    let mut spawner = ProgramSpawner::new(rt, &table, &folders, CountingMonitor(&told))?;
-    let run = task_run(alloc)?;
     let cases = [
         (
             40,
@@ -295,38 +319,31 @@ fn a_reason_stands_in_standard_error(rt: HostRuntime) -> Result<(), Fail> {
         ),
     ];
     for (number, program, reason) in cases {
-        let command = words(alloc, &[program, "x"])?;
-        let ran = spawner.run(alloc, &run, number, command.as_slice());
+        let ran = service.run(&rt, task_run(alloc)?, number, &[program, "x"])?;
         let path = format!(in alloc; "runs/film/frame-7/{number}/stderr.txt")?;
-        let errors = content(&rt, folder.as_str(), path.as_str())?;
+        let errors = service.content(&rt, path.as_str())?;
         let expected = format!(in alloc; "batch: cannot start {reason}\n")?;
         assert_eq!(rt; ran, Ran::NotStarted);
         assert_eq!(rt; errors.as_str(), expected.as_str());
     }
-    let none = spawner.run(alloc, &run, 44, &[]);
-    fs::remove_dir_all(&rt, folder.as_str())?;
+    let none = service.run(&rt, task_run(alloc)?, 44, &[])?;
+    service.remove(&rt)?;
     assert_eq!(rt; none, Ran::NotStarted);
-    assert_eq!(rt; told.counts(), (0, 0, 0, 0));
+    assert_eq!(rt; service.told.counts(), (0, 0, 0, 0));
     Ok(())
 }
 
 #[test]
 fn folders_are_made_again(rt: HostRuntime) -> Result<(), Fail> {
     let alloc = rt.alloc();
-    let folder = new_folder(&rt, "again")?;
-    let folders = ServiceFolders::new(alloc, folder.as_str(), "runs")?;
-    let told = Told::new();
-    let table = ProgramTable::new(alloc)?;
-    let mut spawner = ProgramSpawner::new(rt, &table, &folders, CountingMonitor(&told))?;
-    let run = task_run(alloc)?;
-    let echoes = words(alloc, &["echo", "told"])?;
-    let first = spawner.run(alloc, &run, 50, echoes.as_slice());
-    fs::remove_dir_all(&rt, folders.runs())?;
-    fs::remove_dir_all(&rt, folders.shared())?;
-    let second = spawner.run(alloc, &run, 51, echoes.as_slice());
-    let output = content(&rt, folder.as_str(), "runs/film/frame-7/51/stdout.txt")?;
-    let list = content(&rt, folder.as_str(), "runs/runs.csv")?;
-    fs::remove_dir_all(&rt, folder.as_str())?;
+    let service = Service::new(&rt, "again")?;
+    let first = service.run(&rt, task_run(alloc)?, 50, &["echo", "told"])?;
+    fs::remove_dir_all(&rt, service.folders.runs())?;
+    fs::remove_dir_all(&rt, service.folders.shared())?;
+    let second = service.run(&rt, task_run(alloc)?, 51, &["echo", "told"])?;
+    let output = service.content(&rt, "runs/film/frame-7/51/stdout.txt")?;
+    let list = service.content(&rt, "runs/runs.csv")?;
+    service.remove(&rt)?;
     assert_eq!(rt; first, Ran::Ended(ChildEnding::Code(0)));
     assert_eq!(rt; second, Ran::Ended(ChildEnding::Code(0)));
     assert_eq!(rt; output.as_str(), "told\n");
@@ -337,14 +354,12 @@ fn folders_are_made_again(rt: HostRuntime) -> Result<(), Fail> {
 #[test]
 fn a_start_waits_for_what_passes(rt: HostRuntime) -> Result<(), Fail> {
     let alloc = rt.alloc();
-    let folder = new_folder(&rt, "waits")?;
-    let folders = ServiceFolders::new(alloc, folder.as_str(), "runs")?;
-    let told = Told::new();
-    let table = ProgramTable::new(alloc)?;
-    let mut spawner = ProgramSpawner::new(rt, &table, &folders, CountingMonitor(&told))?;
+    let service = Service::new(&rt, "waits")?;
+    let table = &service.table;
+    let mut spawner = service.spawner(&rt)?;
     let run = task_run(alloc)?;
     let echoes = words(alloc, &["echo", "told"])?;
-    let in_the_way = folders.runs();
+    let in_the_way = service.folders.runs();
     fs::write(&rt, in_the_way, "")?;
     let (ended, (open, removed)) = thread::join(
         &rt,
@@ -355,13 +370,13 @@ fn a_start_waits_for_what_passes(rt: HostRuntime) -> Result<(), Fail> {
             (open, fs::remove_file(&rt, in_the_way))
         },
     );
-    let output = content(&rt, folder.as_str(), "runs/film/frame-7/60/stdout.txt")?;
-    fs::remove_dir_all(&rt, folder.as_str())?;
+    let output = service.content(&rt, "runs/film/frame-7/60/stdout.txt")?;
+    service.remove(&rt)?;
     removed?;
     assert!(rt; open && !table.has_open(&rt));
     assert_eq!(rt; ended, Ran::Ended(ChildEnding::Code(0)));
     assert_eq!(rt; output.as_str(), "told\n");
-    assert_eq!(rt; told.counts(), (1, 1, 0, 0));
+    assert_eq!(rt; service.told.counts(), (1, 1, 0, 0));
     Ok(())
 }
 
@@ -394,25 +409,13 @@ fn without_instants(alloc: Global, line: &str) -> Result<Option<String>, AllocEr
 #[test]
 fn ends_are_listed(rt: HostRuntime) -> Result<(), Fail> {
     let alloc = rt.alloc();
-    let folder = new_folder(&rt, "list")?;
-    let folders = ServiceFolders::new(alloc, folder.as_str(), "runs")?;
-    let told = Told::new();
-    let table = ProgramTable::new(alloc)?;
-    let mut spawner = ProgramSpawner::new(rt, &table, &folders, CountingMonitor(&told))?;
-    let task = task_run(alloc)?;
-    let exits = words(alloc, &["sh", "-c", "exit 3"])?;
-    let killed = words(alloc, &["sh", "-c", "kill -9 $$"])?;
-    let missing = words(alloc, &["/no/such", "say \"so\""])?;
-    spawner.run(alloc, &task, 70, exits.as_slice());
-    spawner.run(alloc, &start_run(alloc)?, 71, killed.as_slice());
-    spawner.run(
-        alloc,
-        &job_run(alloc, RunKind::Prep)?,
-        72,
-        missing.as_slice(),
-    );
-    let list = content(&rt, folder.as_str(), "runs/runs.csv")?;
-    fs::remove_dir_all(&rt, folder.as_str())?;
+    let service = Service::new(&rt, "list")?;
+    let prepares = job_run(alloc, RunKind::Prep)?;
+    service.run(&rt, task_run(alloc)?, 70, &["sh", "-c", "exit 3"])?;
+    service.run(&rt, start_run(alloc)?, 71, &["sh", "-c", "kill -9 $$"])?;
+    service.run(&rt, prepares, 72, &["/no/such", "say \"so\""])?;
+    let list = service.content(&rt, "runs/runs.csv")?;
+    service.remove(&rt)?;
     let expected = [
         "70,task,render,node-3,film,frame-7,code,3,sh -c exit 3,",
         "71,start,render,node-3,,,signal,,sh -c kill -9 $$,",
@@ -426,27 +429,21 @@ fn ends_are_listed(rt: HostRuntime) -> Result<(), Fail> {
         assert_eq!(rt; line.ok_or("two instants")?.as_str(), wanted);
     }
     assert_eq!(rt; lines.next(), None);
-    assert_eq!(rt; told.counts(), (0, 0, 0, 0));
+    assert_eq!(rt; service.told.counts(), (0, 0, 0, 0));
     Ok(())
 }
 
 #[test]
 fn a_fault_of_the_list_is_told_once(rt: HostRuntime) -> Result<(), Fail> {
     let alloc = rt.alloc();
-    let folder = new_folder(&rt, "fault")?;
-    let folders = ServiceFolders::new(alloc, folder.as_str(), "runs")?;
-    let in_the_way = format!(in alloc; "{}/runs.csv", folders.runs())?;
+    let service = Service::new(&rt, "fault")?;
+    let in_the_way = format!(in alloc; "{}/runs.csv", service.folders.runs())?;
     fs::create_dir_all(&rt, in_the_way.as_str())?;
-    let told = Told::new();
-    let table = ProgramTable::new(alloc)?;
-    let mut spawner = ProgramSpawner::new(rt, &table, &folders, CountingMonitor(&told))?;
-    let run = task_run(alloc)?;
-    let echoes = words(alloc, &["echo", "told"])?;
-    let first = spawner.run(alloc, &run, 80, echoes.as_slice());
-    let second = spawner.run(alloc, &run, 81, echoes.as_slice());
-    fs::remove_dir_all(&rt, folder.as_str())?;
+    let first = service.run(&rt, task_run(alloc)?, 80, &["echo", "told"])?;
+    let second = service.run(&rt, task_run(alloc)?, 81, &["echo", "told"])?;
+    service.remove(&rt)?;
     assert_eq!(rt; first, Ran::Ended(ChildEnding::Code(0)));
     assert_eq!(rt; second, Ran::Ended(ChildEnding::Code(0)));
-    assert_eq!(rt; told.counts(), (0, 0, 0, 1));
+    assert_eq!(rt; service.told.counts(), (0, 0, 0, 1));
     Ok(())
 }

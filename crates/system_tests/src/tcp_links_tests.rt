@@ -62,7 +62,7 @@ fn listen<R: Clock + Net<Listener = Socket, Stream = TcpStream> + AllocGlobal + 
 #[derive(Drop)]
 struct Pair<R: Clock + Copy + Drop> {
     client: TcpStream,
-    link: TcpLink<R>,
+    link: TcpLink<R, Silent>,
 }
 
 /// A connection with these times, which ends once the flag is raised.

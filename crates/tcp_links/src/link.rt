@@ -2,13 +2,16 @@
 ghost use Rattle.std.specs.Prelude.{◌≡◌, ◌<◌, None, IfOk};
 ghost use Rattle.std.specs.Io.{ReadsAtMost, WritesAtMost};
 
+use crate::cause::AcceptMonitor;
 use crate::times::LinkTimes;
+use crate::turns::Turns;
 use byte_streams::Failed;
 use http_link::Link;
 use std::io;
 use std::io::{ErrorKind, Read, Write};
 use std::marker::Model;
 use std::net::{Shutdown, TcpStream};
+use std::sync::Arc;
 use std::time::{Clock, Duration};
 
 /// How many calls one read or one write makes at most before it counts as a fault.
@@ -22,9 +25,10 @@ const MAX_DRAIN_READS: usize = 64;
 /// message `message_ms` from the first byte that is read of it to its last, an answer `answer_ms` from its first write to its last,
 /// and the first byte of the next message `kept_ms` from the first read after the answer. Contracts see a link as its count of faults.
 #[derive(Drop)]
-pub struct TcpLink<R: Clock + Copy + Drop> {
+pub struct TcpLink<R: Clock + Copy + Drop, M: AcceptMonitor + Drop> {
     stream: TcpStream,
     times: LinkTimes<R>,
+    turns: Arc<Turns<M>>,
     /// The longest time that a read waits, as the system knows it.
     read_wait: Duration,
     /// The longest time that a write waits, as the system knows it.
@@ -32,7 +36,7 @@ pub struct TcpLink<R: Clock + Copy + Drop> {
     faults: u64,
 }
 
-impl<R: Clock + Copy + Drop> Model for TcpLink<R> {
+impl<R: Clock + Copy + Drop, M: AcceptMonitor + Drop> Model for TcpLink<R, M> {
     ghost use Rattle.std.specs.Prelude.{ℕ};
 
     ghost Value = { ℕ };
@@ -48,9 +52,13 @@ fn may_try_again(error: io::Error) -> bool {
     )
 }
 
-impl<R: Clock + Copy + Drop> TcpLink<R> {
+impl<R: Clock + Copy + Drop, M: AcceptMonitor + Drop> TcpLink<R, M> {
     /// A link over this connection. Fails if the system refuses to bound the waits of the connection. It does not allocate.
-    pub(crate) fn new(stream: TcpStream, times: LinkTimes<R>) -> Result<TcpLink<R>, Failed>
+    pub(crate) fn new(
+        stream: TcpStream,
+        times: LinkTimes<R>,
+        turns: Arc<Turns<M>>,
+    ) -> Result<TcpLink<R, M>, Failed>
         ensures { IfOk result (λ l. l ≡ 0) }
     {
         let mut times = times;
@@ -64,6 +72,7 @@ impl<R: Clock + Copy + Drop> TcpLink<R> {
         Ok(TcpLink {
             stream,
             times,
+            turns,
             read_wait: wait,
             write_wait: wait,
             faults: 0,
@@ -160,7 +169,7 @@ impl<R: Clock + Copy + Drop> TcpLink<R> {
     }
 }
 
-impl<R: Clock + Copy + Drop> Link for TcpLink<R> {
+impl<R: Clock + Copy + Drop, M: AcceptMonitor + Drop> Link for TcpLink<R, M> {
     ghost left = { λ _. None };
 
     ghost taken = { λ _. None };
@@ -177,13 +186,17 @@ impl<R: Clock + Copy + Drop> Link for TcpLink<R> {
         read
     }
 
-    /// Writes to the connection, again if a signal interrupts the wait. Returns `Failed` if the connection fails, if the time for the
+    /// Writes to the connection once the monitor lets it, again if a signal interrupts the wait. Returns `Failed` if the monitor does not let it, if the connection fails, if the time for the
     /// answer is over, or if the connection takes nothing of a piece that is not empty.
     fn write(&mut self, piece: &[u8]) -> Result<usize, Failed> {
         if piece.is_empty() {
             return Ok(0);
         }
-        let written = self.write_in_time(piece);
+        let written = if self.turns.monitor().before_write(piece) {
+            self.write_in_time(piece)
+        } else {
+            Err(Failed)
+        };
         if written.is_err() {
             self.faults = self.faults.saturating_add(1);
         }

@@ -73,13 +73,12 @@ enum NoLink {
 #[derive(Drop)]
 pub struct TcpListener<
     R: Clock + Copy + Drop,
-    M: AcceptMonitor + Copy + Drop,
+    M: AcceptMonitor + Drop,
     S: OpenListener<Stream = TcpStream> + Drop = Socket,
 > {
     rt: R,
-    monitor: M,
     socket: S,
-    turns: Arc<Turns>,
+    turns: Arc<Turns<M>>,
     limits: WaitLimits,
     faults: u64,
     is_out: bool,
@@ -90,7 +89,7 @@ pub struct TcpListener<
 
 impl<
     R: Clock + Copy + Drop,
-    M: AcceptMonitor + Copy + Drop,
+    M: AcceptMonitor + Drop,
     S: OpenListener<Stream = TcpStream> + Drop,
 > Model for TcpListener<R, M, S> {
     ghost use Rattle.tcp_links.specs.Doors.{TcpDoor};
@@ -109,11 +108,11 @@ fn bound_waits(socket: &Socket) -> io::Result<()> {
 
 impl<
     R: Clock + Net<Listener = Socket, Stream = TcpStream> + Copy + Drop,
-    M: AcceptMonitor + Copy + Drop,
+    M: AcceptMonitor + Drop,
 > TcpListener<R, M> {
     /// A listener on the port that the options say. It and all that `another` makes of it accept the given number of connections
     /// together, and then end; they also end once `stopping` is raised, within about `MAX_CALL_MS` if they wait for a connection.
-    /// `all_ended` is raised once each of them has ended or failed. `monitor` is told when no connection can be accepted.
+    /// `all_ended` is raised once each of them has ended or failed. `monitor` is told when no connection can be accepted, and lets links write.
     pub fn bind(
         rt: R,
         alloc: Global,
@@ -131,21 +130,14 @@ impl<
 
 impl<
     R: Clock + Copy + Drop,
-    M: AcceptMonitor + Copy + Drop,
+    M: AcceptMonitor + Drop,
     S: OpenListener<Stream = TcpStream> + Drop,
 > TcpListener<R, M, S> {
-    fn of(
-        rt: R,
-        monitor: M,
-        socket: S,
-        turns: Arc<Turns>,
-        limits: WaitLimits,
-    ) -> TcpListener<R, M, S>
+    fn of(rt: R, socket: S, turns: Arc<Turns<M>>, limits: WaitLimits) -> TcpListener<R, M, S>
         ensures { result ≡ record { faults = 0; is_out = false; has_ended = false } }
     {
         TcpListener {
             rt,
-            monitor,
             socket,
             turns,
             limits,
@@ -169,8 +161,8 @@ impl<
     ) -> Result<TcpListener<R, M, S>, BindFault>
         ensures { IfOk result (λ l. l ≡ record { faults = 0; is_out = false; has_ended = false }) }
     {
-        let turns = Arc::new(alloc, Turns::new(options.connections, flags))?;
-        Ok(TcpListener::of(rt, monitor, socket, turns, options.limits))
+        let turns = Arc::new(alloc, Turns::new(options.connections, flags, monitor))?;
+        Ok(TcpListener::of(rt, socket, turns, options.limits))
     }
 
     /// Another listener on the same socket. It is to be made before any of them is asked for a link.
@@ -180,7 +172,7 @@ impl<
         let socket = self.socket.try_clone()?;
         let turns = Arc::try_clone(&self.turns)?;
         turns.add_listener();
-        Ok(TcpListener::of(self.rt, self.monitor, socket, turns, self.limits))
+        Ok(TcpListener::of(self.rt, socket, turns, self.limits))
     }
 
     /// The port; None if the system does not tell it. It does not allocate.
@@ -189,17 +181,17 @@ impl<
     }
 
     /// A link over this connection.
-    fn link_of(&self, stream: TcpStream) -> Result<TcpLink<R>, AcceptCause> {
-        let Ok(stopping) = self.turns.stopping() else {
+    fn link_of(&self, stream: TcpStream) -> Result<TcpLink<R, M>, AcceptCause> {
+        let (Ok(stopping), Ok(turns)) = (self.turns.stopping(), Arc::try_clone(&self.turns)) else {
             return Err(AcceptCause::SystemMemory);
         };
         LinkTimes::new(self.rt, self.limits, stopping)
-            .and_then(|times| TcpLink::new(stream, times))
+            .and_then(|times| TcpLink::new(stream, times, turns))
             .map_err(|_| AcceptCause::Connection)
     }
 
     /// Waits for a connection; None if there is none in a while.
-    fn try_accept(&self) -> Result<Option<TcpLink<R>>, AcceptCause> {
+    fn try_accept(&self) -> Result<Option<TcpLink<R, M>>, AcceptCause> {
         match self.socket.accept() {
             Ok((stream, _)) => Ok(Some(self.link_of(stream)?)),
             Err(error) if error.kind() == ErrorKind::WouldBlock => Ok(None),
@@ -210,19 +202,19 @@ impl<
     /// Tells of this failure, unless the listeners of the socket have told of one already.
     fn tell_failure(&self, cause: AcceptCause) {
         if self.turns.told().tells_failure(&self.rt) {
-            self.monitor.accept_waits(cause);
+            self.turns.monitor().accept_waits(cause);
         }
     }
 
     /// Tells that connections can be accepted, if it was told that they cannot.
     fn tell_end(&self) {
         if self.turns.told().tells_end() {
-            self.monitor.accept_goes_on();
+            self.turns.monitor().accept_goes_on();
         }
     }
 
     /// Waits for the next connection, and tries again after failures that may pass. It counts each failure.
-    fn next_link(&mut self) -> Result<TcpLink<R>, NoLink>
+    fn next_link(&mut self) -> Result<TcpLink<R, M>, NoLink>
         ensures later { self.old.faults ≤ self.new.faults }
         ensures failed { result ≡ Err NoLinkFailed → Rose self.old.faults self.new.faults }
         ensures same_out { self.new.is_out ≡ self.old.is_out }
@@ -268,10 +260,10 @@ impl<
 
 impl<
     R: Clock + Copy + Drop,
-    M: AcceptMonitor + Copy + Drop,
+    M: AcceptMonitor + Drop,
     S: OpenListener<Stream = TcpStream> + Drop,
 > Listener for TcpListener<R, M, S> {
-    type Link = TcpLink<R>;
+    type Link = TcpLink<R, M>;
 
     ghost faults = { λ l. l.faults };
 
@@ -286,7 +278,7 @@ impl<
     /// Waits for a connection, for as long as it takes. Returns `Ended` once `stopping` is raised, or once the listeners of the socket
     /// have begun to wait for as many connections as were given, and `Failed` if no connection can be accepted any more. The count of
     /// faults may rise in each case.
-    fn accept(&mut self) -> Accepted<TcpLink<R>> {
+    fn accept(&mut self) -> Accepted<TcpLink<R, M>> {
         if self.turns.are_stopping() || !self.turns.take() {
             self.has_ended = true;
             self.end();
@@ -310,7 +302,7 @@ impl<
     }
 
     /// Ends the connection.
-    fn done(&mut self, link: TcpLink<R>) {
+    fn done(&mut self, link: TcpLink<R, M>) {
         link.close();
         self.is_out = false;
     }

@@ -1,4 +1,5 @@
 //! What the listeners of one socket share.
+use crate::cause::AcceptMonitor;
 use crate::retry::Told;
 use std::alloc::AllocError;
 use std::sync::Arc;
@@ -13,24 +14,31 @@ pub struct ListenFlags {
     pub all_ended: Arc<AtomicBool>,
 }
 
-/// How many connections may still be accepted, how many listeners have not ended, the flags, and what was told of failures.
+/// How many connections may still be accepted, how many listeners have not ended, the flags, the monitor, and what was told of failures.
 #[derive(Drop)]
-pub(crate) struct Turns {
+pub(crate) struct Turns<M: AcceptMonitor + Drop> {
+    monitor: M,
     left: AtomicU64,
     listeners: AtomicU64,
     flags: ListenFlags,
     told: Told,
 }
 
-impl Turns {
+impl<M: AcceptMonitor + Drop> Turns<M> {
     /// So many connections, for one listener. It does not allocate.
-    pub fn new(connections: u64, flags: ListenFlags) -> Turns {
+    pub fn new(connections: u64, flags: ListenFlags, monitor: M) -> Turns<M> {
         Turns {
+            monitor,
             left: AtomicU64::new(connections),
             listeners: AtomicU64::new(1),
             flags,
             told: Told::new(),
         }
+    }
+
+    /// The monitor.
+    pub fn monitor(&self) -> &M {
+        &self.monitor
     }
 
     /// Takes the right to accept one connection; false if none is left.

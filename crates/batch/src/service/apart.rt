@@ -3,39 +3,41 @@ use crate::service::ServeFault;
 use crate::service::host::Host;
 use crate::service::start::StartFault;
 use batch_serve::ServeStatus;
-use sql_store::StoreHealth;
+use service_host::Reports;
+use sql_store::{StoreSync, WaitFault};
 use std::alloc::{AllocError, Global};
+use std::io::Eprint;
 use std::sync::atomic::{AtomicBool, Ordering};
 use std::sync::{Arc, Mutex, Wait};
 use std::thread::{JoinHandle, Parker};
-use std::time::Duration;
+use std::time::{Clock, Duration};
 
-/// How often the program looks whether the store is shut, in milliseconds.
+/// How often the program looks whether the store is shut, and writes what nobody waits for, in milliseconds.
 const LOOK_MS: u64 = 1_000;
 
-/// Whether the service has ended, whether its store answers, and what waits for that.
+/// Whether the service has ended, the writes of its store, and what waits for its end.
 #[derive(Drop)]
-pub struct Ending {
+pub struct Ending<R: Eprint + Copy + Drop> {
     has_ended: AtomicBool,
-    health: Mutex<Option<StoreHealth>>,
+    sync: Mutex<Option<StoreSync<Reports<R>>>>,
     parker: Parker,
 }
 
-impl Ending {
+impl<R: Wait + Clock + Eprint + Copy + Drop> Ending<R> {
     /// The service has not ended, and has no store yet. The only error is out of memory.
-    pub fn new(alloc: Global) -> Result<Arc<Ending>, AllocError> {
+    pub fn new(alloc: Global) -> Result<Arc<Ending<R>>, AllocError> {
         let ending = Ending {
             has_ended: AtomicBool::new(false),
-            health: Mutex::new(None),
+            sync: Mutex::new(None),
             parker: Parker::new(),
         };
         Arc::new(alloc, ending).map_err(AllocError::from)
     }
 
-    /// Watches a store of this health. The only error is out of memory.
-    pub fn watch<R: Wait>(&self, rt: &R, health: &StoreHealth) -> Result<(), StartFault> {
-        let health = health.share()?;
-        *self.health.lock(rt) = Some(health);
+    /// Watches a store with these writes. The only error is out of memory.
+    pub fn watch(&self, rt: &R, sync: &StoreSync<Reports<R>>) -> Result<(), StartFault> {
+        let sync = sync.share()?;
+        *self.sync.lock(rt) = Some(sync);
         Ok(())
     }
 
@@ -45,11 +47,10 @@ impl Ending {
         self.parker.unpark();
     }
 
-    /// Whether the service has a store, and it is shut.
-    fn is_shut<R: Wait>(&self, rt: &R) -> bool {
-        let health = self.health.lock(rt);
-        match &*health {
-            Some(health) => health.is_shut(),
+    /// Has one attempt made to write what is not in the store yet, unless it is to wait. Whether the service has a store, and it is shut.
+    fn is_shut(&self, rt: &R) -> bool {
+        match &*self.sync.lock(rt) {
+            Some(sync) => matches!(sync.wait(rt, Some(0)), Err(WaitFault::Shut)),
             None => false,
         }
     }
@@ -58,7 +59,7 @@ impl Ending {
 /// Waits until the service has ended in its thread, or until its store is shut; then the thread goes on, and is cut off at the end of the program.
 pub fn wait_for_end<R: Host>(
     rt: &R,
-    ending: &Ending,
+    ending: &Ending<R>,
     service: JoinHandle<Result<ServeStatus, ServeFault>>,
 ) -> Result<ServeStatus, ServeFault> {
     for _ in rt.forever() {

@@ -1,17 +1,20 @@
 //! What the service makes before it begins.
 ghost use Rattle.std.specs.Prelude.{◌≡◌, false, All, IfOk};
+ghost use Rattle.batch.specs.Crew.{roles_of, crew_of};
 ghost use Rattle.batch.specs.Ready.{IsHostReady};
 
 use crate::service::host::Host;
 use crate::service::start::StartFault;
-use crate::service::workers::{HostListener, HostWorker, Shared, worker_count, workers};
+use crate::service::workers::{
+    HostListener, HostWorker, LANES_PER_SEAT, Shared, worker_count, workers,
+};
 use child_programs::{ProgramTable, ServiceFolders};
 use cli_words::ServeOptions;
 use service_host::{
-    CallLog, HostMonitor, LogWriter, PAUSE_MS, Reports, file_instant, has_threads, log_path,
-    make_folders, runs_path,
+    CallLog, HostMonitor, LogWriter, PAUSE_MS, Reports, ServiceReports, Wakes, file_instant,
+    has_threads, log_path, make_folders, runs_path,
 };
-use sql_store::StoreHealth;
+use sql_store::{StoreHealth, StoreSync};
 use std::alloc::AllocError;
 use std::env;
 use std::sync::Arc;
@@ -36,11 +39,13 @@ pub struct Prepared<R: Host> {
 
 /// The store of a service.
 #[derive(Clone, Copy)]
-pub struct StorePlace<'a> {
+pub struct StorePlace<'a, R: Host> {
     /// The path of its file.
     pub path: &'a str,
     /// Whether its writes fail.
     pub health: &'a StoreHealth,
+    /// What its writes wait in.
+    pub sync: &'a StoreSync<Reports<R>>,
 }
 
 /// What writes the log of calls, while the service runs and after its end.
@@ -63,6 +68,7 @@ fn listen<R: Host>(
     rt: &R,
     options: ServeOptions,
     flags: ListenFlags,
+    sync: Option<&StoreSync<Reports<R>>>,
 ) -> Result<HostListener<R>, StartFault>
     ensures { IfOk result (λ listener. listener.is_out ≡ false) }
 {
@@ -75,7 +81,8 @@ fn listen<R: Host>(
         connections,
         limits: WaitLimits::default(),
     };
-    match TcpListener::bind(*rt, rt.alloc(), listen, flags, Reports::new(*rt)) {
+    let reports = ServiceReports::new(*rt, sync)?;
+    match TcpListener::bind(*rt, rt.alloc(), listen, flags, reports) {
         Ok(listener) => Ok(listener),
         Err(fault) => Err(StartFault::of_bind(fault, options.port)),
     }
@@ -119,13 +126,18 @@ fn new_logs<R: Host>(
 fn share<R: Host>(
     rt: &R,
     ending: &Arc<AtomicBool>,
-    store: Option<StorePlace<'_>>,
+    seats: u8,
+    store: Option<StorePlace<'_, R>>,
 ) -> Result<(Shared<R>, Logs<R>), StartFault> {
     let clock = SystemClock::new(rt.alloc(), *rt, PAUSE_MS, ending)?;
     let instant = file_instant(rt.alloc(), clock.start_ms())?;
-    let (path, health) = match store {
-        Some(store) => (Some(store.path), Some(store.health.share()?)),
-        None => (None, None),
+    let (path, health, sync) = match store {
+        Some(store) => (
+            Some(store.path),
+            Some(store.health.share()?),
+            Some(store.sync.share()?),
+        ),
+        None => (None, None, None),
     };
     let folders = folders(rt, path, instant.as_str())?;
     let logs = new_logs(rt, &folders, instant.as_str())?;
@@ -136,6 +148,8 @@ fn share<R: Host>(
         table,
         folders,
         health,
+        sync,
+        wakes: Wakes::new(rt.alloc(), seats, LANES_PER_SEAT)?,
     };
     Ok((shared, logs))
 }
@@ -153,16 +167,17 @@ fn need_threads<R: Host + Send + 'static>(rt: &R, count: usize) -> Result<(), St
 pub fn prepare<R: Host + Send + 'static>(
     rt: &R,
     options: ServeOptions,
-    store: Option<StorePlace<'_>>,
+    store: Option<StorePlace<'_, R>>,
 ) -> Result<Prepared<R>, StartFault>
-    ensures { IfOk result (λ p. All (λ w. IsHostReady w.kind) p.workers.items) }
+    ensures ready { IfOk result (λ p. All (λ w. IsHostReady w.kind) p.workers.items) }
+    ensures crew { IfOk result (λ p. roles_of p.workers.items ≡ crew_of options.seats options.doors) }
 {
     need_threads(rt, worker_count(options))?;
     let Flag {
         one: ending,
         other: all_ended,
     } = new_flag(rt)?;
-    let (shared, logs) = share(rt, &ending, store)?;
+    let (shared, logs) = share(rt, &ending, options.seats, store)?;
     drop(ending);
     let Flag {
         one: stopping,
@@ -172,15 +187,16 @@ pub fn prepare<R: Host + Send + 'static>(
         stopping,
         all_ended,
     };
-    let listener = listen(rt, options, flags)?;
+    let listener = listen(rt, options, flags, shared.sync.as_ref())?;
     let port = listener.port();
     let runs = String::from_str(rt.alloc(), shared.folders.runs())?;
     let Logs { log, timer, last } = logs;
     let workers = workers(options, &shared, timer, listener)?;
+    let wakes = Arc::try_clone(&shared.wakes)?;
     drop(shared);
     Ok(Prepared {
         workers,
-        monitor: HostMonitor::new(*rt, log, options.journal, monitored),
+        monitor: HostMonitor::new(*rt, log, wakes, options.journal, monitored),
         log: last,
         port,
         runs,

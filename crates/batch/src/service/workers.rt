@@ -1,5 +1,7 @@
 //! The workers of the service: lanes, the timer and doors.
-ghost use Rattle.std.specs.Prelude.{◌≡◌, false, All, IfOk, OnOk};
+ghost use Rattle.std.specs.Prelude.{◌≡◌, [], ◌∷◌, ◌++◌, max, false, replicate, All, IfOk, OnOk};
+ghost use Rattle.std.specs.List.{repeat};
+ghost use Rattle.batch.specs.Crew.{LaneOf, TimerRole, DoorRole, role_of, roles_of, lanes_to, lanes_per_seat, crew_of};
 ghost use Rattle.batch.specs.Ready.{IsHostReady};
 
 use crate::service::host::Host;
@@ -7,22 +9,27 @@ use crate::service::start::StartFault;
 use batch_serve::{Worker, WorkerKind};
 use child_programs::{ProgramSpawner, ProgramStopper, ProgramTable, ServiceFolders};
 use cli_words::ServeOptions;
-use service_host::{LogWriter, Reports, WorkerClock};
-use sql_store::StoreHealth;
+use service_host::{LaneWait, LogWriter, Reports, ServiceReports, TimerWait, Wakes, WorkerClock};
+use sql_store::{StoreHealth, StoreSync};
 use std::alloc::AllocError;
 use std::sync::Arc;
 use system_clock::SystemClock;
 use tcp_links::TcpListener;
 
 /// How many child programs may run at a seat: those of a node's tasks, and one more.
-const LANES_PER_SEAT: u8 = 9;
+pub const LANES_PER_SEAT: u8 = 9;
 
 /// A listener of the service.
-pub type HostListener<R> = TcpListener<R, Reports<R>>;
+pub type HostListener<R> = TcpListener<R, ServiceReports<R>>;
 
 /// A worker of the service.
 pub type HostWorker<R> = Worker<
-    WorkerKind<ProgramSpawner<R, Reports<R>>, ProgramStopper<R>, HostListener<R>, WorkerClock<R>>,
+    WorkerKind<
+        ProgramSpawner<R, ServiceReports<R>>,
+        ProgramStopper<R>,
+        HostListener<R>,
+        WorkerClock<R>,
+    >,
 >;
 
 /// What the lanes, the timer and the doors of a service share: the clock, the table and the folders of child programs, and whether the writes of
@@ -39,34 +46,49 @@ pub struct Shared<R: Host> {
     pub folders: ServiceFolders,
     /// Whether the writes of the store fail; None without a store.
     pub health: Option<StoreHealth>,
+    /// What the writes of the store wait in; None without a store.
+    pub sync: Option<StoreSync<Reports<R>>>,
+    /// What wakes the lanes and the timer.
+    pub wakes: Arc<Wakes>,
 }
 
 impl<R: Host> Shared<R> {
     fn lane(&self, seat: u8) -> Result<HostWorker<R>, StartFault>
-        ensures { IfOk result (λ worker. IsHostReady worker.kind) }
+        ensures ready { IfOk result (λ worker. IsHostReady worker.kind) }
+        ensures role { IfOk result (λ worker. role_of worker.kind ≡ LaneOf seat) }
     {
         let health = match &self.health {
             Some(health) => Some(health.share()?),
             None => None,
         };
-        let reports = Reports::new(self.rt);
+        let reports = ServiceReports::new(self.rt, self.sync.as_ref())?;
         let spawner = ProgramSpawner::new(self.rt, &self.table, &self.folders, reports)?;
-        let clock = WorkerClock::lane(self.rt, &self.clock, health)?;
+        let wait = LaneWait {
+            wakes: Arc::try_clone(&self.wakes)?,
+            seat,
+            health,
+        };
+        let clock = WorkerClock::lane(self.rt, &self.clock, wait)?;
         Ok(Worker::lane(seat, spawner, clock))
     }
 
     fn timer(&self, log: LogWriter<R>) -> Result<HostWorker<R>, StartFault>
-        ensures { IfOk result (λ worker. IsHostReady worker.kind) }
+        ensures ready { IfOk result (λ worker. IsHostReady worker.kind) }
+        ensures role { IfOk result (λ worker. role_of worker.kind ≡ TimerRole) }
     {
         let stopper = ProgramStopper::new(self.rt, &self.table)?;
-        let table = Arc::try_clone(&self.table)?;
-        let clock = WorkerClock::timer(self.rt, &self.clock, table, log)?;
+        let wait = TimerWait {
+            wakes: Arc::try_clone(&self.wakes)?,
+            table: Arc::try_clone(&self.table)?,
+        };
+        let clock = WorkerClock::timer(self.rt, &self.clock, wait, log)?;
         Ok(Worker::timer(stopper, clock))
     }
 
     fn door(&self, listener: HostListener<R>) -> Result<HostWorker<R>, StartFault>
         requires none_out { listener.is_out ≡ false }
-        ensures { IfOk result (λ worker. IsHostReady worker.kind) }
+        ensures ready { IfOk result (λ worker. IsHostReady worker.kind) }
+        ensures role { IfOk result (λ worker. role_of worker.kind ≡ DoorRole) }
     {
         Ok(Worker::door(listener, WorkerClock::door(self.rt, &self.clock)?))
     }
@@ -79,10 +101,25 @@ fn push_worker<R: Host>(
 ) -> Result<(), StartFault>
     requires all { All (λ w. IsHostReady w.kind) workers.old.items }
     requires one { IsHostReady worker.kind }
-    ensures { OnOk result (All (λ w. IsHostReady w.kind) workers.new.items) }
+    ensures ready { OnOk result (All (λ w. IsHostReady w.kind) workers.new.items) }
+    ensures role { OnOk result (roles_of workers.new.items ≡ roles_of workers.old.items ++ role_of worker.kind ∷ []) }
 {
     workers.push(worker).map_err(AllocError::from)?;
     Ok(())
+}
+
+/// Adds a door.
+fn push_door<R: Host>(
+    shared: &Shared<R>,
+    listener: HostListener<R>,
+    workers: &mut Vec<HostWorker<R>>,
+) -> Result<(), StartFault>
+    requires none_out { listener.is_out ≡ false }
+    requires all { All (λ w. IsHostReady w.kind) workers.old.items }
+    ensures ready { OnOk result (All (λ w. IsHostReady w.kind) workers.new.items) }
+    ensures roles { OnOk result (roles_of workers.new.items ≡ roles_of workers.old.items ++ DoorRole ∷ []) }
+{
+    push_worker(workers, shared.door(listener)?)
 }
 
 /// Adds so many doors, one at least. The last one has the listener of which the others are made.
@@ -94,15 +131,31 @@ fn push_doors<R: Host>(
 ) -> Result<(), StartFault>
     requires none_out { listener.is_out ≡ false }
     requires all { All (λ w. IsHostReady w.kind) workers.old.items }
-    ensures { OnOk result (All (λ w. IsHostReady w.kind) workers.new.items) }
+    ensures ready { OnOk result (All (λ w. IsHostReady w.kind) workers.new.items) }
+    ensures roles { OnOk result (roles_of workers.new.items ≡ roles_of workers.old.items ++ replicate (max 1 doors) DoorRole) }
 {
-    for _ in 1..doors {
+    let others = doors.saturating_sub(1);
+    for _made in 0..others {
         let another = listener
             .another()
             .map_err(|fault| StartFault::of_bind(fault, 0))?;
-        push_worker(workers, shared.door(another)?)?;
+        push_door(shared, another, workers)?;
     }
-    push_worker(workers, shared.door(listener)?)
+    push_door(shared, listener, workers)?;
+    Ok(())
+}
+
+/// Adds a lane at this seat.
+fn push_lane<R: Host>(
+    shared: &Shared<R>,
+    seat: u8,
+    workers: &mut Vec<HostWorker<R>>,
+) -> Result<(), StartFault>
+    requires all { All (λ w. IsHostReady w.kind) workers.old.items }
+    ensures ready { OnOk result (All (λ w. IsHostReady w.kind) workers.new.items) }
+    ensures roles { OnOk result (roles_of workers.new.items ≡ roles_of workers.old.items ++ LaneOf seat ∷ []) }
+{
+    push_worker(workers, shared.lane(seat)?)
 }
 
 /// Adds a lane for each seat.
@@ -112,10 +165,11 @@ fn push_lanes<R: Host>(
     workers: &mut Vec<HostWorker<R>>,
 ) -> Result<(), StartFault>
     requires all { All (λ w. IsHostReady w.kind) workers.old.items }
-    ensures { OnOk result (All (λ w. IsHostReady w.kind) workers.new.items) }
+    ensures ready { OnOk result (All (λ w. IsHostReady w.kind) workers.new.items) }
+    ensures roles { OnOk result (roles_of workers.new.items ≡ roles_of workers.old.items ++ lanes_to seats) }
 {
-    for seat in 1..=seats {
-        push_worker(workers, shared.lane(seat)?)?;
+    for index in 0..seats {
+        push_lane(shared, index + 1, workers)?;
     }
     Ok(())
 }
@@ -128,9 +182,10 @@ fn push_all_lanes<R: Host>(
     workers: &mut Vec<HostWorker<R>>,
 ) -> Result<(), StartFault>
     requires all { All (λ w. IsHostReady w.kind) workers.old.items }
-    ensures { OnOk result (All (λ w. IsHostReady w.kind) workers.new.items) }
+    ensures ready { OnOk result (All (λ w. IsHostReady w.kind) workers.new.items) }
+    ensures roles { OnOk result (roles_of workers.new.items ≡ roles_of workers.old.items ++ repeat lanes_per_seat (lanes_to seats)) }
 {
-    for _ in 0..LANES_PER_SEAT {
+    for _round in 0..LANES_PER_SEAT {
         push_lanes(shared, seats, workers)?;
     }
     Ok(())
@@ -150,7 +205,8 @@ pub fn workers<R: Host>(
     listener: HostListener<R>,
 ) -> Result<Vec<HostWorker<R>>, StartFault>
     requires none_out { listener.is_out ≡ false }
-    ensures { IfOk result (λ workers. All (λ w. IsHostReady w.kind) workers.items) }
+    ensures ready { IfOk result (λ workers. All (λ w. IsHostReady w.kind) workers.items) }
+    ensures crew { IfOk result (λ workers. roles_of workers.items ≡ crew_of options.seats options.doors) }
 {
     let mut workers = Vec::new(shared.rt.alloc());
     push_all_lanes(shared, options.seats, &mut workers)?;

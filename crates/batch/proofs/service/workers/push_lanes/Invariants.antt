@@ -1,5 +1,11 @@
+use Rattle.std.proofs.Common.{◌≡◌, ◌++◌}
+use Rattle.batch.specs.Crew.{roles_of, lanes_to}
 use Rattle.batch.specs.Ready.{AreReady}
 use Rattle.batch.proofs.service.workers.push_lanes.Given as goal
 
-abbrev pub invariant-loop-seat : goal.invariant-loop-seat
-invariant-loop-seat g l = AreReady l.workers.items
+-- so many seats as were counted have a lane more
+abbrev pub invariant-loop-index : goal.invariant-loop-index
+invariant-loop-index g l = record {
+  ready : AreReady l.workers.items;
+  roles : roles_of l.workers.items ≡ roles_of l.fn.workers.items ++ lanes_to l.index;
+}
