@@ -8,6 +8,8 @@ mod bt_times_tests;
 #[cfg(test)]
 mod cli_words_tests;
 #[cfg(test)]
+mod dependency_counts_tests;
+#[cfg(test)]
 mod first_tree_tests;
 #[cfg(test)]
 mod formula_eval_tests;

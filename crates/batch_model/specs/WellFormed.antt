@@ -42,7 +42,7 @@ is_pool_in_range pool =
     is_slot_count pool.slots && is_target pool.dedicated && nat_eq pool.low 0
     && is_resize_timeout pool.usual_timeout && is_resize_timeout pool.timeout && passes_if_some is_start_in_range pool.start
 
--- numbers of nodes, also of those that a row names, begin at 1
+-- numbers of nodes begin at 1
 abbrev pub is_node_number : ℕ → Bool
 is_node_number number = is_from_to 1 last_number number
 

@@ -7,9 +7,7 @@ ghost use Rattle.dependency_counts.specs.Counts.{Live as LiveTask, has_key, is_l
 use crate::dependencies::{is_unblocked, waiting_count};
 use crate::live::{CountKey, Live};
 use crate::steps::Steps;
-#[cfg(test)]
-use bt_base::Id;
-use bt_base::{Duplicate, NoMemory};
+use bt_base::{Duplicate, Id, NoMemory};
 use bt_rows::task::TaskRow;
 use std::alloc::Global;
 use std::marker::Model;
@@ -52,6 +50,27 @@ impl Counts {
             lives: Vec::new(alloc),
             next: 0,
         }
+    }
+
+    /// Whether the key is one of a live task. It does not allocate.
+    pub fn is_live(&self, key: CountKey) -> bool
+        ensures { result ≡ is_live self.now key }
+    {
+        self.lives.iter().any(|live| live.key.number == key.number)
+    }
+
+    /// Whether each live task is of the job. It does not allocate.
+    pub fn are_of_job(&self, job: &Id) -> bool
+        ensures { result ≡ are_of_job self.now job.now }
+    {
+        self.lives.iter().all(|live| live.task.job.same(job))
+    }
+
+    /// Whether a live task has the id. It does not allocate.
+    pub fn has_id(&self, id: &Id) -> bool
+        ensures { result ≡ has_id self.now id.now }
+    {
+        self.lives.iter().any(|live| live.task.id.same(id))
     }
 
     /// Adds a task, which does not satisfy, and returns its key. The only error is out of memory, also after 2^64 - 1 tasks were
@@ -126,30 +145,6 @@ impl Counts {
             None => first_ready(&self.lives, &self.lives),
             Some(key) => first_ready(&self.lives, after_key(&self.lives, key)),
         }
-    }
-}
-
-#[cfg(test)]
-impl Counts {
-    /// Whether the key is one of a live task.
-    pub(crate) fn is_live(&self, key: CountKey) -> bool
-        ensures { result ≡ is_live self.now key }
-    {
-        self.lives.iter().any(|live| live.key.number == key.number)
-    }
-
-    /// Whether each live task is of the job.
-    pub(crate) fn are_of_job(&self, job: &Id) -> bool
-        ensures { result ≡ are_of_job self.now job.now }
-    {
-        self.lives.iter().all(|live| live.task.job.same(job))
-    }
-
-    /// Whether a live task has the id.
-    pub(crate) fn has_id(&self, id: &Id) -> bool
-        ensures { result ≡ has_id self.now id.now }
-    {
-        self.lives.iter().any(|live| live.task.id.same(id))
     }
 }
 

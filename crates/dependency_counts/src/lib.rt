@@ -11,6 +11,3 @@ pub use conditions::condition;
 pub use counts::Counts;
 pub use live::{CountKey, Live};
 pub use steps::Steps;
-
-#[cfg(test)]
-mod tests;

@@ -1,15 +1,12 @@
 //! The options of endings, and counts before and after calls.
 ghost use Rattle.std.specs.Prelude.{◌≡◌, ◌<◌};
 
-use crate::condition;
-use crate::counts::Counts;
-use crate::live::CountKey;
-use crate::steps::Steps;
 use bt_base::{CommandLine, Id, List, SharedList};
 use bt_rows::limits::DEPENDENCY_RANGE_LIMIT;
 use bt_rows::run::Ending;
 use bt_rows::settings::{Settings, TaskSettings};
 use bt_rows::task::{Given, JobAction, Options, TaskRow, TaskStage};
+use dependency_counts::{CountKey, Counts, Steps, condition};
 use std::alloc::Global;
 use std::marker::Brand;
 use std::sync::ledger::{Blank, Ledger};

@@ -1,4 +1,4 @@
-use Rattle.dependency_counts.proofs.tests.two_tasks_may_have_one_number.Given as goal
+use Rattle.base_tests.proofs.dependency_counts_tests.two_tasks_may_have_one_number.Given as goal
 
 -- the ledger is the blank's
 abbrev pub ghosts-count_numbers : goal.ghosts-count_numbers

@@ -1,4 +1,4 @@
-use Rattle.dependency_counts.proofs.tests.ready_tasks_are_found_in_the_order_of_adding.Given as goal
+use Rattle.base_tests.proofs.dependency_counts_tests.ready_tasks_are_found_in_the_order_of_adding.Given as goal
 
 -- the ledger is the blank's
 abbrev pub ghosts-find_ready : goal.ghosts-find_ready
