@@ -39,7 +39,7 @@ pub fn is_past(state: JobState) -> bool
     )
 }
 
-/// Whether no end of the task is wanted, and no start of it has failed.
+/// Whether no end of the task is wanted, and no ending counts in place of its main command's.
 pub fn is_undisturbed(task: &TaskRow) -> bool
     ensures { result ≡ is_undisturbed task.now }
 {

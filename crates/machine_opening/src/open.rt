@@ -77,7 +77,7 @@ fn opened_pool(now: u64, pool: &PoolRow) -> Result<Option<PoolRow>, NoMemory>
     }
 }
 
-/// Whether the task is placed, no end of it is wanted, no start of it has failed, and its main run has not ended.
+/// Whether the task is placed, no end of it is wanted, no ending counts in place of its main command's, and that command's run has not ended.
 fn is_cut_short(tables: &Tables, task: &TaskRow) -> bool
     ensures { result ≡ is_cut_short tables.now.state task.now }
 {
