@@ -14,6 +14,7 @@ use Rattle.model_laws.proofs.ReleaseRunsByDues.{due_releases}
 use Rattle.model_laws.proofs.ReleasesByEvents.{few_by_event}
 use Rattle.model_laws.proofs.ReleasesByDues.{few_by_due}
 use Rattle.model_laws.proofs.OrderOfAll.{places_in_order}
+use Rattle.model_laws.proofs.NoneToPlace.{none_to_place}
 use Rattle.model_laws.proofs.PlacingsByDues.{due_placings}
 use Rattle.model_laws.proofs.PlacingsByEvents.{event_placings}
 use Rattle.model_laws.proofs.StartsByEvents.{event_retries}
@@ -58,6 +59,7 @@ module _ (seats : ℕ) (opened : State) where
     event_placings = λ moment event. event_placings moment event s;
     due_placings = λ step e. due_placings seats s step h.sound e;
     order = places_in_order seats s h.sound;
+    idle = none_to_place s seats;
     events = λ moment event. event_retries seats moment event s h.sound;
     dues = λ step e. due_retries seats s step h.sound e;
     sound = h.sound;

@@ -1,17 +1,18 @@
 -- Laws of a legal history.
-use Rattle.std.specs.Prelude.{◌≡◌, ◌≤◌, ℕ, true, max, List, ◌∷◌, ◌++◌, Option, Some}
+use Rattle.std.specs.Prelude.{◌≡◌, ◌≤◌, ℕ, true, max, List, ◌∷◌, ◌++◌, Option, Some, None}
 use Rattle.bt_rows.specs.declared.event.EventKind.{EventKind}
 use Rattle.bt_rows.specs.declared.refusal.Refusal.{Refusal}
 use Rattle.bt_rows.specs.declared.reply.Reply.TheVariants.{Refused}
 use Rattle.batch_model.specs.Dues.{due_step}
 use Rattle.batch_model.specs.Events.{event_step, at_moment}
+use Rattle.batch_model.specs.Finding.{has_number_left}
 use Rattle.batch_model.specs.Laws.{HoldsWithinSlots, JobsEndAtRest, JobsReleaseOnce}
 use Rattle.batch_model.specs.Measure.{rank}
 use Rattle.batch_model.specs.Sound.{RunsBelong, IsSound}
 use Rattle.batch_model.specs.Steps.{DueStep}
 use Rattle.batch_model.specs.Variants.{State}
 use Rattle.model_laws.specs.Measure.{comes_below}
-use Rattle.model_laws.specs.Order.{PlacesInOrder}
+use Rattle.model_laws.specs.Order.{PlacesInOrder, HasNoneToPlace}
 use Rattle.model_laws.specs.ReleaseRuns.{EventReleases, DueReleases}
 use Rattle.model_laws.specs.Releases.{releases_of}
 use Rattle.model_laws.specs.Placings.{EventPlacings, DuePlacings}
@@ -37,8 +38,8 @@ HasFewReleases earlier later = (job : List ℕ) (node : ℕ) → releases_of lat
 -- What holds of the tables at each moment, and of each step that may follow there. No node holds more slots than its pool has,
 -- and the next due step that places a task places one that is ready, on a usable node of its job's pool, in the slots that are
 -- free there; it is the first one that may be placed and fits, in one order of all tasks: higher priority of the job, then the
--- earlier job, then the earlier task. A completed job has no placed task and no unended run, and the next due step that ends a job
--- ends one without both.
+-- earlier job, then the earlier task. At rest there is none. A completed job has no placed task and no unended run, and the next due
+-- step that ends a job ends one without both.
 -- The next due step that makes a release run of a job on a node makes the first one there, after the job's preparation was
 -- completed there, and more than one is only where the opened tables had more. An unended run of a task is of the present attempt
 -- of a placed task, and a `take` of it is accepted only so, after the preparation of its job on its node if that is waited for.
@@ -57,6 +58,8 @@ pub record HoldsLaws (seats : ℕ) (opened s : State) : Type 0 where
   pub due_placings : (step : DueStep) → due_step seats s ≡ Some step → DuePlacings s step
   -- of all tasks, in the order of placing, the first one that may be placed and fits is placed
   pub order : PlacesInOrder s
+  -- where no due step is left, no task is left that may be placed and fits, while run numbers are left
+  pub idle : due_step seats s ≡ None → has_number_left s.next_run ≡ true → HasNoneToPlace s
   pub events : (moment : ℕ) (event : EventKind) → EventRetries s event (event_step moment event s).state
   pub dues : (step : DueStep) → due_step seats s ≡ Some step → DueRetries s step
   -- the tables are sound, and stay so
@@ -65,7 +68,7 @@ pub record HoldsLaws (seats : ℕ) (opened s : State) : Type 0 where
   pub sound_dues : (step : DueStep) → due_step seats s ≡ Some step → IsSound seats step.state
   -- a due step lowers the rank, so due steps come to an end
   pub falls : (step : DueStep) → due_step seats s ≡ Some step → comes_below (rank step.state) (rank s) ≡ true
-  -- a run number that was given is not given again, and a run that has ended stays so
+  -- a run number that was given is not given again: a run with it is the one that was there, and one that has ended stays so
   pub run_events : (moment : ℕ) (event : EventKind) → KeepsRuns s (event_step moment event s).state
   pub run_dues : (step : DueStep) → due_step seats s ≡ Some step → KeepsRuns s step.state
   -- no event makes a release run, a due step makes only the first one of a job on a node, and it stays while the job has its row

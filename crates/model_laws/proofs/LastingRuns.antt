@@ -10,7 +10,7 @@ use Rattle.batch_model.specs.Finding.{Each}
 use Rattle.batch_model.specs.Laws.{is_release_of}
 use Rattle.batch_model.specs.Preparing.{queued}
 use Rattle.batch_model.specs.Rows.{is_run, run_of, put_job, change_runs, add_run_row}
-use Rattle.batch_model.specs.Runs.{is_waiting, is_ended, is_start, is_preparation, is_open_preparation, prepares, asked_to_stop, withdrawn, halted_in, halted}
+use Rattle.batch_model.specs.Runs.{is_waiting, is_ended, is_unended, is_start, is_preparation, is_open_preparation, prepares, asked_to_stop, withdrawn, halted_in, halted}
 use Rattle.batch_model.specs.Stops.{is_run_of_stopped, stop, halt_preparations, disable, job_for, close}
 use Rattle.batch_model.specs.Tasks.{is_in_job}
 use Rattle.batch_model.specs.Variants.{State, JobRow, JobState, TaskRow, Want, WantRequeue, WantTerminate, Ending, RunRow, RunState, Waiting, Queued, Taken}
@@ -21,12 +21,12 @@ use Rattle.model_lists.proofs.RowSums.{count_append, count_none, count_change_at
 use Rattle.model_lists.proofs.Tests.{or_false, or_false_first, or_false_second}
 use Rattle.model_laws.specs.Runs.{is_open}
 
--- a run that passes after a change did before; only a waiting run is queued, and only one that has not ended is taken
+-- a run that passes after a change did before; only a waiting run is queued, and only an unended one is taken
 pub record IsLasting (test : RunRow → Bool) : Type 0 where
   pub if_halted : (now : ℕ) (run : RunRow) → test (halted now run) ≡ true → test run ≡ true
   pub if_asked : (run : RunRow) → test (asked_to_stop run) ≡ true → test run ≡ true
   pub if_queued : (run : RunRow) → is_waiting run.state ≡ true → test (queued run) ≡ true → test run ≡ true
-  pub if_taken : (now : ℕ) (run : RunRow) → is_ended run.state ≡ false → test (taken_run now run) ≡ true → test run ≡ true
+  pub if_taken : (now : ℕ) (run : RunRow) → is_unended run.state ≡ true → test (taken_run now run) ≡ true → test run ≡ true
   pub if_ended : (now : ℕ) (ending : Ending) (run : RunRow) → test (ended_run now ending run) ≡ true → test run ≡ true
 
 -- tests that last
@@ -86,11 +86,44 @@ open_lasts number = record {
       (λ e h. unended_before (nat_eq run.number number) (is_ended run.state) false e h) (λ h. h);
   if_asked = λ run h. h;
   if_queued = λ run w h. unended_before (nat_eq run.number number) (is_ended run.state) false (waiting_unended run.state w) h;
-  if_taken = λ now run e h. unended_before (nat_eq run.number number) (is_ended run.state) false e h;
+  if_taken = λ now run e h. unended_before (nat_eq run.number number) (is_ended run.state) false (not_ended run.state e) h;
   if_ended = λ now ending run h. ended_not (nat_eq run.number number) h;
 }
   where
+    not_ended : (state : RunState) → is_unended state ≡ true → is_ended state ≡ false
+    not_ended Waiting h = refl
+    not_ended Queued h = refl
+    not_ended Taken h = refl
+    not_ended (Ended ending) h = cc
+    not_ended Withdrawn h = cc
+
     waiting_unended : (state : RunState) → is_waiting state ≡ true → is_ended state ≡ false
+    waiting_unended Waiting h = refl
+    waiting_unended Queued h = cc
+    waiting_unended Taken h = cc
+    waiting_unended (Ended ending) h = cc
+    waiting_unended Withdrawn h = cc
+
+-- the run has the number, and is unended
+abbrev pub is_unended_run : ℕ → RunRow → Bool
+is_unended_run number run = nat_eq run.number number && is_unended run.state
+
+-- one that is unended
+still_unended : (same before : Bool) → before ≡ true → (same && true) ≡ true → (same && before) ≡ true
+still_unended same before e h = rw e h
+
+pub unended_lasts : (number : ℕ) → IsLasting (is_unended_run number)
+unended_lasts number = record {
+  if_halted =
+      λ now run. halted_before (is_unended_run number) now run
+      (λ e h. ended_not (nat_eq run.number number) h) (λ h. h);
+  if_asked = λ run h. h;
+  if_queued = λ run w h. still_unended (nat_eq run.number number) (is_unended run.state) (waiting_unended run.state w) h;
+  if_taken = λ now run e h. still_unended (nat_eq run.number number) (is_unended run.state) e h;
+  if_ended = λ now ending run h. ended_not (nat_eq run.number number) h;
+}
+  where
+    waiting_unended : (state : RunState) → is_waiting state ≡ true → is_unended state ≡ true
     waiting_unended Waiting h = refl
     waiting_unended Queued h = cc
     waiting_unended Taken h = cc

@@ -1,6 +1,7 @@
 pub mod Measure
 pub mod LastingRuns
 pub mod StayingRuns
+pub mod SameRuns
 pub mod MadeRuns
 pub mod RunsKept
 pub mod RunEnds
@@ -25,3 +26,4 @@ pub mod PlacingsByDues
 pub mod OrderedRows
 pub mod Order
 pub mod OrderOfAll
+pub mod NoneToPlace

@@ -3,6 +3,8 @@ use Rattle.std.proofs.Common.{sym, ◌≡◌, ℕ, ◌≤◌, ◌<◌, Bool, tru
 use Rattle.std.proofs.Common.{inl, inr, refl, ◌∙◌, subst, arith}
 use Rattle.std.specs.List.{list_any}
 use Rattle.std.proofs.lemmas.Bool.Decides.{nat_tests}
+use Rattle.bt_rows.specs.Keys.{same_run}
+use Rattle.bt_rows.specs.Lists.{AreDistinct}
 use Rattle.bt_rows.specs.declared.event.EventKind.{EventKind}
 use Rattle.batch_model.specs.Finding.{Each}
 use Rattle.batch_model.specs.Laws.{is_release_of}
@@ -15,6 +17,7 @@ use Rattle.model_laws.specs.Retries.{StartsAgain, PreparesAgain}
 use Rattle.model_laws.specs.Runs.{is_open, KeepsRuns}
 use Rattle.model_laws.proofs.LastingRuns.{IsLasting, HasNoMore, no_change, both_steps, added, none_after, still_gone, still_closed, number_lasts, is_open_run}
 use Rattle.model_laws.proofs.LastingRuns.{open_lasts, is_new_start, starts_last, is_new_preparation, preparations_last, releases_last}
+use Rattle.model_laws.proofs.SameRuns.{same_run_later}
 use Rattle.model_laws.proofs.StayingRuns.{IsStaying, Stays, added_stays}
 
 -- no run is made, and runs change and go in such ways alone; a run that names no task stays
@@ -104,10 +107,13 @@ module _ (s w : State) (event : EventKind) where
   counter_on t (makes_preparation u run k n prep again) = let e : u.next_run ≡ w.next_run = k.next in omega (arith, e)
 
   -- numbers are made once, and runs end once
-  pub keeps_runs : (t : State) → EventRuns s event w t → KeepsRuns w t
-  keeps_runs t does = record {
+  pub keeps_runs : (t : State) → AreDistinct same_run w.runs → EventRuns s event w t → KeepsRuns w t
+  keeps_runs t keys does = record {
     counter = counter_on t does;
     gone = λ number h. gone_on number t h does;
+    same =
+        λ number run h. same_run_later number w t keys
+        (λ test lasts of_number. has_no_more_with test number t lasts of_number h does) run;
     closed = λ number h. closed_on number t h does;
   }
 

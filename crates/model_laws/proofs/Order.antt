@@ -100,7 +100,7 @@ module _ (s : State) where
   give one = only_if (can_be_placed s one) (place_on_choice s one)
 
   -- it is placed if it can be
-  gives : (one : JobTask) → can_be_placed s one ≡ true → is_some (place_on_choice s one) ≡ true
+  pub gives : (one : JobTask) → can_be_placed s one ≡ true → is_some (place_on_choice s one) ≡ true
   gives one = by_pool (pool_of s one.job.pool)
     where
       chosen : (pool : PoolRow) (o : Option NodeRow) → is_some o ≡ true → is_some (option_map (place s one.job one.task) o) ≡ true

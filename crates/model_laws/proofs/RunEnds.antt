@@ -54,6 +54,7 @@ module _ (s : State) (number : ℕ) (ending : Ending) (run : RunRow) (found : ru
           node_there = there;
           start_there = with_start;
           left = and_first (is_within_limit (node.tries + 1) start.retries) (has_number_left s.next_run) left;
+          next = refl;
           on_node = refl;
         })
     start_tried node start false left there with_start failed = none (change_node node failed_node with_ended) refl refl
@@ -128,6 +129,7 @@ module _ (s : State) (number : ℕ) (ending : Ending) (run : RunRow) (found : ru
           prep_there = there;
           preparation_there = of_job;
           left = and_first (is_within_limit (prep.tries + 1) preparation.retries) (has_number_left s.next_run) left;
+          next = refl;
           on_node = refl;
           of_job = refl;
         })

@@ -11,6 +11,7 @@ use Rattle.bt_rows.specs.declared.event.EventKind.TheVariants.{DeleteTask, Termi
 use Rattle.bt_rows.specs.declared.event.JobSpec.{JobSpec}
 use Rattle.bt_rows.specs.declared.event.TaskSpec.{TaskSpec}
 use Rattle.bt_rows.specs.declared.refusal.Refusal.TheVariants.{PoolNotFound, JobNotFound, TaskNotFound, JobStateRefuses, RunNotFound, RunAlreadyEnded}
+use Rattle.bt_rows.specs.declared.refusal.Refusal.TheVariants.{RunWithdrawn}
 use Rattle.bt_rows.specs.declared.refusal.Refusal.{Refusal}
 use Rattle.bt_rows.specs.declared.reply.Reply.TheVariants.{Status}
 use Rattle.batch_model.specs.Events.{refuse, answer, event_step, event_now, at_moment, accept_all, add_pool_refusals, add_job, add_job_in, add_job_refusals}
@@ -25,12 +26,13 @@ use Rattle.batch_model.specs.Finding.{first_of, Each}
 use Rattle.batch_model.specs.Jobs.{is_past, job_in, new_job}
 use Rattle.batch_model.specs.Pools.{new_pool}
 use Rattle.batch_model.specs.Rows.{is_task, job_of, task_of, pool_of, run_of, put_job, put_task, add_pool_row, add_job_row, is_run}
-use Rattle.batch_model.specs.Runs.{is_ended}
+use Rattle.batch_model.specs.Runs.{is_ended, is_withdrawn, is_unended}
 use Rattle.batch_model.specs.Settling.{drop_task}
 use Rattle.batch_model.specs.Sound.{IsSound}
 use Rattle.batch_model.specs.Stops.{stop, disable, close, terminate}
 use Rattle.batch_model.specs.Tasks.{is_placed, terminated}
 use Rattle.batch_model.specs.Variants.{State, JobRow, Terminating, Deleting, Enabling, TaskRow, WantTerminate, WantDelete, Ending, RunRow}
+use Rattle.batch_model.specs.Variants.{RunState, Waiting, Queued, Taken, Ended, Withdrawn}
 use Rattle.model_lists.proofs.Tests.{passes_or_not, and_true, true_not}
 use Rattle.model_lists.proofs.ChangedRows.{each_change}
 use Rattle.model_lists.proofs.RowLists.{each_any, each_found, find_test, none_any, any_found}
@@ -100,6 +102,14 @@ module _ (s : State) where
       (λ absent. same_runs t (task_added t row spec) refl refl))
       (after_same row specs next)
 
+  -- a run that has not ended and is not withdrawn is unended
+  neither : (state : RunState) → is_ended state ≡ false → is_withdrawn state ≡ false → is_unended state ≡ true
+  neither Waiting h k = refl
+  neither Queued h k = refl
+  neither Taken h k = refl
+  neither (Ended ending) h k = cc
+  neither Withdrawn h k = cc
+
   module _ (keys : AreDistinct same_run s.runs) where
     -- each event at the tables' moment
     pub does_now : (event : EventKind) → Does event (event_now event s).state
@@ -159,7 +169,8 @@ module _ (s : State) where
         by_row (Take number) RunNotFound (take_run s) (run_of s number)
         (λ run found. by_answer (Take number) (take_refusals run) 200 (run_taken s run)
         (λ absent. makes_none (run_taken s run)
-        (taken_lasts run s keys (own_number s number run found) (passed (is_ended run.state) RunAlreadyEnded absent.0))))
+        (taken_lasts run s keys (own_number s number run found)
+        (neither run.state (passed (is_ended run.state) RunAlreadyEnded absent.0) (passed (is_withdrawn run.state) RunWithdrawn absent.1.0)))))
     does_now (End number ending) =
         by_row (End number ending) RunNotFound (end_run s ending) (run_of s number)
         (λ run found. by_answer (End number ending) (end_refusals run) 200 (run_ended s ending run)
@@ -168,11 +179,11 @@ module _ (s : State) where
 
 -- numbers of runs are made once, and runs end once, through each event
 pub event_keeps_runs : (seats moment : ℕ) (event : EventKind) (s : State) → IsSound seats s → KeepsRuns s (event_step moment event s).state
-event_keeps_runs seats moment event s h = record { counter = kept.counter; gone = kept.gone; closed = kept.closed }
+event_keeps_runs seats moment event s h = record { counter = kept.counter; gone = kept.gone; same = kept.same; closed = kept.closed }
   where
     kept : KeepsRuns (at_moment moment s) (event_step moment event s).state
     kept =
-        keeps_runs (at_moment moment s) (at_moment moment s) event (event_step moment event s).state
+        keeps_runs (at_moment moment s) (at_moment moment s) event (event_step moment event s).state h.consistent.keys.runs
         (does_now (at_moment moment s) h.consistent.keys.runs event)
 
 -- accepted and refused `end` events

@@ -1,17 +1,17 @@
 -- Changes of tables that make no run.
-use Rattle.std.proofs.Common.{◌≡◌, ℕ, Bool, false, not, ◌||◌, List, Some, find, refl}
+use Rattle.std.proofs.Common.{◌≡◌, ℕ, Bool, true, not, ◌||◌, List, Some, find, refl}
 use Rattle.bt_rows.specs.Keys.{same_run, same_run_equiv}
 use Rattle.bt_rows.specs.Lists.{AreDistinct}
 use Rattle.bt_rows.specs.declared.event.DisableTasks.{DisableTasks}
 use Rattle.bt_rows.specs.declared.event.DisableTasks.TheVariants.{Requeue, Terminate, Wait}
 use Rattle.batch_model.specs.Events.{taken_run, run_taken, ended_run}
 use Rattle.batch_model.specs.Rows.{is_run, change_runs}
-use Rattle.batch_model.specs.Runs.{is_ended, is_run_of_task}
+use Rattle.batch_model.specs.Runs.{is_unended, is_run_of_task}
 use Rattle.batch_model.specs.Settling.{drop_task}
 use Rattle.batch_model.specs.Stops.{stop, disable, close}
 use Rattle.batch_model.specs.Variants.{State, JobRow, JobState, TaskRow, Want, Ending, RunRow}
 use Rattle.model_lists.proofs.DistinctLists.{each_with_key}
-use Rattle.model_lists.proofs.Tests.{asked, not_true, true_not}
+use Rattle.model_lists.proofs.Tests.{asked}
 use Rattle.model_laws.proofs.LastingRuns.{changed, changed_where, dropped, stopped, closed, disabled}
 use Rattle.model_laws.proofs.StayingRuns.{stop_stays, close_stays, disable_stays, drop_stays, end_stays, take_stays}
 use Rattle.model_laws.proofs.MadeRuns.{Lasts}
@@ -61,14 +61,14 @@ ended_lasts number ending s = record {
   next = refl;
 }
 
--- a run that has not ended is taken
-pub taken_lasts : (run : RunRow) (s : State) → AreDistinct same_run s.runs → find (is_run run.number) s.runs ≡ Some run → is_ended run.state ≡ false
+-- an unended run is taken
+pub taken_lasts : (run : RunRow) (s : State) → AreDistinct same_run s.runs → find (is_run run.number) s.runs ≡ Some run → is_unended run.state ≡ true
     → Lasts s (run_taken s run)
 taken_lasts run s keys found open_yet = record {
   runs =
-      λ test lasts. changed_where test (λ row. not (is_run run.number row) || not (is_ended row.state)) (is_run run.number) (taken_run s.moment) s
-      (λ row a t. lasts.if_taken s.moment row (not_true (is_ended row.state) (asked (is_run run.number row) (not (is_ended row.state)) a t)))
-      (each_with_key same_run same_run_equiv (λ (row : RunRow). not (is_ended row.state)) run run s.runs keys found (true_not open_yet));
+      λ test lasts. changed_where test (λ row. not (is_run run.number row) || is_unended row.state) (is_run run.number) (taken_run s.moment) s
+      (λ row a t. lasts.if_taken s.moment row (asked (is_run run.number row) (is_unended row.state) a t))
+      (each_with_key same_run same_run_equiv (λ (row : RunRow). is_unended row.state) run run s.runs keys found open_yet);
   stay = λ test staying. take_stays test staying (is_run run.number) s;
   next = refl;
 }

@@ -25,6 +25,7 @@ module _ (moment : ℕ) (event : EventKind) (s : State) (made : RunRow) where
     node_there = h.node_there;
     start_there = h.start_there;
     left = h.left;
+    next = h.next;
     on_node = h.on_node;
   }
 
@@ -42,6 +43,7 @@ module _ (moment : ℕ) (event : EventKind) (s : State) (made : RunRow) where
     prep_there = h.prep_there;
     preparation_there = h.preparation_there;
     left = h.left;
+    next = h.next;
     on_node = h.on_node;
     of_job = h.of_job;
   }

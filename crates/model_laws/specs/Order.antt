@@ -1,12 +1,12 @@
 -- The order of placing: all tasks in one list, of which the first that may be placed and fits is the next one to be placed.
-use Rattle.std.specs.Prelude.{◌≡◌, Bool, false, not, ◌&&◌, List, [], ◌∷◌, map, filter, find, flat_map, count_by, Option, is_none, if◌then◌else◌}
+use Rattle.std.specs.Prelude.{◌≡◌, Bool, false, not, ◌&&◌, List, [], ◌∷◌, map, filter, find, flat_map, count_by, Option, Some, is_none, if◌then◌else◌}
 use Rattle.std.specs.List.{list_any}
 use Rattle.std.specs.Option.{option_map, option_and_then, option_map_or}
 use Rattle.batch_model.specs.Finding.{only_if, has_number_left}
 use Rattle.batch_model.specs.Jobs.{is_job_active}
 use Rattle.batch_model.specs.Placing.{has_turn, fits, choice, place, is_above, place_first}
 use Rattle.batch_model.specs.Readiness.{is_ready}
-use Rattle.batch_model.specs.Rows.{pool_of}
+use Rattle.batch_model.specs.Rows.{pool_of, job_of, task_of}
 use Rattle.batch_model.specs.Steps.{DueStep}
 use Rattle.batch_model.specs.Tasks.{is_in_job}
 use Rattle.batch_model.specs.Variants.{State, PoolRow, JobRow, TaskRow}
@@ -73,3 +73,9 @@ place_next s = only_if (has_number_left s.next_run) (option_and_then (place_on_c
 pub record PlacesInOrder (s : State) : Type 0 where
   pub all : (test : TaskRow → Bool) → count_by (λ (one : JobTask). test one.task) (tasks_in_order s) ≡ count_by test s.tasks
   pub next : place_first s ≡ place_next s
+
+-- no task of the tables is left that may be placed and fits
+abbrev pub HasNoneToPlace : State → Type 0
+HasNoneToPlace s =
+    (in_job : JobRow) (row : TaskRow) → job_of s row.job ≡ Some in_job → task_of s row.job row.id ≡ Some row →
+    can_be_placed s (record { job = in_job; task = row }) ≡ false

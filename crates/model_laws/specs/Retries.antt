@@ -55,8 +55,8 @@ pub data DueFailures (s : State) (due : Due) (job id : List ℕ) : Option ℕ �
       task_of s job id ≡ Some task → is_below task.failures (retry_limit row task) ≡ true →
       DueFailures s due job id (Some task.failures) (Some (task.failures + 1))
 
--- the event ends a start run without success, and so a start run is made on its node: with that failure the node has no more failures
--- than its pool's start task has retries
+-- the event ends a start run without success, and so a start run is made on its node, with the next number, so that it is the only one:
+-- with that failure the node has no more failures than its pool's start task has retries
 pub record StartsAgain (s : State) (event : EventKind) (made : RunRow) : Type 0 where
   pub number : ℕ
   pub ending : Ending
@@ -70,10 +70,11 @@ pub record StartsAgain (s : State) (event : EventKind) (made : RunRow) : Type 0 
   pub node_there : node_of s run.node ≡ Some node
   pub start_there : start_of s node ≡ Some start
   pub left : is_within_limit (node.tries + 1) start.retries ≡ true
+  pub next : made.number ≡ s.next_run
   pub on_node : made.node ≡ node.number
 
--- the event ends a preparation run without success, and so a preparation run is made of its job on its node: with that failure the
--- preparation has no more failures than the job's preparation task has retries
+-- the event ends a preparation run without success, and so a preparation run is made of its job on its node, with the next number, so
+-- that it is the only one: with that failure the preparation has no more failures than the job's preparation task has retries
 pub record PreparesAgain (s : State) (event : EventKind) (made : RunRow) : Type 0 where
   pub number : ℕ
   pub ending : Ending
@@ -87,6 +88,7 @@ pub record PreparesAgain (s : State) (event : EventKind) (made : RunRow) : Type 
   pub prep_there : prep_of_run s run ≡ Some prep
   pub preparation_there : preparation_of s prep ≡ Some preparation
   pub left : is_within_limit (prep.tries + 1) preparation.retries ≡ true
+  pub next : made.number ≡ s.next_run
   pub on_node : made.node ≡ prep.node
   pub of_job : made.job ≡ Some prep.job
 

@@ -1,5 +1,5 @@
 -- Runs: each number is made once, each run ends once, and a task's run is taken for the present attempt alone.
-use Rattle.std.specs.Prelude.{◌≡◌, ◌<◌, ◌≤◌, ℕ, Bool, true, false, not, ◌&&◌, nat_eq, Some, None}
+use Rattle.std.specs.Prelude.{◌≡◌, ◌<◌, ◌≤◌, ℕ, Bool, true, false, not, ◌&&◌, nat_eq, Option, Some, None}
 use Rattle.std.specs.List.{list_any}
 use Rattle.bt_rows.specs.declared.event.EventKind.TheVariants.{Take}
 use Rattle.bt_rows.specs.declared.refusal.Refusal.TheVariants.{RunNotFound, RunAlreadyEnded}
@@ -8,7 +8,7 @@ use Rattle.bt_rows.specs.declared.reply.Reply.TheVariants.{Status, Refused}
 use Rattle.batch_model.specs.Events.{event_step, is_task_of_run}
 use Rattle.batch_model.specs.Preps.{is_prepared_on}
 use Rattle.batch_model.specs.Rows.{job_of, task_of, run_of}
-use Rattle.batch_model.specs.Runs.{is_ended, is_work, is_present}
+use Rattle.batch_model.specs.Runs.{is_ended, is_unended, is_work, is_present}
 use Rattle.batch_model.specs.Tasks.{is_placed}
 use Rattle.batch_model.specs.Variants.{State, JobRow, TaskRow, RunRow}
 
@@ -16,10 +16,27 @@ use Rattle.batch_model.specs.Variants.{State, JobRow, TaskRow, RunRow}
 abbrev pub is_open : State → ℕ → Bool
 is_open s number = list_any (λ run. nat_eq run.number number && not (is_ended run.state)) s.runs
 
--- the step makes no run with a number that was given before, and no run that has ended is one that has not
+-- the run was there before, as what it is now but for how far it has come, and if it is unended, it was so then
+pub record IsSameRun (before : Option RunRow) (run : RunRow) : Type 0 where
+  pub earlier : RunRow
+  pub there : before ≡ Some earlier
+  pub kind : run.kind ≡ earlier.kind
+  pub node : run.node ≡ earlier.node
+  pub pool : run.pool ≡ earlier.pool
+  pub job : run.job ≡ earlier.job
+  pub task : run.task ≡ earlier.task
+  pub attempt : run.attempt ≡ earlier.attempt
+  pub line : run.line ≡ earlier.line
+  pub slots : run.slots ≡ earlier.slots
+  pub made : run.made ≡ earlier.made
+  pub unended : is_unended run.state ≡ true → is_unended earlier.state ≡ true
+
+-- the step makes no run with a number that was given before, whether its run is gone or there: a run with such a number was there, and is
+-- the same one. No run that has ended is one that has not
 pub record KeepsRuns (before after : State) : Type 0 where
   pub counter : before.next_run ≤ after.next_run
   pub gone : (number : ℕ) → number < before.next_run → run_of before number ≡ None → run_of after number ≡ None
+  pub same : (number : ℕ) (run : RunRow) → number < before.next_run → run_of after number ≡ Some run → IsSameRun (run_of before number) run
   pub closed : (number : ℕ) → number < before.next_run → is_open before number ≡ false → is_open after number ≡ false
 
 -- the run is of the present attempt of a placed task, and its job's preparation on the run's node is completed or not waited for, if the
