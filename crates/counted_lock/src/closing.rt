@@ -200,8 +200,8 @@ fn take_out<D: Journaled<E, O>, E, O>(lock: CountedLock<D, E, O>, all: Place<D, 
 }
 
 impl<D: Journaled<E, O>, E, O> CountedLock<D, E, O> {
-    /// Closes the lock if all passes that were made are handed in, and returns the object. Its journal is the history without
-    /// numbers. The history begins with what each pass has seen, and has no entry under the number of a pass that this pass has not
+    /// Closes the lock if all passes that were made are handed in, of which there is one at least, and returns the object. Its journal is
+    /// the history without numbers. The history begins with what each pass has seen, and has no entry under the number of a pass that this pass has not
     /// seen, and no others without a number. No two of the passes have the same number, and there are no entries under any other
     /// number. Otherwise the error returns
     /// lock and passes as they were, and says how many passes were handed in and how many were made. It does not allocate, and does
@@ -209,6 +209,7 @@ impl<D: Journaled<E, O>, E, O> CountedLock<D, E, O> {
     pub fn close(self, mut passes: Vec<Pass<E, O>>) -> Result<D, PassesOut<D, E, O>>
         requires passes { All (IsPassOf self) passes.items }
         ensures shared { IfOk result (λ d. IsShared D.entries d passes.items) }
+        ensures some { IfOk result (λ _. 0 < length passes.items) }
         ensures origin { IfOk result (λ d. D.origin d ≡ self.origin) }
         ensures untouched { IfErr result (λ o. (o.lock ≡ self) × (o.passes.items ≡ passes.items)) }
         ensures counts { IfErr result (λ o. (o.given ≡ length passes.items) × (o.given < o.made)) }

@@ -26,14 +26,15 @@ pub struct NotClosed<K: Keeper + Drop, M: CallMonitor + Drop> {
 }
 
 impl<K: Keeper + Drop, M: CallMonitor + Drop> SharedDesk<K, M> {
-    /// Closes the desk if all passes that were made are handed in, and returns its keeper and its journal. The journal is the
-    /// shared history without numbers. That history begins with what each pass has seen, and has no call under the number of a pass
+    /// Closes the desk if all passes that were made are handed in, of which there is one at least, and returns its keeper and its journal.
+    /// The journal is the shared history without numbers. That history begins with what each pass has seen, and has no call under the number of a pass
     /// that this pass has not seen, and none without a number; no two of the passes have the same number, and there are no calls under
     /// any other number. It is legal and keeps the laws that stand at `Desk::call`, the keeper tells the tables after it, and counted each keeper fault in
     /// it. Otherwise the error returns desk and passes as they were. It does not allocate, and does not wait.
     pub fn close(self, passes: Vec<Pass>) -> Result<(K, Journal), NotClosed<K, M>>
         requires passes { All (IsPassOf self) passes.items }
         ensures shared { IfOk result (λ r. IsSharedJournal r.1 passes.items) }
+        ensures some { IfOk result (λ _. 0 < length passes.items) }
         ensures opened { IfOk result (λ r. r.1.opened.state ≡ self.origin.opened) }
         ensures seats { IfOk result (λ r. r.1.seats ≡ self.origin.seats) }
         ensures limit { IfOk result (λ r. r.1.limit ≡ self.origin.limit) }
