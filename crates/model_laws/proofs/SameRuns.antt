@@ -1,12 +1,11 @@
 -- A run whose number was given before is the run that had it before.
-use Rattle.std.proofs.Common.{◌≡◌, ℕ, Bool, true, false, not, ◌&&◌, ◌||◌, nat_eq, List, Option, Some, None, refl, sym, ◌∙◌, ap, subst}
+use Rattle.std.proofs.Common.{◌≡◌, ℕ, Bool, true, false, not, ◌&&◌, ◌||◌, nat_eq, List, Option, Some, None, refl, ap, subst}
 use Rattle.std.proofs.lemmas.Bool.Decides.{Decides-eqb}
 use Rattle.std.specs.Bool.{Decides}
 use Rattle.std.specs.Cmp.Lexicographic.{pointwise, bytes_decides}
 use Rattle.std.specs.List.{list_any}
 use Rattle.bt_rows.specs.Keys.{same_run, same_run_equiv}
 use Rattle.bt_rows.specs.Lists.{AreDistinct}
-use Rattle.batch_model.specs.Finding.{Each}
 use Rattle.batch_model.specs.Rows.{is_run, run_of}
 use Rattle.batch_model.specs.Runs.{is_unended}
 use Rattle.batch_model.specs.Variants.{State, RunRow, RunKind, RunState, StartRun, PrepRun, TaskRun, CoordinationRun, ReleaseRun}
