@@ -3,12 +3,16 @@ use denote.Param.Send.{IsSend, IsSync, sendable, struct_send, struct_sync, recor
 use denote.RattleType.{RattleType}
 use denote.Struct.Declared.{shape}
 use Rattle.std.proofs.Crossing.{crosses}
+use Rattle.std.proofs.sync.Mutex.TheSendSync as mutex
+use Rattle.std.specs.contracts.option.Option as Option
+use Rattle.std.below.core.proofs.option.Option.TheSendSync as option
 use Rattle.service_host.specs.contracts.reports.Reports as Reports
 use Rattle.service_host.specs.contracts.reports.ServiceReports as ServiceReports
 use Rattle.service_host.proofs.reports.Reports.TheSendSync as reports
 use Rattle.sql_store.specs.contracts.store.SqlStore as SqlStore
 use Rattle.sql_store.specs.contracts.sync.StoreSync as StoreSync
 use Rattle.sql_store.proofs.Sends.{sync_send, sync_sync, store_send}
+use Rattle.batch.specs.contracts.service.apart.Ending as Ending
 
 -- what others wait in
 pub host_sync_send : (R : RattleType) → IsSend R → IsSend (StoreSync.the_row (Reports.the_row R))
@@ -32,4 +36,23 @@ pub service_reports_sync : (R : RattleType) → IsSend R → IsSync R → IsSync
 service_reports_sync R r y = recorded_sync (ServiceReports.the_field R).row _ _ (ServiceReports.the_type R).to_one (struct_sync (shape (ServiceReports.the_type R)) (
   y,
   (search (host_sync_sync, r, sendable, crosses) depth 20, tt),
+))
+
+-- what waits for the end of a service
+pub ending_send : (R : RattleType) → IsSend R → IsSend (Ending.the_row R)
+ending_send R r = recorded_send (Ending.the_field R).row _ _ (Ending.the_type R).to_one (struct_send (shape (Ending.the_type R)) (
+  search (sendable, crosses) depth 20,
+  (
+    mutex.the_send (Option.the_row (StoreSync.the_row (Reports.the_row R))) (option.the_send (StoreSync.the_row (Reports.the_row R)) (host_sync_send R r)),
+    (search (sendable, crosses) depth 20, tt),
+  ),
+))
+
+pub ending_sync : (R : RattleType) → IsSend R → IsSync (Ending.the_row R)
+ending_sync R r = recorded_sync (Ending.the_field R).row _ _ (Ending.the_type R).to_one (struct_sync (shape (Ending.the_type R)) (
+  search (sendable, crosses) depth 20,
+  (
+    mutex.the_sync (Option.the_row (StoreSync.the_row (Reports.the_row R))) (option.the_send (StoreSync.the_row (Reports.the_row R)) (host_sync_send R r)),
+    (search (sendable, crosses) depth 20, tt),
+  ),
 ))

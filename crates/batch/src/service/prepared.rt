@@ -164,10 +164,10 @@ fn need_threads<R: Host + Send + 'static>(rt: &R, count: usize) -> Result<(), St
 }
 
 /// Listens, makes the folders, and makes the workers and what hears of them. The error says why the service cannot begin.
-pub fn prepare<R: Host + Send + 'static>(
-    rt: &R,
+pub fn prepare<'a, R: Host + Send + 'static>(
+    rt: &'a R,
     options: ServeOptions,
-    store: Option<StorePlace<'_, R>>,
+    store: Option<StorePlace<'a, R>>,
 ) -> Result<Prepared<R>, StartFault>
     ensures ready { IfOk result (λ p. All (λ w. IsHostReady w.kind) p.workers.items) }
     ensures crew { IfOk result (λ p. roles_of p.workers.items ≡ crew_of options.seats options.doors) }
