@@ -1,5 +1,5 @@
 -- Roles of workers that are added to others.
-use Rattle.std.proofs.Common.{◌≡◌, ℕ, zero, suc, ◌+◌, ◌-◌, max, List, [], ◌∷◌, ◌++◌, replicate, append_assoc, append-nil, sym, ap, ◌∙◌, arith}
+use Rattle.std.proofs.Common.{◌≡◌, ℕ, zero, suc, ◌+◌, ◌-◌, max, List, [], ◌∷◌, ◌++◌, map, replicate, append_assoc, append-nil, sym, ap, ◌∙◌, arith}
 use Rattle.std.specs.List.{repeat}
 use Rattle.std.proofs.lemmas.List.{replicate_more}
 use Rattle.std.proofs.lemmas.List.FromFn.{map-range_with_len_more}
@@ -29,3 +29,12 @@ pub doors_more : (doors others : ℕ) → others ≡ doors - 1 → replicate oth
 doors_more doors others o =
     let e : others + 1 ≡ max 1 doors = omega arith in
     replicate_more others DoorRole ∙ ap (λ k. replicate k DoorRole) e
+
+-- lanes, then the timer, then doors, each added to those before
+pub crew_made : {W X : Type 0} (role : W → X) (lanes doors : List X) {timer worker : X} {none : List W} {first second third : List X}
+    → first ≡ map role none ++ lanes → second ≡ first ++ worker ∷ [] → worker ≡ timer → third ≡ second ++ doors
+    → none ≡ [] → third ≡ lanes ++ timer ∷ doors
+crew_made role lanes doors {timer} {worker} f s w t n =
+    t
+    ∙ ap (λ l. l ++ doors) (s ∙ ap (λ l. l ++ worker ∷ []) (f ∙ ap (λ l. map role l ++ lanes) n) ∙ ap (λ x. lanes ++ x ∷ []) w)
+    ∙ append_assoc lanes (timer ∷ []) doors
