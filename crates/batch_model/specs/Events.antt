@@ -4,7 +4,7 @@ use Rattle.std.specs.Prelude.{ℕ, Bool, true, false, not, ◌&&◌, ◌||◌, n
 use Rattle.std.specs.Option.{option_map_or}
 use Rattle.std.specs.List.{list_any}
 use Rattle.bt_rows.specs.declared.event.EventKind.{EventKind}
-use Rattle.bt_rows.specs.declared.event.EventKind.TheVariants.{AddPool, AddJob, PatchJob, DisableJob, EnableJob, TerminateJob, DeleteJob, AddTask, AddTasks}
+use Rattle.bt_rows.specs.declared.event.EventKind.TheVariants.{AddPool, DeletePool, Resize, StopResize, AddJob, PatchJob, DisableJob, EnableJob, TerminateJob, DeleteJob, AddTask, AddTasks}
 use Rattle.bt_rows.specs.declared.event.EventKind.TheVariants.{DeleteTask, TerminateTask, ReactivateTask, Take, End, Tick}
 use Rattle.bt_rows.specs.declared.event.PoolSpec.{PoolSpec}
 use Rattle.bt_rows.specs.declared.event.JobSpec.{JobSpec}
@@ -20,7 +20,7 @@ use Rattle.bt_rows.specs.declared.refusal.Refusal.TheVariants.{DependencyListToo
 use Rattle.bt_rows.specs.declared.refusal.Refusal.TheVariants.{RunNotTaken, RunWithdrawn, RunWaiting, TableFull, TerminationEngaged}
 use Rattle.bt_rows.specs.declared.reply.Element.{Element}
 use Rattle.bt_rows.specs.declared.reply.Element.TheVariants.{Added, NotAdded}
-use Rattle.bt_rows.specs.declared.reply.Reply.TheVariants.{Status, Refused, Elements}
+use Rattle.bt_rows.specs.declared.reply.Reply.TheVariants.{Elements}
 use Rattle.batch_model.specs.Finding.{is_empty, first_of, at_row, names}
 use Rattle.batch_model.specs.Rows.{is_task, is_run, pool_of, job_of, task_of, run_of, put_job, put_task, add_pool_row, add_job_row, add_task_row}
 use Rattle.batch_model.specs.Rows.{change_tasks, change_runs, change_preps}
@@ -36,27 +36,11 @@ use Rattle.batch_model.specs.Limits.{pool_limit, job_limit, task_limit, collecti
 use Rattle.batch_model.specs.WellFormed.{needs_length}
 use Rattle.batch_model.specs.NotBuilt.{not_built}
 use Rattle.batch_model.specs.Steps.{Answered, refuse_if}
+-- answers, and the events of pools that are there
+pub use Rattle.batch_model.specs.Answers.{refuse, accept, answer, for_row}
+use Rattle.batch_model.specs.PoolEvents.{resize_pool, stop_resize, delete_pool}
 use Rattle.batch_model.specs.Variants.{State, PoolRow, JobRow, Enabling, Deleting, Given, TaskRow, Active, WantTerminate, WantDelete, Closed, Ending, RunRow, RunKind, StartRun, PrepRun, TaskRun, CoordinationRun, ReleaseRun, Taken, PrepRow}
 use Rattle.batch_model.specs.Variants.{Ended}
-
--- answers
-
--- a refusal leaves the tables
-abbrev pub refuse : Refusal → State → Answered
-refuse refusal s = record { reply = Refused refusal; state = s }
-
--- a status and the tables after the event
-abbrev pub accept : ℕ → State → Answered
-accept status after = record { reply = Status status; state = after }
-
--- the first refusal that there is, and else a status and the tables after the event
-abbrev pub answer : State → List (Option Refusal) → ℕ → State → Answered
-answer s refusals status after = option_map_or (λ refusal. refuse refusal s) (first_of refusals) (accept status after)
-
--- the answer for a row, or the refusal if there is none
-abbrev pub for_row : {R : Type 0} → State → Refusal → (R → Answered) → Option R → Answered
-for_row s refusal answer_for None = refuse refusal s
-for_row s refusal answer_for (Some row) = answer_for row
 
 -- why a pool is not added, in order; a pool that scales automatically is not built
 abbrev pub add_pool_refusals : State → PoolSpec → List (Option Refusal)
@@ -366,6 +350,9 @@ end_run s ending run = answer s (end_refusals run) 200 (run_ended s ending run)
 -- the event at the tables' moment
 abbrev pub event_now : EventKind → State → Answered
 event_now (AddPool spec) s = add_pool s spec
+event_now (DeletePool pool) s = for_row s PoolNotFound (delete_pool s) (pool_of s pool)
+event_now (Resize pool spec) s = for_row s PoolNotFound (resize_pool s spec) (pool_of s pool)
+event_now (StopResize pool) s = for_row s PoolNotFound (stop_resize s) (pool_of s pool)
 event_now (AddJob job spec) s = add_job s job spec
 event_now (PatchJob job patch) s = for_row s JobNotFound (patch_job s patch) (job_of s job)
 event_now (DisableJob job option) s = for_row s JobNotFound (disable_job s option) (job_of s job)

@@ -1,3 +1,4 @@
+pub mod Answers
 pub mod Conditions
 pub mod Dues
 pub mod Endings
@@ -6,12 +7,14 @@ pub mod Finding
 pub mod JobRules
 pub mod Jobs
 pub mod Laws
+pub mod Leaving
 pub mod Limits
 pub mod Measure
 pub mod Nodes
 pub mod NotBuilt
 pub mod Opening
 pub mod Placing
+pub mod PoolEvents
 pub mod Pools
 pub mod Preparing
 pub mod Preps

@@ -1,10 +1,11 @@
 -- The numbers that due steps lower, compared from the first one on.
 -- Source: this project's own.
-use Rattle.std.specs.Prelude.{ℕ, ◌+◌, ◌-◌, Bool, true, false, not, ◌&&◌, List, [], ◌∷◌, count_by, sum_by, is_some, is_none, if◌then◌else◌}
+use Rattle.std.specs.Prelude.{ℕ, ◌+◌, ◌-◌, ◌*◌, Bool, true, false, not, ◌&&◌, List, [], ◌∷◌, count_by, sum_by, is_some, is_none, if◌then◌else◌}
 use Rattle.batch_model.specs.Tasks.{is_active, is_placed, is_completed, is_busy}
 use Rattle.batch_model.specs.JobRules.{wants_release}
 use Rattle.batch_model.specs.WallTimes.{can_be_asked}
 use Rattle.batch_model.specs.Pools.{is_steady, staying_count}
+use Rattle.batch_model.specs.PoolEvents.{is_leaving_from}
 use Rattle.batch_model.specs.Variants.{State, PoolRow, JobRow, JobState, JobActive, Disabling, Disabled, Enabling, Terminating, JobCompleted, Deleting, TaskRow}
 
 -- how many states at most a job passes through before it is completed, by its state
@@ -26,9 +27,17 @@ abbrev pub one_unless : Bool → ℕ
 one_unless true = 0
 one_unless false = 1
 
--- a node to add counts one, and so does a pool that is not steady
+-- how many nodes of the pool are leaving
+abbrev pub leaving_count : State → List ℕ → ℕ
+leaving_count s pool = count_by (is_leaving_from pool) s.nodes
+
+-- nodes that are to leave, and nodes that are to be added: one that is to leave counts three, since it then leaves, and is dropped
+abbrev pub nodes_to_go : State → PoolRow → ℕ
+nodes_to_go s pool = 3 * (staying_count s pool.id - pool.dedicated) + (pool.dedicated - staying_count s pool.id)
+
+-- these, a node that is leaving, which counts one, and a pool that is not steady, which counts one
 abbrev pub steps_of_pool : State → PoolRow → ℕ
-steps_of_pool s pool = (pool.dedicated - staying_count s pool.id) + one_unless (is_steady pool.alloc)
+steps_of_pool s pool = nodes_to_go s pool + leaving_count s pool.id + one_unless (is_steady pool.alloc)
 
 -- over all pools
 abbrev pub pools_left : State → ℕ

@@ -5,7 +5,6 @@ use Rattle.bt_rows.specs.declared.refusal.Refusal.{Refusal}
 use Rattle.bt_rows.specs.declared.refusal.Refusal.TheVariants.{UnreadableBody}
 use Rattle.batch_model.specs.Finding.{Each}
 use Rattle.batch_model.specs.Runs.{is_unended, is_coordination}
-use Rattle.batch_model.specs.Nodes.{is_leaving}
 use Rattle.batch_model.specs.Variants.{State}
 
 -- an event that has no clause of its own in `event_now` is answered as if its body could not be read, and so are add-pool with a
@@ -14,8 +13,7 @@ use Rattle.batch_model.specs.Variants.{State}
 abbrev pub not_built : Refusal
 not_built = UnreadableBody
 
--- no coordination run is unended, and no node leaves. The rows of coordination runs come with tasks of several instances, and
--- leaving nodes with resizes and deletions; the lemmas that use this then say what these rows keep.
+-- no coordination run is unended. The rows of coordination runs come with tasks of several instances; the lemmas that use this then say
+-- what these rows keep.
 pub record OnlyBuiltRows (s : State) : Type 0 where
   pub runs : Each (λ run. not (is_coordination run.kind && is_unended run.state)) s.runs
-  pub nodes : Each (λ node. not (is_leaving node.stage)) s.nodes

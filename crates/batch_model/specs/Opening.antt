@@ -1,13 +1,13 @@
 -- The opening of tables that an earlier run left: nothing runs, and no node is there.
 -- Source: this project's own.
-use Rattle.std.specs.Prelude.{ℕ, Bool, not, ◌&&◌, nat_eq, [], Some, None, is_some}
+use Rattle.std.specs.Prelude.{ℕ, Bool, not, ◌&&◌, nat_eq, [], Some, is_some}
 use Rattle.batch_model.specs.Rows.{change_pools, change_tasks, change_runs}
 use Rattle.batch_model.specs.Runs.{is_unended}
 -- an unended run is withdrawn now
 pub use Rattle.batch_model.specs.Runs.{withdrawn}
 use Rattle.batch_model.specs.Tasks.{is_placed, is_undisturbed, main_ending}
-use Rattle.batch_model.specs.Pools.{is_stopping}
-use Rattle.batch_model.specs.Variants.{State, PoolRow, Steady, Resizing, TaskRow, WantRequeue}
+use Rattle.batch_model.specs.Pools.{is_stopping, resizing_from}
+use Rattle.batch_model.specs.Variants.{State, PoolRow, Steady, TaskRow, WantRequeue}
 
 -- a pool that is not being deleted and has a target
 abbrev pub is_refilled : PoolRow → Bool
@@ -15,7 +15,7 @@ is_refilled pool = not pool.deleting && not (nat_eq pool.dedicated 0)
 
 -- it resizes again from now, with its usual timeout and no error
 abbrev pub refilled : ℕ → PoolRow → PoolRow
-refilled now pool = record pool { alloc = Resizing; began = now; timeout = pool.usual_timeout; error = None }
+refilled now pool = resizing_from now pool.usual_timeout pool
 
 -- a stopping pool without a target
 abbrev pub is_emptied : PoolRow → Bool

@@ -1,11 +1,11 @@
 -- Pools: their states, how many nodes they have, and new ones.
 -- Source: Azure Batch REST reference, AllocationState and the properties of Pool; seats are this project's own.
-use Rattle.std.specs.Prelude.{ℕ, zero, suc, Bool, true, false, not, ◌&&◌, nat_eq, List, count_by, find, Option, None}
+use Rattle.std.specs.Prelude.{ℕ, zero, suc, Bool, true, false, not, ◌&&◌, nat_eq, List, count_by, filter, find, Option, None}
 use Rattle.std.specs.Option.{option_map_or}
 use Rattle.std.specs.List.{list_any, range_with_len}
 use Rattle.bt_rows.specs.declared.event.PoolSpec.{PoolSpec}
 use Rattle.batch_model.specs.Nodes.{is_leaving, is_in_pool, stays}
-use Rattle.batch_model.specs.Variants.{State, PoolRow, StartTask, Alloc, Steady, Resizing, Stopping, ByRequeue}
+use Rattle.batch_model.specs.Variants.{State, PoolRow, NodeRow, StartTask, Alloc, Steady, Resizing, Stopping, ByRequeue}
 
 abbrev pub is_steady : Alloc → Bool
 is_steady Steady = true
@@ -26,6 +26,14 @@ is_stopping Stopping = true
 abbrev pub has_leaving : State → List ℕ → Bool
 has_leaving s pool = list_any (λ node. is_in_pool pool node && is_leaving node.stage) s.nodes
 
+-- the pool has a node
+abbrev pub has_node : State → List ℕ → Bool
+has_node s pool = list_any (is_in_pool pool) s.nodes
+
+-- the pool's nodes that do not leave
+abbrev pub staying : State → List ℕ → List NodeRow
+staying s pool = filter (stays pool) s.nodes
+
 -- how many of the pool's nodes do not leave
 abbrev pub staying_count : State → List ℕ → ℕ
 staying_count s pool = count_by (stays pool) s.nodes
@@ -42,6 +50,10 @@ waits_for_start pool = option_map_or (λ (start : StartTask). start.wait) pool.s
 abbrev pub first_alloc : ℕ → Alloc
 first_alloc zero = Steady
 first_alloc (suc n) = Resizing
+
+-- it resizes from now, within this time, and has no error
+abbrev pub resizing_from : ℕ → ℕ → PoolRow → PoolRow
+resizing_from now limit pool = record pool { alloc = Resizing; began = now; timeout = limit; error = None }
 
 -- a pool is added with the usual option, and begins to resize
 abbrev pub new_pool : ℕ → PoolSpec → PoolRow
