@@ -75,7 +75,7 @@ consistent_job_added seats s job h new = record {
   ending = h.ending;
   naming = record { on_nodes = h.naming.on_nodes; of_jobs = h.naming.of_jobs };
   slots = h.slots;
-  built = record { runs = h.built.runs; nodes = h.built.nodes };
+  built = record { runs = h.built.runs };
 }
 
 -- a job whose values are in their ranges; it is active

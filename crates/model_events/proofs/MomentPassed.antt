@@ -24,7 +24,7 @@ consistent_empty seats few = record {
   ending = refl;
   naming = record { on_nodes = refl; of_jobs = refl };
   slots = refl;
-  built = record { runs = refl; nodes = refl };
+  built = record { runs = refl };
 }
 
 -- sound tables are sound at a later moment
@@ -65,7 +65,7 @@ consistent_moment seats now s h = record {
   ending = h.ending;
   naming = record { on_nodes = h.naming.on_nodes; of_jobs = h.naming.of_jobs };
   slots = h.slots;
-  built = record { runs = h.built.runs; nodes = h.built.nodes };
+  built = record { runs = h.built.runs };
 }
 
 -- empty tables are within the limits

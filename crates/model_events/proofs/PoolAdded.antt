@@ -83,7 +83,7 @@ consistent_pool_added seats s pool h new = record {
   slots =
       each_of_two (has_slots_for s) (λ (node : NodeRow). has_pool_row s node.pool) (has_slots_for (add_pool_row pool s))
       (λ node. slots_for s pool node new) s.nodes h.slots h.seated.pools_of_nodes;
-  built = record { runs = h.built.runs; nodes = h.built.nodes };
+  built = record { runs = h.built.runs };
 }
 
 -- its values are those of its event

@@ -112,7 +112,7 @@ module _ (s : State) (in_job : List ℕ) (spec : TaskSpec) where
     ending = each_append (can_be_settled s) s.tasks (new_task in_job spec) h.ending refl;
     naming = record { on_nodes = h.naming.on_nodes; of_jobs = h.naming.of_jobs };
     slots = each_weaker (has_slots_for s) (has_slots_for with_task) slots_for s.nodes h.slots;
-    built = record { runs = h.built.runs; nodes = h.built.nodes };
+    built = record { runs = h.built.runs };
   }
 
 -- its values are those of its event, and what it depends on is short enough

@@ -192,7 +192,7 @@ module _ (id : List ℕ) (s : State) where
       of_jobs = each_kept keeps_run names_no_task s.runs h.naming.of_jobs;
     };
     slots = slots_suffice (held_slots after) (held_slots s) s.pools slots_after s.nodes h.slots;
-    built = record { runs = each_kept keeps_run is_built s.runs h.built.runs; nodes = h.built.nodes };
+    built = record { runs = each_kept keeps_run is_built s.runs h.built.runs };
   }
 
   -- fewer rows of the same values

@@ -17,7 +17,7 @@ use Rattle.batch_model.specs.Nodes.{is_leaving, stays}
 use Rattle.batch_model.specs.Runs.{is_unended, start_run, is_start}
 use Rattle.batch_model.specs.Pools.{free_seat, waits_for_start, staying_count}
 use Rattle.batch_model.specs.Slots.{holds_on, held_slots}
-use Rattle.batch_model.specs.Dues.{lacks_node, first_stage, new_node, begin_start, node_added}
+use Rattle.batch_model.specs.Dues.{lacks_node, new_node, begin_start, node_added}
 use Rattle.batch_model.specs.Dues.{add_on, add_node}
 use Rattle.batch_model.specs.Sound.{IsConsistent, are_out_of_order, has_node_row, share_seat, has_node_while_unended, is_of_pool, fits_nodes, has_slots_for}
 use Rattle.batch_model.specs.Sound.{IsWithinLimits, UnendedRunsHaveNoEnd, StartsAreSound, IsSound, awaits_no_start, has_usable_start}
@@ -76,14 +76,6 @@ seat_in_range seats s seat few free =
 -- the tables with the new node, whose start task is not begun yet
 abbrev with_row : State → PoolRow → ℕ → State
 with_row s pool seat = add_node_row (new_node s pool seat) s
-
--- a new node doesn't leave
-new_stays : (pool : PoolRow) → not (is_leaving (first_stage pool)) ≡ true
-new_stays pool = either (waits_for_start pool)
-  where
-    either : (b : Bool) → not (is_leaving (cond b Starting Usable)) ≡ true
-    either true = refl
-    either false = refl
 
 module _ (seats : ℕ) (s : State) (pool : PoolRow) (seat : ℕ) (h : IsConsistent seats s) where
   -- the new node's number is no other node's
@@ -189,10 +181,7 @@ consistent_row seats s pool seat h free f = record {
     of_jobs = h.naming.of_jobs;
   };
   slots = each_append (has_slots_for s) s.nodes (new_node s pool seat) h.slots (slots_suffice seats s pool seat h);
-  built = record {
-    runs = h.built.runs;
-    nodes = each_append (λ (node : NodeRow). not (is_leaving node.stage)) s.nodes (new_node s pool seat) h.built.nodes (new_stays pool);
-  };
+  built = record { runs = h.built.runs };
 }
 
 -- the new node is there

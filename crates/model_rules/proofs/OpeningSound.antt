@@ -302,7 +302,6 @@ module _ (s : State) (h : IsWellFormed s) where
       runs =
           each_weaker is_over (λ run. not (is_coordination run.kind && is_unended run.state))
           (λ run. neither (is_coordination run.kind) (is_unended run.state)) (opening s).runs over;
-      nodes = refl;
     };
   }
     where

@@ -100,7 +100,7 @@ consistent_pool_put seats s row pool test h ids slots f = record {
   ending = h.ending;
   naming = record { on_nodes = h.naming.on_nodes; of_jobs = h.naming.of_jobs };
   slots = each_weaker (has_slots_for s) (has_slots_for (put_pool row s)) (slots_kept s row test pool ids slots f) s.nodes h.slots;
-  built = record { runs = h.built.runs; nodes = h.built.nodes };
+  built = record { runs = h.built.runs };
 }
 
 -- a pool that becomes steady keeps tables sound

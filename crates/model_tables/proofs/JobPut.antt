@@ -88,7 +88,7 @@ module _ (s : State) (row : JobRow) where
     ending = h.ending;
     naming = record { on_nodes = h.naming.on_nodes; of_jobs = h.naming.of_jobs };
     slots = h.slots;
-    built = record { runs = h.built.runs; nodes = h.built.nodes };
+    built = record { runs = h.built.runs };
   }
 
   -- its values are valid, and it has no placed task if it is quiet

@@ -174,7 +174,6 @@ module _ (s : State) (number : ℕ) (pool : List ℕ) (what : RunKind) (text : L
       slots = each_weaker (has_slots_for s) (has_slots_for after) slots_still s.nodes h.slots;
       built = record {
         runs = each_append is_built s.runs run h.built.runs (rw (idle_coordination what idle) refl);
-        nodes = h.built.nodes;
       };
     }
 

@@ -1,9 +1,8 @@
--- Tables stay sound when nodes change their stages and the failures of their start tasks, and no node leaves.
+-- Tables stay sound when nodes change their stages and the failures of their start tasks.
 use Rattle.std.proofs.Common.{◌≡◌, ℕ, Bool, true, not, ◌||◌, nat_lt, refl, ap, ◌∙◌}
 use Rattle.bt_rows.specs.Keys.{same_node}
 use Rattle.bt_rows.specs.Ranges.{is_from_to}
 use Rattle.batch_model.specs.Rows.{is_node, change_nodes}
-use Rattle.batch_model.specs.Nodes.{is_leaving}
 use Rattle.batch_model.specs.Runs.{is_unended}
 use Rattle.batch_model.specs.Sound.{IsConsistent, IsWithinLimits, are_out_of_order, share_seat, has_node_while_unended, is_of_pool, fits_nodes, has_slots_for}
 use Rattle.batch_model.specs.WellFormed.{is_node_in_range, has_pool_row}
@@ -28,10 +27,9 @@ module _ (test : NodeRow → Bool) (stage_of : NodeRow → NodeStage) (tries_of 
   node_there : (run : RunRow) → has_node_while_unended s run ≡ true → has_node_while_unended after run ≡ true
   node_there run h = ap (λ b. not (is_unended run.state) || b) (any_change_same test change (is_node run.node) (λ node t. refl) s.nodes) ∙ h
 
-  -- nodes that do not leave still do not
-  pub consistent_node_changed : (seats : ℕ) → ((node : NodeRow) → not (is_leaving node.stage) ≡ true → not (is_leaving (stage_of node)) ≡ true)
-      → IsConsistent seats s → IsConsistent seats (change_nodes test (restaged stage_of tries_of) s)
-  consistent_node_changed seats stays h = record {
+  -- the rows fit each other
+  pub consistent_node_changed : (seats : ℕ) → IsConsistent seats s → IsConsistent seats (change_nodes test (restaged stage_of tries_of) s)
+  consistent_node_changed seats h = record {
     keys = record {
       pools = h.keys.pools;
       nodes = distinct_change test change same_node (λ x y t. refl) (λ x y t. refl) s.nodes h.keys.nodes;
@@ -72,10 +70,7 @@ module _ (test : NodeRow → Bool) (stage_of : NodeRow → NodeStage) (tries_of 
       of_jobs = h.naming.of_jobs;
     };
     slots = each_change_same test change (has_slots_for s) (λ node t k. k) s.nodes h.slots;
-    built = record {
-      runs = h.built.runs;
-      nodes = each_change_same test change (λ (node : NodeRow). not (is_leaving node.stage)) (λ node t. stays node) s.nodes h.built.nodes;
-    };
+    built = record { runs = h.built.runs };
   }
 
   -- values stay within the limits

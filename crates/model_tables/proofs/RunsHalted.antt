@@ -130,7 +130,6 @@ module _ (test : RunRow → Bool) (s : State) (free : (run : RunRow) → test ru
     slots = slots_suffice (held_slots after) (held_slots s) s.pools (λ node. omega (arith, slots_after node)) s.nodes h.slots;
     built = record {
       runs = each_run is_built (λ run k. off_both (is_coordination run.kind)) (λ run k. k) h.built.runs;
-      nodes = h.built.nodes;
     };
   }
 

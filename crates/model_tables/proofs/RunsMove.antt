@@ -285,7 +285,6 @@ module _ (into : RunRow → RunState) (taken_at ended_at : RunRow → Option ℕ
       runs =
           each_map g is_built is_built
           (λ run e. ended_not_both (is_coordination run.kind) (is_unended (into run)) (is_unended run.state) (ended run) e) s.runs h.built.runs;
-      nodes = h.built.nodes;
     };
   }
     where

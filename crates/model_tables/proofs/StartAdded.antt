@@ -171,7 +171,6 @@ consistent_start_added seats s node start h has = record {
     runs =
         each_append (λ (each : RunRow). not (is_coordination each.kind && is_unended each.state)) s.runs
         (start_run s node start) h.built.runs refl;
-    nodes = h.built.nodes;
   };
 }
 

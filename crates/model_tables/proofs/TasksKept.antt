@@ -117,5 +117,5 @@ module _ (marks : TaskRow → Marks) where
       ending = end;
       naming = record { on_nodes = h.naming.on_nodes; of_jobs = h.naming.of_jobs };
       slots = slots_suffice (held_slots (after s)) (held_slots s) s.pools (slots_after s) s.nodes h.slots;
-      built = record { runs = h.built.runs; nodes = h.built.nodes };
+      built = record { runs = h.built.runs };
     }

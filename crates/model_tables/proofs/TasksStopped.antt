@@ -356,7 +356,6 @@ module _ (test : TaskRow → Bool) (want : Want) (s : State) where
       built = record {
         runs =
             each_run is_built is_built (λ run k. off_both (is_coordination run.kind)) (λ run k. k) (λ run k. k) h.built.runs;
-        nodes = h.built.nodes;
       };
     }
 

@@ -10,8 +10,7 @@ use Rattle.batch_model.specs.Runs.{is_taken}
 use Rattle.batch_model.specs.Events.{ended_run}
 use Rattle.batch_model.specs.Sound.{IsConsistent}
 use Rattle.batch_model.specs.Variants.{State, Ending, RunRow, RunState, Waiting, Queued}
-use Rattle.batch_model.specs.Variants.{Taken, Ended, Withdrawn, NodeRow, NodeStage, Starting, Usable, StartFailed, Leaving}
-use Rattle.batch_model.specs.Nodes.{is_leaving}
+use Rattle.batch_model.specs.Variants.{Taken, Ended, Withdrawn, NodeRow}
 use Rattle.batch_model.specs.Starts.{usable_in, failed_in, counted_node, change_node, start_ended}
 use Rattle.model_lists.proofs.MappedRows.{map_found}
 use Rattle.model_lists.proofs.RowLists.{any_found}
@@ -22,20 +21,6 @@ use Rattle.model_tables.proofs.RunsMove.{Moves, moves_same, moves_if, moved, con
 use Rattle.model_tables.proofs.NodeChanged.{consistent_node_changed}
 use Rattle.model_tables.proofs.StartAdded.{HasNode, consistent_start_added}
 use Rattle.model_events.proofs.end.StartCases.{StartEnds, nothing, starts, again, fails, start_cases}
-
--- a node that does not leave doesn't leave as it has started
-usable_stays : (stage : NodeStage) → not (is_leaving stage) ≡ true → not (is_leaving (usable_in stage)) ≡ true
-usable_stays Starting h = refl
-usable_stays Usable h = refl
-usable_stays StartFailed h = refl
-usable_stays (Leaving option) h = h
-
--- nor as its start task has failed
-failed_stays : (stage : NodeStage) → not (is_leaving stage) ≡ true → not (is_leaving (failed_in stage)) ≡ true
-failed_stays Starting h = refl
-failed_stays Usable h = refl
-failed_stays StartFailed h = refl
-failed_stays (Leaving option) h = h
 
 -- a node that is found by its number is there
 pub has_found_node : (seats : ℕ) (s : State) (number : ℕ) (node : NodeRow) → IsConsistent seats s → node_of s number ≡ Some node → HasNode s node
@@ -61,15 +46,13 @@ consistent_by_start : (seats : ℕ) (s after : State) (run : RunRow) (ending : E
     → IsConsistent seats after
 consistent_by_start seats s after run ending h nothing = h
 consistent_by_start seats s after run ending h (starts node found well) =
-    consistent_node_changed (is_node node.number) (λ (each : NodeRow). usable_in each.stage) (λ (each : NodeRow). each.tries) s seats
-    (λ each. usable_stays each.stage) h
+    consistent_node_changed (is_node node.number) (λ (each : NodeRow). usable_in each.stage) (λ (each : NodeRow). each.tries) s seats h
 consistent_by_start seats s after run ending h (again node start found there failed left) =
     consistent_start_added seats (change_node node counted_node s) node start
-    (consistent_node_changed (is_node node.number) (λ (each : NodeRow). each.stage) (λ (each : NodeRow). each.tries + 1) s seats (λ each k. k) h)
+    (consistent_node_changed (is_node node.number) (λ (each : NodeRow). each.stage) (λ (each : NodeRow). each.tries + 1) s seats h)
     (has_counted s node (has_found_node seats s run.node node h found))
 consistent_by_start seats s after run ending h (fails node start found there failed) =
-    consistent_node_changed (is_node node.number) (λ (each : NodeRow). failed_in each.stage) (λ (each : NodeRow). each.tries + 1) s seats
-    (λ each. failed_stays each.stage) h
+    consistent_node_changed (is_node node.number) (λ (each : NodeRow). failed_in each.stage) (λ (each : NodeRow). each.tries + 1) s seats h
 
 -- a start run that ends keeps tables sound
 pub consistent_start_ended : (seats : ℕ) (s : State) (run : RunRow) (ending : Ending) → IsConsistent seats s → IsConsistent seats (start_ended run ending s)

@@ -478,7 +478,6 @@ module _ (seats : ℕ) (s : State) (job : JobRow) (node : NodeRow) (task : TaskR
           h.slots;
       built = record {
         runs = each_append (λ (each : RunRow). not (is_coordination each.kind && is_unended each.state)) s.runs run h.built.runs refl;
-        nodes = h.built.nodes;
       };
     }
       where

@@ -189,7 +189,7 @@ module _ (seats : ℕ) (s : State) (h : IsSound seats s) (job : JobRow) (found :
         ending = h.consistent.ending;
         naming = record { on_nodes = h.consistent.naming.on_nodes; of_jobs = h.consistent.naming.of_jobs };
         slots = h.consistent.slots;
-        built = record { runs = h.consistent.built.runs; nodes = h.consistent.built.nodes };
+        built = record { runs = h.consistent.built.runs };
       };
       limited = record {
         rows = record {
