@@ -7,6 +7,7 @@ pub mod NodeChanged
 pub mod StartAdded
 pub mod StartsKept
 pub mod PrepsKept
+pub mod PoolPut
 pub mod JobPut
 pub mod TasksStopped
 pub mod TaskMoved
