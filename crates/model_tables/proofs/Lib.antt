@@ -8,6 +8,7 @@ pub mod StartAdded
 pub mod StartsKept
 pub mod PrepsKept
 pub mod PoolPut
+pub mod ScalesDropped
 pub mod JobPut
 pub mod TasksStopped
 pub mod TaskMoved
