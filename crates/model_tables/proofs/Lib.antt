@@ -17,6 +17,7 @@ pub mod RunsHalted
 pub mod JobRunAdded
 pub mod PrepsChanged
 pub mod PrepsHalted
+pub mod NodesLeave
 pub mod JobsStopped
 pub mod OneStopped
 pub mod NoneWaiting
