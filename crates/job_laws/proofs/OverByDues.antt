@@ -5,19 +5,20 @@ use Rattle.bt_rows.specs.Keys.{same_job}
 use Rattle.bt_rows.specs.Lists.{AreDistinct}
 use Rattle.bt_rows.specs.declared.event.DisableTasks.TheVariants.{Requeue}
 use Rattle.batch_model.specs.Conditions.{condition}
-use Rattle.batch_model.specs.Dues.{settle_first, job_step, pool_steady, pool_timed_out, resize_ended, has_reached, ends_resize, end_resize, lacks_node}
-use Rattle.batch_model.specs.Dues.{new_node, begin_start, node_added, add_on, node_step, due_step}
+use Rattle.batch_model.specs.Dues.{settle_first, job_step, is_gone, pool_dropped, has_reached, pool_steady, has_timed_out, pool_timed_out, pool_stopped}
+use Rattle.batch_model.specs.Dues.{ends_resize, resize_ended, end_resize, leaves_before, has_too_many, node_leaves, one_leaves, remove_node, pool_step}
+use Rattle.batch_model.specs.Dues.{is_empty_node, node_dropped, drop_first, lacks_node, new_node, begin_start, node_added, add_on, add_node, node_step, due_step}
 use Rattle.batch_model.specs.Endings.{is_success, is_not_started}
-use Rattle.batch_model.specs.Finding.{find_map, is_below, has_number_left}
+use Rattle.batch_model.specs.Finding.{best, find_map, is_below, has_number_left}
 use Rattle.batch_model.specs.JobRules.{job_enabled, is_to_enable, enable_first, tasks_done, ends_with_tasks, all_complete, has_all_completed, terminate_first}
 use Rattle.batch_model.specs.JobRules.{job_disabled, is_to_disable, disable_first, wants_release, is_releasing, release_made, release_for, release_on, release_first}
 use Rattle.batch_model.specs.JobRules.{has_job_ended, job_removed, job_completed, job_ended, end_first}
 use Rattle.batch_model.specs.Jobs.{is_job_active, is_disabling, is_enabling, is_job_deleting, is_past, can_disable, job_in}
 use Rattle.batch_model.specs.Placing.{is_placeable, choice, placed, begin_preparation, prepare_with, place, place_task, place_in, place_of_job, places_tasks}
 use Rattle.batch_model.specs.Placing.{next_job, place_first}
-use Rattle.batch_model.specs.Pools.{free_seat}
+use Rattle.batch_model.specs.Pools.{staying, free_seat}
 use Rattle.batch_model.specs.Preps.{has_preparation}
-use Rattle.batch_model.specs.Rows.{node_of, pool_of, job_of, put_task, add_node_row}
+use Rattle.batch_model.specs.Rows.{is_node, node_of, pool_of, job_of, put_task, add_node_row}
 use Rattle.batch_model.specs.Settling.{is_over, task_failed, act, complete, settle_completed, settle_timed_out, settle_terminated, settle_again}
 use Rattle.batch_model.specs.Settling.{settle_deleted, settle_failed, settle_ending, settle_by, settle}
 use Rattle.batch_model.specs.Sound.{IsSound}
@@ -34,7 +35,7 @@ use Rattle.model_lists.proofs.Tests.{and_first, not_true}
 use Rattle.model_rules.proofs.Rules.{from_map, from_then, from_only_if, from_first, first_gives}
 use Rattle.job_laws.specs.OverJobs.{is_over_state}
 use Rattle.job_laws.proofs.OverRows.{own_job, own_found, Keeps, job_put, job_dropped}
-use Rattle.job_laws.proofs.OverByEvents.{disabling_not_over, not_past_not_over, moved, disabled, same_jobs}
+use Rattle.job_laws.proofs.OverByEvents.{disabling_not_over, not_past_not_over, left_jobs, moved, disabled, same_jobs}
 
 enabling_not_over : (state : JobState) → is_enabling state ≡ true → is_over_state state ≡ false
 enabling_not_over Disabled e = refl
@@ -242,23 +243,45 @@ module _ (id : List ℕ) where
 
     -- pools and nodes
 
-    resized_keeps : (pool : PoolRow) (b : Bool) → KeepsBy (cond b (pool_steady s pool) (pool_timed_out s pool))
-    resized_keeps pool true = λ h. h
-    resized_keeps pool false = λ h. h
+    resized_keeps : (pool : PoolRow) (gone reached late : Bool)
+        → KeepsBy (cond gone (pool_dropped s pool) (cond reached (pool_steady s pool) (cond late (pool_timed_out s pool) (pool_stopped s pool))))
+    resized_keeps pool true reached late = λ h. h
+    resized_keeps pool false true late = λ h. h
+    resized_keeps pool false false true = λ h. h
+    resized_keeps pool false false false = λ h. h
 
     resize_keeps : (step : DueStep) → end_resize s ≡ Some step → KeepsBy step
     resize_keeps step e =
         let made = from_map (resize_ended s) (find (ends_resize s) s.pools) step e in
-        subst KeepsBy {x = resize_ended s made.0} made.1 (resized_keeps made.0 (has_reached s made.0))
+        subst KeepsBy {x = resize_ended s made.0} made.1
+        (resized_keeps made.0 (is_gone s made.0) (has_reached s made.0) (has_timed_out s made.0))
 
-    node_keeps : (seats : ℕ) (step : DueStep) → node_step seats s ≡ Some step → KeepsBy step
-    node_keeps seats step e =
+    remove_keeps : (step : DueStep) → remove_node s ≡ Some step → KeepsBy step
+    remove_keeps step e =
+        let pool = from_then (one_leaves s) (find (has_too_many s) s.pools) step e in
+        let node = from_map (node_leaves s pool.0) (best (leaves_before s) (staying s pool.0.id)) step pool.1 in
+        subst KeepsBy {x = node_leaves s pool.0 node.0} node.1
+        (same_jobs id s (node_leaves s pool.0 node.0).state (left_jobs pool.0.option (is_node node.0.number) s))
+
+    pool_keeps : (step : DueStep) → pool_step s ≡ Some step → KeepsBy step
+    pool_keeps step e = first_gives KeepsBy (end_resize s ∷ remove_node s ∷ []) (resize_keeps, (remove_keeps, tt)) step e
+
+    drop_keeps : (step : DueStep) → drop_first s ≡ Some step → KeepsBy step
+    drop_keeps step e =
+        let made = from_map (node_dropped s) (find (is_empty_node s) s.nodes) step e in
+        subst KeepsBy {x = node_dropped s made.0} made.1 (λ h. h)
+
+    add_keeps : (seats : ℕ) (step : DueStep) → add_node seats s ≡ Some step → KeepsBy step
+    add_keeps seats step e =
         let left = from_only_if (has_number_left s.next_run && has_number_left s.next_node) (option_and_then (add_on s) (free_seat seats s)) step e in
         let seat = from_then (add_on s) (free_seat seats s) step left.1 in
         let made = from_map (node_added s seat.0) (find (lacks_node s) s.pools) step seat.1 in
         let node = new_node s made.0 seat.0 in
         subst KeepsBy {x = node_added s seat.0 made.0} made.1
         (same_jobs id s (begin_start made.0.start node (add_node_row node s)) (begun_start made.0.start node (add_node_row node s)))
+
+    node_keeps : (seats : ℕ) (step : DueStep) → node_step seats s ≡ Some step → KeepsBy step
+    node_keeps seats step e = first_gives KeepsBy (drop_first s ∷ add_node seats s ∷ []) (drop_keeps, (add_keeps seats, tt)) step e
 
     -- placing
 
@@ -278,8 +301,8 @@ module _ (id : List ℕ) where
     over_by_due : (seats : ℕ) → AreDistinct same_job s.jobs → (step : DueStep) → due_step seats s ≡ Some step → KeepsBy step
     over_by_due seats keys step e =
         first_gives KeepsBy
-        (job_step s ∷ end_resize s ∷ node_step seats s ∷ place_first s ∷ [])
-        (job_keeps keys, (resize_keeps, (node_keeps seats, (place_keeps, tt)))) step e
+        (job_step s ∷ pool_step s ∷ node_step seats s ∷ place_first s ∷ [])
+        (job_keeps keys, (pool_keeps, (node_keeps seats, (place_keeps, tt)))) step e
 
 -- on sound tables
 pub due_keeps_over : (id : List ℕ) (seats : ℕ) (s : State) (step : DueStep) → IsSound seats s → due_step seats s ≡ Some step → Keeps id s step.state

@@ -5,7 +5,7 @@ use Rattle.bt_base.specs.Ids.{same}
 use Rattle.bt_rows.specs.declared.event.DisableTasks.{DisableTasks}
 use Rattle.bt_rows.specs.declared.event.DisableTasks.TheVariants.{Requeue, Terminate, Wait}
 use Rattle.bt_rows.specs.declared.event.EventKind.{EventKind}
-use Rattle.bt_rows.specs.declared.event.EventKind.TheVariants.{AddPool, AddJob, PatchJob, DisableJob, EnableJob, TerminateJob, DeleteJob, AddTask, AddTasks}
+use Rattle.bt_rows.specs.declared.event.EventKind.TheVariants.{AddPool, DeletePool, Resize, StopResize, AddJob, PatchJob, DisableJob, EnableJob, TerminateJob, DeleteJob, AddTask, AddTasks}
 use Rattle.bt_rows.specs.declared.event.EventKind.TheVariants.{DeleteTask, TerminateTask, ReactivateTask, Take, End}
 use Rattle.bt_rows.specs.declared.event.JobPatch.{JobPatch}
 use Rattle.bt_rows.specs.declared.event.JobSpec.{JobSpec}
@@ -22,15 +22,18 @@ use Rattle.batch_model.specs.Events.{reactivate_refusals, reactivate_found, reac
 use Rattle.batch_model.specs.Events.{ended_by, run_ended, end_run, end_refusals, task_terminated, task_deleted}
 use Rattle.batch_model.specs.Finding.{first_of, at_row}
 use Rattle.batch_model.specs.Jobs.{is_past, is_disabled, can_disable, job_in, new_job}
+use Rattle.batch_model.specs.Leaving.{leave}
+use Rattle.batch_model.specs.PoolEvents.{resize_refusals, resized_pool, resize_pool, stop_resize_refusals, stopping, stop_resize}
+use Rattle.batch_model.specs.PoolEvents.{delete_pool_refusals, deleted_pool, drop_scale, is_leaving_from, pool_deleted, delete_pool}
 use Rattle.batch_model.specs.Pools.{new_pool}
 use Rattle.batch_model.specs.Preparing.{preparation_done, give_up, preparation_failed, preparation_of, preparation_ended_at, prep_of_run, released}
 use Rattle.batch_model.specs.Preps.{change_prep, failed_preparation}
-use Rattle.batch_model.specs.Rows.{is_run, job_of, task_of, pool_of, node_of, run_of, put_job, put_task, change_runs, add_pool_row, add_job_row}
+use Rattle.batch_model.specs.Rows.{is_run, job_of, task_of, pool_of, node_of, run_of, put_pool, put_job, put_task, change_runs, add_pool_row, add_job_row}
 use Rattle.batch_model.specs.Starts.{is_tried_again, start_failed, start_of, start_ended_at, start_ended_in}
 use Rattle.batch_model.specs.Steps.{Answered, refuse_if}
 use Rattle.batch_model.specs.Stops.{disable, close, terminate, job_for}
 use Rattle.batch_model.specs.Tasks.{is_placed}
-use Rattle.batch_model.specs.Variants.{State, NodeRow, NodeStage, Starting, Usable, StartFailed, Leaving, JobRow, JobState, JobActive, Disabling, Disabled}
+use Rattle.batch_model.specs.Variants.{State, Dealloc, ByRequeue, ByTerminate, TaskCompletion, RetainedData, NodeRow, NodeStage, Starting, Usable, StartFailed, Leaving, JobRow, JobState, JobActive, Disabling, Disabled}
 use Rattle.batch_model.specs.Variants.{Enabling, Terminating, JobCompleted, Deleting, StartTask, TaskRow, RunRow, RunKind, StartRun, PrepRun, TaskRun}
 use Rattle.batch_model.specs.Variants.{CoordinationRun, ReleaseRun, PrepRow, Ending}
 use Rattle.job_laws.specs.OverJobs.{is_over_state, is_job_over, adds_job}
@@ -69,6 +72,13 @@ not_past_not_over Deleting e = cc
 
 abbrev pub HasSameJobs : State → State → Type 0
 HasSameJobs s t = t.jobs ≡ s.jobs
+
+-- nodes leave
+pub left_jobs : (option : Dealloc) (test : NodeRow → Bool) (s : State) → HasSameJobs s (leave option test s)
+left_jobs ByRequeue test s = refl
+left_jobs ByTerminate test s = refl
+left_jobs TaskCompletion test s = refl
+left_jobs RetainedData test s = refl
 
 failed_start : (node : NodeRow) (start : StartTask) (s : State) (b : Bool) → b ≡ is_tried_again s (node.tries + 1) start → HasSameJobs s (start_failed node start s)
 failed_start node start s true e = rw (← e) refl
@@ -223,6 +233,17 @@ module _ (id : List ℕ) where
     -- each event at the tables' moment
     keeps_now : (event : EventKind) → adds_job event id ≡ false → Keeps id s (event_now event s).state
     keeps_now (AddPool spec) other = by_answer s (add_pool_refusals s spec) 201 (add_pool_row (new_pool s.moment spec) s) (λ h. h)
+    keeps_now (DeletePool pool) other =
+        by_row s PoolNotFound (delete_pool s) (pool_of s pool)
+        (λ row found. by_answer s (delete_pool_refusals row) 202 (pool_deleted s row)
+        (same_jobs s (pool_deleted s row)
+        (left_jobs ByRequeue (is_leaving_from row.id) (drop_scale row.id (put_pool (deleted_pool row) s)))))
+    keeps_now (Resize pool spec) other =
+        by_row s PoolNotFound (resize_pool s spec) (pool_of s pool)
+        (λ row found. by_answer s (resize_refusals s row) 202 (put_pool (resized_pool s.moment spec row) s) (λ h. h))
+    keeps_now (StopResize pool) other =
+        by_row s PoolNotFound (stop_resize s) (pool_of s pool)
+        (λ row found. by_answer s (stop_resize_refusals row) 202 (put_pool (stopping row) s) (λ h. h))
     keeps_now (AddJob new_id spec) other = new_job_added s new_id spec other
     keeps_now (PatchJob job patch) other =
         by_row s JobNotFound (patch_job s patch) (job_of s job)

@@ -1,16 +1,17 @@
 -- Which step a due step is, in cases: one for each way in which a rule gives one.
 use Rattle.std.proofs.Common.{◌≡◌, ℕ, ◌+◌, Bool, true, false, not, ◌&&◌, [], ◌∷◌, Option, Some, None, cond, find, option_map, option_and_then, refl, subst}
 use Rattle.batch_model.specs.Conditions.{condition}
-use Rattle.batch_model.specs.Dues.{settle_first, job_step, pool_steady, pool_timed_out, resize_ended, has_reached, ends_resize, end_resize, lacks_node}
-use Rattle.batch_model.specs.Dues.{node_added, add_on, node_step, due_step}
+use Rattle.batch_model.specs.Dues.{settle_first, job_step, is_gone, pool_dropped, has_reached, pool_steady, has_timed_out, pool_timed_out, pool_stopped}
+use Rattle.batch_model.specs.Dues.{ends_resize, resize_ended, end_resize, leaves_before, has_too_many, node_leaves, one_leaves, remove_node, pool_step}
+use Rattle.batch_model.specs.Dues.{is_empty_node, node_dropped, drop_first, lacks_node, node_added, add_on, add_node, node_step, due_step}
 use Rattle.batch_model.specs.Endings.{is_success, is_not_started}
-use Rattle.batch_model.specs.Finding.{find_map, is_below, has_number_left}
+use Rattle.batch_model.specs.Finding.{best, find_map, is_below, has_number_left}
 use Rattle.batch_model.specs.JobRules.{job_enabled, is_to_enable, enable_first, tasks_done, ends_with_tasks, terminate_first, job_disabled, is_to_disable}
 use Rattle.batch_model.specs.JobRules.{disable_first, wants_release, is_releasing, release_made, release_for, release_on, release_first}
 use Rattle.batch_model.specs.JobRules.{has_job_ended, job_removed, job_completed, job_ended, end_first}
 use Rattle.batch_model.specs.Jobs.{is_job_deleting}
 use Rattle.batch_model.specs.Placing.{is_placeable, choice, place, place_task, place_in, place_of_job, places_tasks, next_job, place_first}
-use Rattle.batch_model.specs.Pools.{free_seat}
+use Rattle.batch_model.specs.Pools.{staying, free_seat}
 use Rattle.batch_model.specs.Rows.{node_of, pool_of, job_of}
 use Rattle.batch_model.specs.Settling.{is_over, settled, complete, outcome_of, settle_completed, settle_timed_out, settle_terminated, settle_again}
 use Rattle.batch_model.specs.Settling.{settle_deleted, settle_failed, settle_ending, settle_by, settle}
@@ -41,8 +42,12 @@ pub data DueCase (s : State) : DueStep → Type 0 where
   releases : (prep : PrepRow) (node : NodeRow) (job : JobRow) (release : ReleaseTask) → DueCase s (release_made s prep node job release)
   job_goes : (job : JobRow) → DueCase s (job_removed s job)
   job_stays : (job : JobRow) → DueCase s (job_completed s job)
+  pool_goes : (pool : PoolRow) → DueCase s (pool_dropped s pool)
   pool_reaches : (pool : PoolRow) → DueCase s (pool_steady s pool)
   pool_fails : (pool : PoolRow) → DueCase s (pool_timed_out s pool)
+  pool_stops : (pool : PoolRow) → DueCase s (pool_stopped s pool)
+  node_departs : (pool : PoolRow) (node : NodeRow) → DueCase s (node_leaves s pool node)
+  node_goes : (node : NodeRow) → DueCase s (node_dropped s node)
   node_comes : (seat : ℕ) (pool : PoolRow) → DueCase s (node_added s seat pool)
   places : (job : JobRow) (task : TaskRow) (node : NodeRow) (test : TaskRow → Bool) → find test s.tasks ≡ Some task → DueCase s (place s job task node)
 
@@ -146,21 +151,41 @@ module _ (s : State) where
 
   -- pools and nodes
 
-  resized_case : (pool : PoolRow) (b : Bool) → DueCase s (cond b (pool_steady s pool) (pool_timed_out s pool))
-  resized_case pool true = pool_reaches pool
-  resized_case pool false = pool_fails pool
+  resized_case : (pool : PoolRow) (gone reached late : Bool)
+      → DueCase s (cond gone (pool_dropped s pool) (cond reached (pool_steady s pool) (cond late (pool_timed_out s pool) (pool_stopped s pool))))
+  resized_case pool true reached late = pool_goes pool
+  resized_case pool false true late = pool_reaches pool
+  resized_case pool false false true = pool_fails pool
+  resized_case pool false false false = pool_stops pool
 
   resize_case : (step : DueStep) → end_resize s ≡ Some step → DueCase s step
   resize_case step e =
       let made = from_map (resize_ended s) (find (ends_resize s) s.pools) step e in
-      subst (DueCase s) made.1 (resized_case made.0 (has_reached s made.0))
+      subst (DueCase s) made.1 (resized_case made.0 (is_gone s made.0) (has_reached s made.0) (has_timed_out s made.0))
 
-  node_case : (seats : ℕ) (step : DueStep) → node_step seats s ≡ Some step → DueCase s step
-  node_case seats step e =
+  remove_case : (step : DueStep) → remove_node s ≡ Some step → DueCase s step
+  remove_case step e =
+      let pool = from_then (one_leaves s) (find (has_too_many s) s.pools) step e in
+      let node = from_map (node_leaves s pool.0) (best (leaves_before s) (staying s pool.0.id)) step pool.1 in
+      subst (DueCase s) node.1 (node_departs pool.0 node.0)
+
+  pool_case : (step : DueStep) → pool_step s ≡ Some step → DueCase s step
+  pool_case step e = first_gives (DueCase s) (end_resize s ∷ remove_node s ∷ []) (resize_case, (remove_case, tt)) step e
+
+  drop_case : (step : DueStep) → drop_first s ≡ Some step → DueCase s step
+  drop_case step e =
+      let made = from_map (node_dropped s) (find (is_empty_node s) s.nodes) step e in
+      subst (DueCase s) made.1 (node_goes made.0)
+
+  add_case : (seats : ℕ) (step : DueStep) → add_node seats s ≡ Some step → DueCase s step
+  add_case seats step e =
       let left = from_only_if (has_number_left s.next_run && has_number_left s.next_node) (option_and_then (add_on s) (free_seat seats s)) step e in
       let seat = from_then (add_on s) (free_seat seats s) step left.1 in
       let made = from_map (node_added s seat.0) (find (lacks_node s) s.pools) step seat.1 in
       subst (DueCase s) made.1 (node_comes seat.0 made.0)
+
+  node_case : (seats : ℕ) (step : DueStep) → node_step seats s ≡ Some step → DueCase s step
+  node_case seats step e = first_gives (DueCase s) (drop_first s ∷ add_node seats s ∷ []) (drop_case, (add_case seats, tt)) step e
 
   -- placing
 
@@ -198,5 +223,5 @@ module _ (s : State) where
   pub due_cases : (seats : ℕ) (step : DueStep) → due_step seats s ≡ Some step → DueCase s step
   due_cases seats step e =
       first_gives (DueCase s)
-      (job_step s ∷ end_resize s ∷ node_step seats s ∷ place_first s ∷ [])
-      (job_case, (resize_case, (node_case seats, (place_case, tt)))) step e
+      (job_step s ∷ pool_step s ∷ node_step seats s ∷ place_first s ∷ [])
+      (job_case, (pool_case, (node_case seats, (place_case, tt)))) step e

@@ -15,7 +15,7 @@ use Rattle.batch_model.specs.JobRules.{all_complete, drop_job}
 use Rattle.batch_model.specs.Jobs.{can_disable, is_past}
 use Rattle.batch_model.specs.Placing.{placed, begin_preparation, prepare_with, place}
 use Rattle.batch_model.specs.Preps.{has_preparation}
-use Rattle.batch_model.specs.Rows.{is_task, is_job, job_of, task_of, put_task, change_tasks, add_node_row}
+use Rattle.batch_model.specs.Rows.{is_node, is_task, is_job, job_of, task_of, put_task, change_tasks, add_node_row}
 use Rattle.batch_model.specs.Settling.{is_over, task_failed, act}
 use Rattle.batch_model.specs.Sound.{IsSound}
 use Rattle.batch_model.specs.Steps.{DueStep}
@@ -28,8 +28,10 @@ use Rattle.model_lists.proofs.RowLists.{find_agree}
 use Rattle.model_lists.proofs.Tests.{and_first}
 use Rattle.model_laws.specs.Retries.{failures_of, DueFailures, same_failures, task_gone, tried_again}
 use Rattle.model_laws.proofs.DueCases.{DueCase, task_stops, release_stops, job_stops, task_deleted, task_terminated, task_requeued, task_tried, task_completed}
-use Rattle.model_laws.proofs.DueCases.{job_active, job_done, job_rests, releases, job_goes, job_stays, pool_reaches, pool_fails, node_comes, places, due_cases}
-use Rattle.model_laws.proofs.KeptFailures.{alike_ids, keyed_like, HasSame, stop_keeps, close_keeps, disable_keeps, HasSameOrGone, tasks_dropped, task_dropped}
+use Rattle.model_laws.proofs.DueCases.{job_active, job_done, job_rests, releases, job_goes, job_stays, pool_goes, pool_reaches, pool_fails, pool_stops}
+use Rattle.model_laws.proofs.DueCases.{node_departs, node_goes, node_comes, places, due_cases}
+use Rattle.model_laws.proofs.KeptFailures.{alike_ids, keyed_like, HasSame, stop_keeps, close_keeps, disable_keeps, leave_keeps, HasSameOrGone}
+use Rattle.model_laws.proofs.KeptFailures.{tasks_dropped, task_dropped}
 use Rattle.model_laws.proofs.KeptFailures.{own_task, put_same, put_other, put_own}
 
 module _ (job id : List ℕ) where
@@ -156,8 +158,12 @@ module _ (job id : List ℕ) where
     case_failures step (releases prep node row release) = same_failures (failures_of s job id)
     case_failures step (job_goes row) = kept_or_gone step.due s step.state (job_dropped s row)
     case_failures step (job_stays row) = same_failures (failures_of s job id)
+    case_failures step (pool_goes pool) = same_failures (failures_of s job id)
     case_failures step (pool_reaches pool) = same_failures (failures_of s job id)
     case_failures step (pool_fails pool) = same_failures (failures_of s job id)
+    case_failures step (pool_stops pool) = same_failures (failures_of s job id)
+    case_failures step (node_departs pool node) = kept step.due s step.state (leave_keeps job id pool.option (is_node node.number) s)
+    case_failures step (node_goes node) = same_failures (failures_of s job id)
     case_failures step (node_comes seat pool) =
         kept step.due s step.state (begun_start pool.start (new_node s pool seat) (add_node_row (new_node s pool seat) s))
     case_failures step (places row task node test found) = kept step.due s step.state (placed_same row task node test found)

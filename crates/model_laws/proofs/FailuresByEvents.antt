@@ -8,7 +8,7 @@ use Rattle.bt_base.proofs.SameIds.{same_equiv}
 use Rattle.bt_rows.specs.Keys.{same_task}
 use Rattle.bt_rows.specs.Lists.{AreDistinct}
 use Rattle.bt_rows.specs.declared.event.EventKind.{EventKind}
-use Rattle.bt_rows.specs.declared.event.EventKind.TheVariants.{AddPool, AddJob, PatchJob, DisableJob, EnableJob, TerminateJob, DeleteJob, AddTask, AddTasks}
+use Rattle.bt_rows.specs.declared.event.EventKind.TheVariants.{AddPool, DeletePool, Resize, StopResize, AddJob, PatchJob, DisableJob, EnableJob, TerminateJob, DeleteJob, AddTask, AddTasks}
 use Rattle.bt_rows.specs.declared.event.EventKind.TheVariants.{DeleteTask, TerminateTask, ReactivateTask, Take, End}
 use Rattle.bt_rows.specs.declared.event.JobSpec.{JobSpec}
 use Rattle.bt_rows.specs.declared.event.TaskSpec.{TaskSpec}
@@ -26,16 +26,18 @@ use Rattle.batch_model.specs.Events.{ended_by, run_ended, end_run, end_refusals}
 use Rattle.batch_model.specs.Steps.{Answered, refuse_if}
 use Rattle.batch_model.specs.Finding.{first_of, at_row}
 use Rattle.batch_model.specs.Jobs.{is_past, job_in, new_job}
+use Rattle.batch_model.specs.PoolEvents.{resize_refusals, resized_pool, resize_pool, stop_resize_refusals, stopping, stop_resize}
+use Rattle.batch_model.specs.PoolEvents.{delete_pool_refusals, deleted_pool, drop_scale, is_leaving_from, pool_deleted, delete_pool}
 use Rattle.batch_model.specs.Pools.{new_pool}
 use Rattle.batch_model.specs.Preparing.{spent_preparation, preparation_done, is_waiting_on, prepare_again, give_up, preparation_failed, preparation_of}
 use Rattle.batch_model.specs.Preparing.{preparation_ended_at, prep_of_run, released}
 use Rattle.batch_model.specs.Preps.{change_prep, failed_preparation}
-use Rattle.batch_model.specs.Rows.{is_task, is_run, is_job, job_of, task_of, pool_of, run_of, put_job, put_task, change_runs, add_pool_row, add_job_row}
+use Rattle.batch_model.specs.Rows.{is_task, is_run, is_job, job_of, task_of, pool_of, run_of, put_pool, put_job, put_task, change_runs, add_pool_row, add_job_row}
 use Rattle.batch_model.specs.Settling.{drop_task}
 use Rattle.batch_model.specs.Starts.{is_tried_again, start_ended}
 use Rattle.batch_model.specs.Stops.{stop, disable, close, terminate}
 use Rattle.batch_model.specs.Tasks.{is_placed, terminated, new_task}
-use Rattle.batch_model.specs.Variants.{State, JobRow, Terminating, Deleting, Enabling, StartTask, TaskRow, WantRequeue, WantTerminate, WantDelete, Ending}
+use Rattle.batch_model.specs.Variants.{State, ByRequeue, JobRow, Terminating, Deleting, Enabling, StartTask, TaskRow, WantRequeue, WantTerminate, WantDelete, Ending}
 use Rattle.batch_model.specs.Variants.{PrepRow, RunRow, RunKind, StartRun, PrepRun, TaskRun, CoordinationRun, ReleaseRun}
 use Rattle.model_lists.proofs.RowLists.{find_agree, find_test}
 use Rattle.model_lists.proofs.Tests.{passes_or_not, and_true, and_first, and_second, or_first, or_second, not_false}
@@ -43,7 +45,8 @@ use Rattle.model_events.proofs.Keeping.{AreAbsent, passed, through, given_keeps,
 use Rattle.model_events.proofs.end.StartCases.{StartEnds, nothing, starts, again, fails, start_cases}
 use Rattle.model_laws.specs.Retries.{failures_of, adds_task, EventFailures, same_failures, task_gone, added_task, reactivated_task}
 use Rattle.model_laws.proofs.MadeRuns.{found_added}
-use Rattle.model_laws.proofs.KeptFailures.{alike_ids, keyed_like, HasSame, HasSameOrGone, in_place, stop_keeps, close_keeps, disable_keeps, task_dropped}
+use Rattle.model_laws.proofs.KeptFailures.{alike_ids, keyed_like, HasSame, HasSameOrGone, in_place, stop_keeps, close_keeps, disable_keeps, leave_keeps}
+use Rattle.model_laws.proofs.KeptFailures.{task_dropped}
 use Rattle.model_laws.proofs.KeptFailures.{own_task, put_same, put_other, put_own}
 
 module _ (job id : List ℕ) where
@@ -276,6 +279,18 @@ module _ (job id : List ℕ) where
       changes_now (AddPool spec) =
           by_answer (AddPool spec) (add_pool_refusals s spec) 201 (add_pool_row (new_pool s.moment spec) s)
           (λ absent. stays (AddPool spec))
+      changes_now (DeletePool pool) =
+          by_row (DeletePool pool) PoolNotFound (delete_pool s) (pool_of s pool)
+          (λ row found. by_answer (DeletePool pool) (delete_pool_refusals row) 202 (pool_deleted s row)
+          (λ absent. kept (DeletePool pool) (pool_deleted s row)
+          (leave_keeps job id ByRequeue (is_leaving_from row.id) (drop_scale row.id (put_pool (deleted_pool row) s)))))
+      changes_now (Resize pool spec) =
+          by_row (Resize pool spec) PoolNotFound (resize_pool s spec) (pool_of s pool)
+          (λ row found. by_answer (Resize pool spec) (resize_refusals s row) 202 (put_pool (resized_pool s.moment spec row) s)
+          (λ absent. stays (Resize pool spec)))
+      changes_now (StopResize pool) =
+          by_row (StopResize pool) PoolNotFound (stop_resize s) (pool_of s pool)
+          (λ row found. by_answer (StopResize pool) (stop_resize_refusals row) 202 (put_pool (stopping row) s) (λ absent. stays (StopResize pool)))
       changes_now (AddJob new_id spec) = job_added (AddJob new_id spec) new_id spec
       changes_now (PatchJob in_job patch) =
           by_row (PatchJob in_job patch) JobNotFound (patch_job s patch) (job_of s in_job)

@@ -9,11 +9,13 @@ use Rattle.bt_rows.specs.Keys.{same_task, same_task_equiv}
 use Rattle.bt_rows.specs.Lists.{AreDistinct}
 use Rattle.bt_rows.specs.declared.event.DisableTasks.{DisableTasks}
 use Rattle.bt_rows.specs.declared.event.DisableTasks.TheVariants.{Requeue, Terminate, Wait}
+use Rattle.batch_model.specs.Leaving.{is_on, has_run_where, clear_for, with_leaving, leave}
 use Rattle.batch_model.specs.Rows.{is_task, task_of, put_job, change_tasks}
 use Rattle.batch_model.specs.Settling.{drop_task}
 use Rattle.batch_model.specs.Stops.{wanting, is_stopped, stop, disable, job_for, close}
 use Rattle.batch_model.specs.Tasks.{is_in_job}
-use Rattle.batch_model.specs.Variants.{State, JobRow, JobState, TaskRow, Want, WantRequeue, WantTerminate}
+use Rattle.batch_model.specs.Variants.{State, NodeRow, Dealloc, ByRequeue, ByTerminate, TaskCompletion, RetainedData, JobRow, JobState, TaskRow}
+use Rattle.batch_model.specs.Variants.{Want, WantRequeue, WantTerminate, RunRow}
 use Rattle.model_lists.proofs.ChangedRows.{changed, same_changed, find_change}
 use Rattle.model_lists.proofs.KeptRows.{kept_pass, find_still}
 use Rattle.model_lists.proofs.KeyedLists.{put_is_change}
@@ -71,6 +73,16 @@ module _ (job id : List ℕ) where
   disable_keeps Requeue row s = stop_keeps (is_in_job row.id) WantRequeue (disable row Wait s)
   disable_keeps Terminate row s = stop_keeps (is_in_job row.id) WantTerminate (disable row Wait s)
   disable_keeps Wait row s = refl
+
+  clear_keeps : (option : Dealloc) (test : RunRow → Bool) (s : State) → HasSame s (clear_for option test s)
+  clear_keeps ByRequeue test s = stop_keeps (has_run_where test s) WantRequeue s
+  clear_keeps ByTerminate test s = stop_keeps (has_run_where test s) WantTerminate s
+  clear_keeps TaskCompletion test s = refl
+  clear_keeps RetainedData test s = refl
+
+  -- nodes leave
+  pub leave_keeps : (option : Dealloc) (test : NodeRow → Bool) (s : State) → HasSame s (leave option test s)
+  leave_keeps option test s = clear_keeps option (is_on test s) (with_leaving option test s)
 
   -- drops
 

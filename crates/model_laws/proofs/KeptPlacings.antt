@@ -9,11 +9,13 @@ use Rattle.bt_rows.specs.declared.event.DisableTasks.{DisableTasks}
 use Rattle.bt_rows.specs.declared.event.DisableTasks.TheVariants.{Requeue, Terminate, Wait}
 use Rattle.batch_model.specs.JobRules.{drop_job}
 use Rattle.batch_model.specs.Jobs.{is_job_completed, job_in}
+use Rattle.batch_model.specs.Leaving.{is_on, has_run_where, clear_for, with_leaving, leave}
 use Rattle.batch_model.specs.Rows.{is_task, is_job, job_of, task_of, put_job, put_task, change_tasks, add_job_row, add_task_row}
 use Rattle.batch_model.specs.Settling.{drop_task}
 use Rattle.batch_model.specs.Stops.{wanting, is_stopped, stop, disable, job_for, close}
 use Rattle.batch_model.specs.Tasks.{is_in_job}
-use Rattle.batch_model.specs.Variants.{State, JobRow, JobState, Disabling, TaskRow, Want, WantRequeue, WantTerminate}
+use Rattle.batch_model.specs.Variants.{State, NodeRow, Dealloc, ByRequeue, ByTerminate, TaskCompletion, RetainedData, JobRow, JobState, Disabling, TaskRow}
+use Rattle.batch_model.specs.Variants.{Want, WantRequeue, WantTerminate, RunRow}
 use Rattle.model_lists.proofs.ChangedRows.{changed, find_change}
 use Rattle.model_lists.proofs.KeptRows.{kept_pass, find_still}
 use Rattle.model_lists.proofs.RowLists.{each_found, find_test}
@@ -96,6 +98,16 @@ module _ (job id : List ℕ) where
   -- tasks are stopped
   pub stop_keeps : (test : TaskRow → Bool) (want : Want) (s : State) → Keeps s (stop test want s)
   stop_keeps test want s = in_place (is_stopped test) (wanting want) s (λ task t. refl) (λ task attempt h. h)
+
+  clear_keeps : (option : Dealloc) (test : RunRow → Bool) (s : State) → Keeps s (clear_for option test s)
+  clear_keeps ByRequeue test s = stop_keeps (has_run_where test s) WantRequeue s
+  clear_keeps ByTerminate test s = stop_keeps (has_run_where test s) WantTerminate s
+  clear_keeps TaskCompletion test s = stays s
+  clear_keeps RetainedData test s = stays s
+
+  -- nodes leave
+  pub leave_keeps : (option : Dealloc) (test : NodeRow → Bool) (s : State) → Keeps s (leave option test s)
+  leave_keeps option test s = clear_keeps option (is_on test s) (with_leaving option test s)
 
   -- a task that is not placed is put in the place of the one with its key
   pub task_put : (row : TaskRow) (s : State) → attempt_if_placed row ≡ None → Keeps s (put_task row s)

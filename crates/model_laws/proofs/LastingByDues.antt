@@ -7,7 +7,7 @@ use Rattle.batch_model.specs.JobRules.{all_complete, releasing, release_made, jo
 use Rattle.batch_model.specs.Jobs.{can_disable, is_past}
 use Rattle.batch_model.specs.Placing.{placed, begin_preparation, prepare_with, prepare, first_state, place}
 use Rattle.batch_model.specs.Preps.{new_prep, change_prep, has_preparation}
-use Rattle.batch_model.specs.Rows.{is_task, is_run, put_task, add_node_row, add_prep_row}
+use Rattle.batch_model.specs.Rows.{is_node, is_task, is_run, put_task, add_node_row, add_prep_row}
 use Rattle.batch_model.specs.Runs.{start_run, job_run, work_run}
 use Rattle.batch_model.specs.Settling.{task_failed, act}
 use Rattle.batch_model.specs.Steps.{DueStep}
@@ -17,11 +17,12 @@ use Rattle.batch_model.specs.Variants.{State, PoolRow, NodeRow, JobRow, Terminat
 use Rattle.batch_model.specs.Variants.{TaskRow, Closed, WantWall, RunRow, RunState, PrepRun, TaskRun, ReleaseRun, PrepRow}
 use Rattle.batch_model.specs.WallTimes.{wall_time_over}
 use Rattle.model_laws.proofs.DueCases.{DueCase, task_stops, release_stops, job_stops, task_deleted, task_terminated, task_requeued, task_tried, task_completed}
-use Rattle.model_laws.proofs.DueCases.{job_active, job_done, job_rests, releases, job_goes, job_stays, pool_reaches, pool_fails, node_comes, places, due_cases}
+use Rattle.model_laws.proofs.DueCases.{job_active, job_done, job_rests, releases, job_goes, job_stays, pool_goes, pool_reaches, pool_fails, pool_stops}
+use Rattle.model_laws.proofs.DueCases.{node_departs, node_goes, node_comes, places, due_cases}
 use Rattle.model_laws.proofs.LastingRuns.{IsLasting, HasNoMore, no_change, both_steps, dropped, added, run_asked}
 use Rattle.model_laws.proofs.StayingRuns.{ask_stays}
 use Rattle.model_laws.proofs.MadeRuns.{Lasts, same_runs, lasts_on}
-use Rattle.model_laws.proofs.RunsKept.{stop_lasts, close_lasts, disable_lasts, drop_lasts}
+use Rattle.model_laws.proofs.RunsKept.{stop_lasts, close_lasts, disable_lasts, leave_lasts, drop_pool_lasts, drop_lasts}
 
 -- what a completed task does to its job makes no run
 
@@ -73,8 +74,12 @@ module _ (s : State) (P : DueStep → Type 0) (of_none : (step : DueStep) → La
   of_case step (releases prep node job release) = of_release prep node job release
   of_case step (job_goes job) = of_job job
   of_case step (job_stays job) = of_none step (same_runs s step.state refl refl)
+  of_case step (pool_goes pool) = of_none step (drop_pool_lasts pool s)
   of_case step (pool_reaches pool) = of_none step (same_runs s step.state refl refl)
   of_case step (pool_fails pool) = of_none step (same_runs s step.state refl refl)
+  of_case step (pool_stops pool) = of_none step (same_runs s step.state refl refl)
+  of_case step (node_departs pool node) = of_none step (leave_lasts pool.option (is_node node.number) s)
+  of_case step (node_goes node) = of_none step (same_runs s step.state refl refl)
   of_case step (node_comes seat pool) = of_node seat pool
   of_case step (places job task node finds found) = of_place job task node
 

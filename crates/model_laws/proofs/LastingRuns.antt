@@ -8,13 +8,14 @@ use Rattle.bt_rows.specs.declared.event.DisableTasks.TheVariants.{Requeue, Termi
 use Rattle.batch_model.specs.Events.{taken_run, ended_run}
 use Rattle.batch_model.specs.Finding.{Each}
 use Rattle.batch_model.specs.Laws.{is_release_of}
+use Rattle.batch_model.specs.Leaving.{is_on, is_start_run, has_run_where, clear_runs, clear_for, leaving_by, with_leaving, leave}
 use Rattle.batch_model.specs.Preparing.{queued}
-use Rattle.batch_model.specs.Rows.{is_run, run_of, put_job, change_runs, add_run_row}
+use Rattle.batch_model.specs.Rows.{is_run, run_of, put_job, change_nodes, change_runs, add_run_row}
 use Rattle.batch_model.specs.Runs.{is_waiting, is_ended, is_unended, is_start, is_preparation, is_open_preparation, prepares, asked_to_stop, withdrawn, halted_in, halted}
 use Rattle.batch_model.specs.Stops.{is_run_of_stopped, stop, halt_preparations, disable, job_for, close}
 use Rattle.batch_model.specs.Tasks.{is_in_job}
-use Rattle.batch_model.specs.Variants.{State, JobRow, JobState, TaskRow, Want, WantRequeue, WantTerminate, Ending, RunRow, RunState, Waiting, Queued, Taken}
-use Rattle.batch_model.specs.Variants.{Ended, Withdrawn}
+use Rattle.batch_model.specs.Variants.{State, NodeRow, Dealloc, ByRequeue, ByTerminate, TaskCompletion, RetainedData, JobRow, JobState, TaskRow}
+use Rattle.batch_model.specs.Variants.{Want, WantRequeue, WantTerminate, Ending, RunRow, RunState, Waiting, Queued, Taken, Ended, Withdrawn}
 use Rattle.model_lists.proofs.KeptRows.{sum_kept}
 use Rattle.model_lists.proofs.RowLists.{each_any, any_none, find_none}
 use Rattle.model_lists.proofs.RowSums.{count_append, count_none, count_change_at_most}
@@ -238,6 +239,26 @@ module _ (test : RunRow → Bool) where
     disabled Requeue row s = stopped (is_in_job row.id) WantRequeue (disable row Wait s)
     disabled Terminate row s = stopped (is_in_job row.id) WantTerminate (disable row Wait s)
     disabled Wait row s = no_change s
+
+    -- runs that pass a test are cleared
+    runs_cleared : (want : Want) (of : RunRow → Bool) (s : State) → HasNoMore s (clear_runs want of s)
+    runs_cleared want of s =
+        let ended : State = stop (has_run_where of s) want s in
+        both_steps s ended (clear_runs want of s) (stopped (has_run_where of s) want s) (preparations_halted of ended)
+
+    cleared_for : (option : Dealloc) (of : RunRow → Bool) (s : State) → HasNoMore s (clear_for option of s)
+    cleared_for ByRequeue of s = runs_cleared WantRequeue of s
+    cleared_for ByTerminate of s = runs_cleared WantTerminate of s
+    cleared_for TaskCompletion of s = no_change s
+    cleared_for RetainedData of s = no_change s
+
+    -- nodes leave
+    pub left : (option : Dealloc) (of : NodeRow → Bool) (s : State) → HasNoMore s (leave option of s)
+    left option of s =
+        let leaving : State = with_leaving option of s in
+        both_steps s leaving (leave option of s)
+        (changed (is_start_run (is_on of s)) (halted s.moment) (change_nodes of (leaving_by option) s) (λ run t. lasts.if_halted s.moment run))
+        (cleared_for option (is_on of s) leaving)
 
     -- a run is asked to stop
     pub run_asked : (of : RunRow → Bool) (s : State) → HasNoMore s (change_runs of asked_to_stop s)

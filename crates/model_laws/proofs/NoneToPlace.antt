@@ -4,7 +4,7 @@ use Rattle.std.proofs.Common.{◌∙◌, ap}
 use Rattle.std.specs.List.{list_any, filter}
 use Rattle.std.specs.Prelude.{flat_map}
 use Rattle.bt_base.proofs.SameIds.{same_equiv}
-use Rattle.batch_model.specs.Dues.{due_step, end_resize, node_step}
+use Rattle.batch_model.specs.Dues.{due_step, pool_step, node_step}
 use Rattle.batch_model.specs.Finding.{or_else, first_of, only_if, has_number_left}
 use Rattle.batch_model.specs.Placing.{is_above, place_first}
 use Rattle.batch_model.specs.Rows.{is_job, is_task, job_of, task_of}
@@ -116,7 +116,7 @@ module _ (s : State) where
   none_by_last seats h =
       first_none (place_first s) None
       (rest_none (node_step seats s) (first_of (place_first s ∷ []))
-      (rest_none (end_resize s) (first_of (node_step seats s ∷ place_first s ∷ [])) (rest_none _ _ h)))
+      (rest_none (pool_step s) (first_of (node_step seats s ∷ place_first s ∷ [])) (rest_none _ _ h)))
 
   pub none_to_place : (seats : ℕ) → due_step seats s ≡ None → has_number_left s.next_run ≡ true → HasNoneToPlace s
   none_to_place seats rest left job task job_there task_there = by_test (can_be_placed s (record { job = job; task = task })) refl

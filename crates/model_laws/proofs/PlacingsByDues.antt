@@ -14,7 +14,7 @@ use Rattle.batch_model.specs.JobRules.{all_complete, job_completed}
 use Rattle.batch_model.specs.Jobs.{can_disable, is_past, job_in}
 use Rattle.batch_model.specs.Placing.{placed, begin_preparation, prepare_with, prepare, place}
 use Rattle.batch_model.specs.Preps.{has_preparation}
-use Rattle.batch_model.specs.Rows.{is_task, is_job, job_of, task_of, put_task, add_node_row}
+use Rattle.batch_model.specs.Rows.{is_node, is_task, is_job, job_of, task_of, put_task, add_node_row}
 use Rattle.batch_model.specs.Settling.{task_failed, act}
 use Rattle.batch_model.specs.Sound.{IsSound}
 use Rattle.batch_model.specs.Steps.{DueStep}
@@ -28,9 +28,11 @@ use Rattle.model_lists.proofs.RowLists.{find_agree, find_test}
 use Rattle.model_laws.specs.Placings.{attempt_if_placed, placed_attempt, has_completed, is_completed_job, DuePlaced, was_placed, placed_now}
 use Rattle.model_laws.specs.Placings.{DueCompleted, was_completed, completed_now, DuePlacings}
 use Rattle.model_laws.proofs.DueCases.{DueCase, task_stops, release_stops, job_stops, task_deleted, task_terminated, task_requeued, task_tried, task_completed}
-use Rattle.model_laws.proofs.DueCases.{job_active, job_done, job_rests, releases, job_goes, job_stays, pool_reaches, pool_fails, node_comes, places, due_cases}
+use Rattle.model_laws.proofs.DueCases.{job_active, job_done, job_rests, releases, job_goes, job_stays, pool_goes, pool_reaches, pool_fails, pool_stops}
+use Rattle.model_laws.proofs.DueCases.{node_departs, node_goes, node_comes, places, due_cases}
 use Rattle.model_laws.proofs.KeptFailures.{keyed_like, keyed_both, own_task}
-use Rattle.model_laws.proofs.KeptPlacings.{Keeps, stays, both, stop_keeps, task_put, task_dropped, job_put, job_dropped, close_keeps, disable_keeps}
+use Rattle.model_laws.proofs.KeptPlacings.{Keeps, stays, both, stop_keeps, leave_keeps, task_put, task_dropped, job_put, job_dropped, close_keeps}
+use Rattle.model_laws.proofs.KeptPlacings.{disable_keeps}
 
 module _ (job id : List ℕ) where
   -- what a completed task does to its job
@@ -157,8 +159,12 @@ module _ (job id : List ℕ) where
     case_does keys step (releases prep node row release) = neither step.due step.state (stays job id s)
     case_does keys step (job_goes row) = neither step.due step.state (job_dropped job id row.id s)
     case_does keys step (job_stays row) = job_ended row
+    case_does keys step (pool_goes pool) = neither step.due step.state (stays job id s)
     case_does keys step (pool_reaches pool) = neither step.due step.state (stays job id s)
     case_does keys step (pool_fails pool) = neither step.due step.state (stays job id s)
+    case_does keys step (pool_stops pool) = neither step.due step.state (stays job id s)
+    case_does keys step (node_departs pool node) = neither step.due step.state (leave_keeps job id pool.option (is_node node.number) s)
+    case_does keys step (node_goes node) = neither step.due step.state (stays job id s)
     case_does keys step (node_comes seat pool) =
         neither step.due step.state (begun_start pool.start (new_node s pool seat) (add_node_row (new_node s pool seat) s))
     case_does keys step (places row task node test found) = task_placed keys test task found row node

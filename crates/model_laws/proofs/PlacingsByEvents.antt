@@ -2,7 +2,7 @@
 use Rattle.std.proofs.Common.{◌≡◌, ℕ, ◌+◌, Bool, true, false, List, [], ◌∷◌, Option, Some, None, cond, is_some, unwrap_or, inl, inr, refl, ◌∙◌, ap}
 use Rattle.std.specs.Option.{option_map_or}
 use Rattle.bt_rows.specs.declared.event.EventKind.{EventKind}
-use Rattle.bt_rows.specs.declared.event.EventKind.TheVariants.{AddPool, AddJob, PatchJob, DisableJob, EnableJob, TerminateJob, DeleteJob, AddTask, AddTasks}
+use Rattle.bt_rows.specs.declared.event.EventKind.TheVariants.{AddPool, DeletePool, Resize, StopResize, AddJob, PatchJob, DisableJob, EnableJob, TerminateJob, DeleteJob, AddTask, AddTasks}
 use Rattle.bt_rows.specs.declared.event.EventKind.TheVariants.{DeleteTask, TerminateTask, ReactivateTask, Take, End}
 use Rattle.bt_rows.specs.declared.event.JobPatch.{JobPatch}
 use Rattle.bt_rows.specs.declared.event.JobSpec.{JobSpec}
@@ -20,17 +20,19 @@ use Rattle.batch_model.specs.Events.{reactivate_task, started_task, is_task_of_r
 use Rattle.batch_model.specs.Events.{end_refusals}
 use Rattle.batch_model.specs.Finding.{first_of, at_row}
 use Rattle.batch_model.specs.Jobs.{is_job_completed, is_past, job_in, new_job}
+use Rattle.batch_model.specs.PoolEvents.{resize_refusals, resized_pool, resize_pool, stop_resize_refusals, stopping, stop_resize}
+use Rattle.batch_model.specs.PoolEvents.{delete_pool_refusals, deleted_pool, drop_scale, is_leaving_from, pool_deleted, delete_pool}
 use Rattle.batch_model.specs.Pools.{new_pool}
 use Rattle.batch_model.specs.Preparing.{spent_preparation, preparation_done, is_waiting_on, prepare_again, give_up, preparation_failed, preparation_of}
 use Rattle.batch_model.specs.Preparing.{preparation_ended_at, prep_of_run, released}
 use Rattle.batch_model.specs.Preps.{change_prep, failed_preparation}
-use Rattle.batch_model.specs.Rows.{is_task, is_run, job_of, task_of, pool_of, run_of, put_job, put_task, change_runs, add_pool_row, add_job_row}
+use Rattle.batch_model.specs.Rows.{is_task, is_run, job_of, task_of, pool_of, run_of, put_pool, put_job, put_task, change_runs, add_pool_row, add_job_row}
 use Rattle.batch_model.specs.Settling.{drop_task}
 use Rattle.batch_model.specs.Starts.{is_tried_again, start_ended}
 use Rattle.batch_model.specs.Steps.{Answered, refuse_if}
 use Rattle.batch_model.specs.Stops.{stop, disable, close, terminate}
 use Rattle.batch_model.specs.Tasks.{is_placed, terminated, new_task}
-use Rattle.batch_model.specs.Variants.{State, JobRow, JobState, JobActive, Disabling, Disabled, Enabling, Terminating, JobCompleted, Deleting, StartTask, TaskRow}
+use Rattle.batch_model.specs.Variants.{State, ByRequeue, JobRow, JobState, JobActive, Disabling, Disabled, Enabling, Terminating, JobCompleted, Deleting, StartTask, TaskRow}
 use Rattle.batch_model.specs.Variants.{WantRequeue, WantTerminate, WantDelete, Ending, PrepRow, RunRow, RunKind, StartRun, PrepRun, TaskRun, CoordinationRun}
 use Rattle.batch_model.specs.Variants.{ReleaseRun}
 use Rattle.model_lists.proofs.Tests.{passes_or_not}
@@ -38,7 +40,7 @@ use Rattle.model_events.proofs.Keeping.{AreAbsent, passed, through, given_keeps,
 use Rattle.model_events.proofs.end.StartCases.{StartEnds, nothing, starts, again, fails, start_cases}
 use Rattle.model_laws.specs.Placings.{EventPlacings}
 use Rattle.model_laws.proofs.KeptPlacings.{Keeps, stays, both, in_place, stop_keeps, task_put, task_added as added_keeps, task_dropped, job_put, job_added}
-use Rattle.model_laws.proofs.KeptPlacings.{close_keeps, disable_keeps}
+use Rattle.model_laws.proofs.KeptPlacings.{close_keeps, disable_keeps, leave_keeps}
 
 -- a job that is not past is not completed
 not_past_not_over : (state : JobState) → is_past state ≡ false → is_job_completed state ≡ false
@@ -154,6 +156,16 @@ module _ (job id : List ℕ) where
     keeps_now : (event : EventKind) → Keeps job id s (event_now event s).state
     keeps_now (AddPool spec) =
         by_answer (add_pool_refusals s spec) 201 (add_pool_row (new_pool s.moment spec) s) (λ absent. stays job id s)
+    keeps_now (DeletePool pool) =
+        by_row PoolNotFound (delete_pool s) (pool_of s pool)
+        (λ row found. by_answer (delete_pool_refusals row) 202 (pool_deleted s row)
+        (λ absent. leave_keeps job id ByRequeue (is_leaving_from row.id) (drop_scale row.id (put_pool (deleted_pool row) s))))
+    keeps_now (Resize pool spec) =
+        by_row PoolNotFound (resize_pool s spec) (pool_of s pool)
+        (λ row found. by_answer (resize_refusals s row) 202 (put_pool (resized_pool s.moment spec row) s) (λ absent. stays job id s))
+    keeps_now (StopResize pool) =
+        by_row PoolNotFound (stop_resize s) (pool_of s pool)
+        (λ row found. by_answer (stop_resize_refusals row) 202 (put_pool (stopping row) s) (λ absent. stays job id s))
     keeps_now (AddJob new_id spec) = new_job_added new_id spec
     keeps_now (PatchJob in_job patch) =
         by_row JobNotFound (patch_job s patch) (job_of s in_job)

@@ -1,12 +1,14 @@
 -- An event makes no release run, and drops none that names no task.
-use Rattle.std.proofs.Common.{◌≡◌, ℕ, Bool, true, false, List, is_none, refl}
+use Rattle.std.proofs.Common.{◌≡◌, ℕ, Bool, true, false, ◌&&◌, nat_eq, List, is_none, refl}
 use Rattle.std.specs.List.{list_any}
 use Rattle.bt_rows.specs.declared.event.EventKind.{EventKind}
 use Rattle.batch_model.specs.Events.{event_step, at_moment}
-use Rattle.batch_model.specs.Runs.{is_release}
+use Rattle.batch_model.specs.Finding.{names}
+use Rattle.batch_model.specs.Laws.{is_release_of}
+use Rattle.batch_model.specs.Runs.{is_start, is_release}
 use Rattle.batch_model.specs.Sound.{IsSound}
-use Rattle.batch_model.specs.Variants.{State, RunRow}
-use Rattle.model_lists.proofs.Tests.{and_second}
+use Rattle.batch_model.specs.Variants.{State, RunRow, RunKind, StartRun, PrepRun, TaskRun, CoordinationRun, ReleaseRun}
+use Rattle.model_lists.proofs.Tests.{and_first, and_second}
 use Rattle.model_laws.specs.ReleaseRuns.{is_this_release, is_plain_release, EventReleases}
 use Rattle.model_laws.proofs.LastingRuns.{IsLasting, lasting_if_fixed, HasNoMore, none_after}
 use Rattle.model_laws.proofs.MadeRuns.{EventRuns, stays_on, no_more_on}
@@ -21,6 +23,14 @@ some_before test s t less h = by_it (list_any test s.runs) refl
     by_it true e = refl
     by_it false e = let none : list_any test t.runs ≡ false = none_after test s t less e in cc
 
+-- a release run is not of a start task
+not_start : (kind : RunKind) → is_release kind ≡ true → is_start kind ≡ false
+not_start StartRun h = cc
+not_start PrepRun h = refl
+not_start TaskRun h = refl
+not_start CoordinationRun h = refl
+not_start ReleaseRun h = refl
+
 module _ (job : List ℕ) (node number : ℕ) where
   -- what else becomes of a release run does not matter
   pub release_lasts : IsLasting (is_this_release job node number)
@@ -30,6 +40,12 @@ module _ (job : List ℕ) (node number : ℕ) where
   release_stays = record {
     fixed = λ run next stop from to. refl;
     no_task = λ run h. and_second (is_this_release job node number run) (is_none run.task) h;
+    no_start =
+        λ run h. not_start run.kind
+        (and_first (is_release run.kind) (names run.job job)
+        (and_first (is_release run.kind && names run.job job) (nat_eq run.node node)
+        (and_first (is_release_of job node run) (nat_eq run.number number)
+        (and_first (is_this_release job node number run) (is_none run.task) h))));
   }
 
   -- a run of another kind is none

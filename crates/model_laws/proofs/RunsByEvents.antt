@@ -6,7 +6,7 @@ use Rattle.std.specs.Option.{option_map_or}
 use Rattle.bt_rows.specs.Keys.{same_run}
 use Rattle.bt_rows.specs.Lists.{AreDistinct}
 use Rattle.bt_rows.specs.declared.event.EventKind.{EventKind}
-use Rattle.bt_rows.specs.declared.event.EventKind.TheVariants.{AddPool, AddJob, PatchJob, DisableJob, EnableJob, TerminateJob, DeleteJob, AddTask, AddTasks}
+use Rattle.bt_rows.specs.declared.event.EventKind.TheVariants.{AddPool, DeletePool, Resize, StopResize, AddJob, PatchJob, DisableJob, EnableJob, TerminateJob, DeleteJob, AddTask, AddTasks}
 use Rattle.bt_rows.specs.declared.event.EventKind.TheVariants.{DeleteTask, TerminateTask, ReactivateTask, Take, End}
 use Rattle.bt_rows.specs.declared.event.JobSpec.{JobSpec}
 use Rattle.bt_rows.specs.declared.event.TaskSpec.{TaskSpec}
@@ -24,14 +24,16 @@ use Rattle.batch_model.specs.Events.{accept}
 use Rattle.batch_model.specs.Steps.{Answered, refuse_if}
 use Rattle.batch_model.specs.Finding.{first_of, Each}
 use Rattle.batch_model.specs.Jobs.{is_past, job_in, new_job}
+use Rattle.batch_model.specs.PoolEvents.{resize_refusals, resized_pool, resize_pool, stop_resize_refusals, stopping, stop_resize}
+use Rattle.batch_model.specs.PoolEvents.{delete_pool_refusals, deleted_pool, drop_scale, is_leaving_from, pool_deleted, delete_pool}
 use Rattle.batch_model.specs.Pools.{new_pool}
-use Rattle.batch_model.specs.Rows.{is_task, job_of, task_of, pool_of, run_of, put_job, put_task, add_pool_row, add_job_row, is_run}
+use Rattle.batch_model.specs.Rows.{is_task, job_of, task_of, pool_of, run_of, put_pool, put_job, put_task, add_pool_row, add_job_row, is_run}
 use Rattle.batch_model.specs.Runs.{is_ended, is_withdrawn, is_unended}
 use Rattle.batch_model.specs.Settling.{drop_task}
 use Rattle.batch_model.specs.Sound.{IsSound}
 use Rattle.batch_model.specs.Stops.{stop, disable, close, terminate}
 use Rattle.batch_model.specs.Tasks.{is_placed, terminated}
-use Rattle.batch_model.specs.Variants.{State, JobRow, Terminating, Deleting, Enabling, TaskRow, WantTerminate, WantDelete, Ending, RunRow}
+use Rattle.batch_model.specs.Variants.{State, PoolRow, ByRequeue, JobRow, Terminating, Deleting, Enabling, TaskRow, WantTerminate, WantDelete, Ending, RunRow}
 use Rattle.batch_model.specs.Variants.{RunState, Waiting, Queued, Taken, Ended, Withdrawn}
 use Rattle.model_lists.proofs.Tests.{passes_or_not, and_true, true_not}
 use Rattle.model_lists.proofs.ChangedRows.{each_change}
@@ -40,7 +42,7 @@ use Rattle.model_tables.proofs.FoundRows.{own_number}
 use Rattle.model_events.proofs.Keeping.{AreAbsent, passed, through, given_keeps, answer_keeps, for_row_keeps}
 use Rattle.model_laws.specs.Runs.{KeepsRuns, is_open, RefusesEnd, of_ended, of_absent}
 use Rattle.model_laws.proofs.MadeRuns.{Lasts, same_runs, lasts_on, EventRuns, makes_none, keeps_runs, closed_on}
-use Rattle.model_laws.proofs.RunsKept.{stop_lasts, close_lasts, disable_lasts, drop_lasts, taken_lasts}
+use Rattle.model_laws.proofs.RunsKept.{stop_lasts, close_lasts, disable_lasts, leave_lasts, drop_lasts, taken_lasts}
 use Rattle.model_laws.proofs.RunEnds.{ended_does, with_ended, then_does}
 use Rattle.model_laws.proofs.LastingRuns.{is_open_run}
 
@@ -79,6 +81,13 @@ module _ (s : State) where
         (λ absent. unchanged event (add_job_row (new_job s.moment id pool.id spec) s) refl refl)))
   ]
 
+  -- a pool
+
+  pool_deleted_lasts : (pool : PoolRow) → Lasts s (pool_deleted s pool)
+  pool_deleted_lasts pool =
+      let put : State = drop_scale pool.id (put_pool (deleted_pool pool) s) in
+      lasts_on s put (pool_deleted s pool) (same_runs s put refl refl) (leave_lasts ByRequeue (is_leaving_from pool.id) put)
+
   -- a task of a job
 
   deleted_by : (event : EventKind) (task : TaskRow) (b : Bool)
@@ -116,6 +125,18 @@ module _ (s : State) where
     does_now (AddPool spec) =
         by_answer (AddPool spec) (add_pool_refusals s spec) 201 (add_pool_row (new_pool s.moment spec) s)
         (λ absent. unchanged (AddPool spec) (add_pool_row (new_pool s.moment spec) s) refl refl)
+    does_now (DeletePool id) =
+        by_row (DeletePool id) PoolNotFound (delete_pool s) (pool_of s id)
+        (λ pool found. by_answer (DeletePool id) (delete_pool_refusals pool) 202 (pool_deleted s pool)
+        (λ absent. makes_none (pool_deleted s pool) (pool_deleted_lasts pool)))
+    does_now (Resize id spec) =
+        by_row (Resize id spec) PoolNotFound (resize_pool s spec) (pool_of s id)
+        (λ pool found. by_answer (Resize id spec) (resize_refusals s pool) 202 (put_pool (resized_pool s.moment spec pool) s)
+        (λ absent. unchanged (Resize id spec) (put_pool (resized_pool s.moment spec pool) s) refl refl))
+    does_now (StopResize id) =
+        by_row (StopResize id) PoolNotFound (stop_resize s) (pool_of s id)
+        (λ pool found. by_answer (StopResize id) (stop_resize_refusals pool) 202 (put_pool (stopping pool) s)
+        (λ absent. unchanged (StopResize id) (put_pool (stopping pool) s) refl refl))
     does_now (AddJob id spec) = job_added (AddJob id spec) id spec
     does_now (PatchJob id patch) =
         by_row (PatchJob id patch) JobNotFound (patch_job s patch) (job_of s id)

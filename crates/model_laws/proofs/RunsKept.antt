@@ -4,16 +4,19 @@ use Rattle.bt_rows.specs.Keys.{same_run, same_run_equiv}
 use Rattle.bt_rows.specs.Lists.{AreDistinct}
 use Rattle.bt_rows.specs.declared.event.DisableTasks.{DisableTasks}
 use Rattle.bt_rows.specs.declared.event.DisableTasks.TheVariants.{Requeue, Terminate, Wait}
+use Rattle.batch_model.specs.Dues.{is_start_run_of, drop_pool}
 use Rattle.batch_model.specs.Events.{taken_run, run_taken, ended_run}
+use Rattle.batch_model.specs.Leaving.{leave}
 use Rattle.batch_model.specs.Rows.{is_run, change_runs}
 use Rattle.batch_model.specs.Runs.{is_unended, is_run_of_task}
 use Rattle.batch_model.specs.Settling.{drop_task}
 use Rattle.batch_model.specs.Stops.{stop, disable, close}
-use Rattle.batch_model.specs.Variants.{State, JobRow, JobState, TaskRow, Want, Ending, RunRow}
+use Rattle.batch_model.specs.Variants.{State, PoolRow, NodeRow, Dealloc, ByRequeue, ByTerminate, TaskCompletion, RetainedData, JobRow, JobState, TaskRow}
+use Rattle.batch_model.specs.Variants.{Want, Ending, RunRow}
 use Rattle.model_lists.proofs.DistinctLists.{each_with_key}
 use Rattle.model_lists.proofs.Tests.{asked}
-use Rattle.model_laws.proofs.LastingRuns.{changed, changed_where, dropped, stopped, closed, disabled}
-use Rattle.model_laws.proofs.StayingRuns.{stop_stays, close_stays, disable_stays, drop_stays, end_stays, take_stays}
+use Rattle.model_laws.proofs.LastingRuns.{changed, changed_where, dropped, stopped, closed, disabled, left}
+use Rattle.model_laws.proofs.StayingRuns.{stop_stays, close_stays, disable_stays, leave_stays, drop_pool_stays, drop_stays, end_stays, take_stays}
 use Rattle.model_laws.proofs.MadeRuns.{Lasts}
 
 -- tasks are stopped
@@ -44,6 +47,28 @@ disable_lasts option row s = record {
     by_option Requeue = refl
     by_option Terminate = refl
     by_option Wait = refl
+
+-- nodes leave
+pub leave_lasts : (option : Dealloc) (of : NodeRow → Bool) (s : State) → Lasts s (leave option of s)
+leave_lasts option of s = record {
+  runs = λ test lasts. left test lasts option of s;
+  stay = λ test staying. leave_stays test staying option of s;
+  next = by_option option;
+}
+  where
+    by_option : (by : Dealloc) → (leave by of s).next_run ≡ s.next_run
+    by_option ByRequeue = refl
+    by_option ByTerminate = refl
+    by_option TaskCompletion = refl
+    by_option RetainedData = refl
+
+-- a pool is dropped with its start runs
+pub drop_pool_lasts : (pool : PoolRow) (s : State) → Lasts s (drop_pool pool s)
+drop_pool_lasts pool s = record {
+  runs = λ test lasts. dropped test (λ run. not (is_start_run_of pool.id run)) s.runs;
+  stay = λ test staying. drop_pool_stays test staying pool s;
+  next = refl;
+}
 
 -- a task is dropped with its runs
 pub drop_lasts : (task : TaskRow) (s : State) → Lasts s (drop_task task s)

@@ -1,27 +1,32 @@
--- Tests of runs that name no task, by what no change touches: after a step that drops no job, some run passes if some run did before.
-use Rattle.std.proofs.Common.{◌≡◌, ℕ, Bool, true, false, not, ◌&&◌, List, Option, Some, None, is_none, refl, ◌∙◌}
+-- Tests of runs that name no task and are not of start tasks, by what no change touches: after a step that drops no job, some run passes
+-- if some run did before.
+use Rattle.std.proofs.Common.{◌≡◌, ℕ, Bool, true, false, not, ◌&&◌, List, Option, Some, None, is_none, refl, ◌∙◌, ap}
 use Rattle.std.specs.List.{list_any}
+use Rattle.bt_base.specs.Ids.{same}
 use Rattle.bt_rows.specs.declared.event.DisableTasks.{DisableTasks}
 use Rattle.bt_rows.specs.declared.event.DisableTasks.TheVariants.{Requeue, Terminate, Wait}
 use Rattle.batch_model.specs.Events.{taken_run, ended_run}
+use Rattle.batch_model.specs.Dues.{is_start_run_of, drop_pool}
 use Rattle.batch_model.specs.Finding.{names}
+use Rattle.batch_model.specs.Leaving.{is_on, is_start_run, has_run_where, clear_runs, clear_for, leaving_by, with_leaving, leave}
 use Rattle.batch_model.specs.Preparing.{queued}
-use Rattle.batch_model.specs.Rows.{put_job, change_runs, add_run_row}
-use Rattle.batch_model.specs.Runs.{is_open_preparation, is_run_of_task, prepares, asked_to_stop, withdrawn, halted_in, halted}
+use Rattle.batch_model.specs.Rows.{put_job, change_nodes, change_runs, add_run_row}
+use Rattle.batch_model.specs.Runs.{is_start, is_open_preparation, is_run_of_task, prepares, asked_to_stop, withdrawn, halted_in, halted}
 use Rattle.batch_model.specs.Settling.{drop_task}
 use Rattle.batch_model.specs.Stops.{is_run_of_stopped, stop, halt_preparations, disable, job_for, close}
 use Rattle.batch_model.specs.Tasks.{is_in_job}
-use Rattle.batch_model.specs.Variants.{State, JobRow, JobState, TaskRow, Want, WantRequeue, WantTerminate, Ending, RunRow, RunState, Waiting, Queued, Taken}
-use Rattle.batch_model.specs.Variants.{Ended, Withdrawn}
+use Rattle.batch_model.specs.Variants.{State, PoolRow, NodeRow, Dealloc, ByRequeue, ByTerminate, TaskCompletion, RetainedData, JobRow, JobState, TaskRow}
+use Rattle.batch_model.specs.Variants.{Want, WantRequeue, WantTerminate, Ending, RunRow, RunState, Waiting, Queued, Taken, Ended, Withdrawn}
 use Rattle.model_lists.proofs.ChangedRows.{any_change}
 use Rattle.model_lists.proofs.KeptRows.{any_still}
 use Rattle.model_lists.proofs.RowLists.{any_append_old}
 
--- a run passes whatever else becomes of it, and one that passes names no task
+-- a run passes whatever else becomes of it, and one that passes names no task and is not of a start task
 pub record IsStaying (test : RunRow → Bool) : Type 0 where
   pub fixed : (run : RunRow) (next : RunState) (stop : Bool) (from to : Option ℕ)
       → test (record run { state = next; asked = stop; taken = from; ended = to }) ≡ test run
   pub no_task : (run : RunRow) → test run ≡ true → is_none run.task ≡ true
+  pub no_start : (run : RunRow) → test run ≡ true → is_start run.kind ≡ false
 
 -- a run that names no task is not one of a task
 not_of_task : (of_job : Bool) (name : Option (List ℕ)) (id : List ℕ) → is_none name ≡ true → not (of_job && names name id) ≡ true
@@ -77,6 +82,28 @@ module _ (test : RunRow → Bool) where
     disable_stays Requeue row s = stop_stays (is_in_job row.id) WantRequeue (disable row Wait s)
     disable_stays Terminate row s = stop_stays (is_in_job row.id) WantTerminate (disable row Wait s)
     disable_stays Wait row s = λ h. h
+
+    -- runs that pass a test are cleared
+    clear_stays : (want : Want) (of : RunRow → Bool) (s : State) → Stays s (clear_runs want of s)
+    clear_stays want of s h = halt_stays of (stop (has_run_where of s) want s) (stop_stays (has_run_where of s) want s h)
+
+    clear_for_stays : (option : Dealloc) (of : RunRow → Bool) (s : State) → Stays s (clear_for option of s)
+    clear_for_stays ByRequeue of s = clear_stays WantRequeue of s
+    clear_for_stays ByTerminate of s = clear_stays WantTerminate of s
+    clear_for_stays TaskCompletion of s = λ h. h
+    clear_for_stays RetainedData of s = λ h. h
+
+    -- nodes leave
+    pub leave_stays : (option : Dealloc) (of : NodeRow → Bool) (s : State) → Stays s (leave option of s)
+    leave_stays option of s h =
+        clear_for_stays option (is_on of s) (with_leaving option of s)
+        (change_stays (is_start_run (is_on of s)) (halted s.moment) (change_nodes of (leaving_by option) s) (halted_passes s.moment) h)
+
+    -- a pool is dropped with its start runs
+    pub drop_pool_stays : (pool : PoolRow) (s : State) → Stays s (drop_pool pool s)
+    drop_pool_stays pool s h =
+        any_still (λ run. not (is_start_run_of pool.id run)) test (λ run k. ap (λ b. not (b && same run.pool pool.id)) (staying.no_start run k)) s.runs
+        ∙ h
 
     -- a run is asked to stop
     pub ask_stays : (of : RunRow → Bool) (s : State) → Stays s (change_runs of asked_to_stop s)
