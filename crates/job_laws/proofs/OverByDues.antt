@@ -7,7 +7,8 @@ use Rattle.bt_rows.specs.declared.event.DisableTasks.TheVariants.{Requeue}
 use Rattle.batch_model.specs.Conditions.{condition}
 use Rattle.batch_model.specs.Dues.{settle_first, job_step, is_gone, pool_dropped, has_reached, pool_steady, has_timed_out, pool_timed_out, pool_stopped}
 use Rattle.batch_model.specs.Dues.{ends_resize, resize_ended, end_resize, leaves_before, has_too_many, node_leaves, one_leaves, remove_node, pool_step}
-use Rattle.batch_model.specs.Dues.{is_empty_node, node_dropped, drop_first, lacks_node, new_node, begin_start, node_added, add_on, add_node, node_step, due_step}
+use Rattle.batch_model.specs.Dues.{is_empty_node, node_dropped, drop_first, lacks_node, new_node, begin_start, node_added, add_on, add_node}
+use Rattle.batch_model.specs.Dues.{node_step, due_step}
 use Rattle.batch_model.specs.Endings.{is_success, is_not_started}
 use Rattle.batch_model.specs.Finding.{best, find_map, is_below, has_number_left}
 use Rattle.batch_model.specs.JobRules.{job_enabled, is_to_enable, enable_first, tasks_done, ends_with_tasks, all_complete, has_all_completed, terminate_first}

@@ -5,8 +5,8 @@ use Rattle.bt_base.specs.Ids.{same}
 use Rattle.bt_rows.specs.declared.event.DisableTasks.{DisableTasks}
 use Rattle.bt_rows.specs.declared.event.DisableTasks.TheVariants.{Requeue, Terminate, Wait}
 use Rattle.bt_rows.specs.declared.event.EventKind.{EventKind}
-use Rattle.bt_rows.specs.declared.event.EventKind.TheVariants.{AddPool, DeletePool, Resize, StopResize, AddJob, PatchJob, DisableJob, EnableJob, TerminateJob, DeleteJob, AddTask, AddTasks}
-use Rattle.bt_rows.specs.declared.event.EventKind.TheVariants.{DeleteTask, TerminateTask, ReactivateTask, Take, End}
+use Rattle.bt_rows.specs.declared.event.EventKind.TheVariants.{AddPool, DeletePool, Resize, StopResize, AddJob, PatchJob, DisableJob, EnableJob}
+use Rattle.bt_rows.specs.declared.event.EventKind.TheVariants.{TerminateJob, DeleteJob, AddTask, AddTasks, DeleteTask, TerminateTask, ReactivateTask, Take, End}
 use Rattle.bt_rows.specs.declared.event.JobPatch.{JobPatch}
 use Rattle.bt_rows.specs.declared.event.JobSpec.{JobSpec}
 use Rattle.bt_rows.specs.declared.event.Limits.{Limits}
@@ -33,9 +33,9 @@ use Rattle.batch_model.specs.Starts.{is_tried_again, start_failed, start_of, sta
 use Rattle.batch_model.specs.Steps.{Answered, refuse_if}
 use Rattle.batch_model.specs.Stops.{disable, close, terminate, job_for}
 use Rattle.batch_model.specs.Tasks.{is_placed}
-use Rattle.batch_model.specs.Variants.{State, Dealloc, ByRequeue, ByTerminate, TaskCompletion, RetainedData, NodeRow, NodeStage, Starting, Usable, StartFailed, Leaving, JobRow, JobState, JobActive, Disabling, Disabled}
-use Rattle.batch_model.specs.Variants.{Enabling, Terminating, JobCompleted, Deleting, StartTask, TaskRow, RunRow, RunKind, StartRun, PrepRun, TaskRun}
-use Rattle.batch_model.specs.Variants.{CoordinationRun, ReleaseRun, PrepRow, Ending}
+use Rattle.batch_model.specs.Variants.{State, Dealloc, ByRequeue, ByTerminate, TaskCompletion, RetainedData, NodeRow, NodeStage, Starting, Usable, StartFailed}
+use Rattle.batch_model.specs.Variants.{Leaving, JobRow, JobState, JobActive, Disabling, Disabled, Enabling, Terminating, JobCompleted, Deleting, StartTask}
+use Rattle.batch_model.specs.Variants.{TaskRow, RunRow, RunKind, StartRun, PrepRun, TaskRun, CoordinationRun, ReleaseRun, PrepRow, Ending}
 use Rattle.job_laws.specs.OverJobs.{is_over_state, is_job_over, adds_job}
 use Rattle.job_laws.proofs.OverRows.{own_job, Keeps, job_added, job_put}
 

@@ -8,8 +8,8 @@ use Rattle.bt_base.proofs.SameIds.{same_equiv}
 use Rattle.bt_rows.specs.Keys.{same_task}
 use Rattle.bt_rows.specs.Lists.{AreDistinct}
 use Rattle.bt_rows.specs.declared.event.EventKind.{EventKind}
-use Rattle.bt_rows.specs.declared.event.EventKind.TheVariants.{AddPool, DeletePool, Resize, StopResize, AddJob, PatchJob, DisableJob, EnableJob, TerminateJob, DeleteJob, AddTask, AddTasks}
-use Rattle.bt_rows.specs.declared.event.EventKind.TheVariants.{DeleteTask, TerminateTask, ReactivateTask, Take, End}
+use Rattle.bt_rows.specs.declared.event.EventKind.TheVariants.{AddPool, DeletePool, Resize, StopResize, AddJob, PatchJob, DisableJob, EnableJob}
+use Rattle.bt_rows.specs.declared.event.EventKind.TheVariants.{TerminateJob, DeleteJob, AddTask, AddTasks, DeleteTask, TerminateTask, ReactivateTask, Take, End}
 use Rattle.bt_rows.specs.declared.event.JobSpec.{JobSpec}
 use Rattle.bt_rows.specs.declared.event.TaskSpec.{TaskSpec}
 use Rattle.bt_rows.specs.declared.refusal.Refusal.TheVariants.{PoolNotFound, JobNotFound, TaskNotFound, JobStateRefuses, RunNotFound, TaskExists}
@@ -32,13 +32,14 @@ use Rattle.batch_model.specs.Pools.{new_pool}
 use Rattle.batch_model.specs.Preparing.{spent_preparation, preparation_done, is_waiting_on, prepare_again, give_up, preparation_failed, preparation_of}
 use Rattle.batch_model.specs.Preparing.{preparation_ended_at, prep_of_run, released}
 use Rattle.batch_model.specs.Preps.{change_prep, failed_preparation}
-use Rattle.batch_model.specs.Rows.{is_task, is_run, is_job, job_of, task_of, pool_of, run_of, put_pool, put_job, put_task, change_runs, add_pool_row, add_job_row}
+use Rattle.batch_model.specs.Rows.{is_task, is_run, is_job, job_of, task_of, pool_of, run_of, put_pool, put_job, put_task}
+use Rattle.batch_model.specs.Rows.{change_runs, add_pool_row, add_job_row}
 use Rattle.batch_model.specs.Settling.{drop_task}
 use Rattle.batch_model.specs.Starts.{is_tried_again, start_ended}
 use Rattle.batch_model.specs.Stops.{stop, disable, close, terminate}
 use Rattle.batch_model.specs.Tasks.{is_placed, terminated, new_task}
-use Rattle.batch_model.specs.Variants.{State, ByRequeue, JobRow, Terminating, Deleting, Enabling, StartTask, TaskRow, WantRequeue, WantTerminate, WantDelete, Ending}
-use Rattle.batch_model.specs.Variants.{PrepRow, RunRow, RunKind, StartRun, PrepRun, TaskRun, CoordinationRun, ReleaseRun}
+use Rattle.batch_model.specs.Variants.{State, ByRequeue, JobRow, Terminating, Deleting, Enabling, StartTask, TaskRow, WantRequeue, WantTerminate}
+use Rattle.batch_model.specs.Variants.{WantDelete, Ending, PrepRow, RunRow, RunKind, StartRun, PrepRun, TaskRun, CoordinationRun, ReleaseRun}
 use Rattle.model_lists.proofs.RowLists.{find_agree, find_test}
 use Rattle.model_lists.proofs.Tests.{passes_or_not, and_true, and_first, and_second, or_first, or_second, not_false}
 use Rattle.model_events.proofs.Keeping.{AreAbsent, passed, through, given_keeps, answer_keeps, for_row_keeps}

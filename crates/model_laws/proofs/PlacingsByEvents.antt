@@ -2,8 +2,8 @@
 use Rattle.std.proofs.Common.{◌≡◌, ℕ, ◌+◌, Bool, true, false, List, [], ◌∷◌, Option, Some, None, cond, is_some, unwrap_or, inl, inr, refl, ◌∙◌, ap}
 use Rattle.std.specs.Option.{option_map_or}
 use Rattle.bt_rows.specs.declared.event.EventKind.{EventKind}
-use Rattle.bt_rows.specs.declared.event.EventKind.TheVariants.{AddPool, DeletePool, Resize, StopResize, AddJob, PatchJob, DisableJob, EnableJob, TerminateJob, DeleteJob, AddTask, AddTasks}
-use Rattle.bt_rows.specs.declared.event.EventKind.TheVariants.{DeleteTask, TerminateTask, ReactivateTask, Take, End}
+use Rattle.bt_rows.specs.declared.event.EventKind.TheVariants.{AddPool, DeletePool, Resize, StopResize, AddJob, PatchJob, DisableJob, EnableJob}
+use Rattle.bt_rows.specs.declared.event.EventKind.TheVariants.{TerminateJob, DeleteJob, AddTask, AddTasks, DeleteTask, TerminateTask, ReactivateTask, Take, End}
 use Rattle.bt_rows.specs.declared.event.JobPatch.{JobPatch}
 use Rattle.bt_rows.specs.declared.event.JobSpec.{JobSpec}
 use Rattle.bt_rows.specs.declared.event.Limits.{Limits}
@@ -32,9 +32,9 @@ use Rattle.batch_model.specs.Starts.{is_tried_again, start_ended}
 use Rattle.batch_model.specs.Steps.{Answered, refuse_if}
 use Rattle.batch_model.specs.Stops.{stop, disable, close, terminate}
 use Rattle.batch_model.specs.Tasks.{is_placed, terminated, new_task}
-use Rattle.batch_model.specs.Variants.{State, ByRequeue, JobRow, JobState, JobActive, Disabling, Disabled, Enabling, Terminating, JobCompleted, Deleting, StartTask, TaskRow}
-use Rattle.batch_model.specs.Variants.{WantRequeue, WantTerminate, WantDelete, Ending, PrepRow, RunRow, RunKind, StartRun, PrepRun, TaskRun, CoordinationRun}
-use Rattle.batch_model.specs.Variants.{ReleaseRun}
+use Rattle.batch_model.specs.Variants.{State, ByRequeue, JobRow, JobState, JobActive, Disabling, Disabled, Enabling, Terminating, JobCompleted, Deleting}
+use Rattle.batch_model.specs.Variants.{StartTask, TaskRow, WantRequeue, WantTerminate, WantDelete, Ending, PrepRow, RunRow, RunKind, StartRun, PrepRun, TaskRun}
+use Rattle.batch_model.specs.Variants.{CoordinationRun, ReleaseRun}
 use Rattle.model_lists.proofs.Tests.{passes_or_not}
 use Rattle.model_events.proofs.Keeping.{AreAbsent, passed, through, given_keeps, answer_keeps, for_row_keeps}
 use Rattle.model_events.proofs.end.StartCases.{StartEnds, nothing, starts, again, fails, start_cases}
