@@ -5,6 +5,7 @@ pub mod JobDropped
 pub mod JobsMoved
 pub mod WallTimes
 pub mod Releases
+pub mod NodeCounts
 pub mod PoolResized
 pub mod NodeAdded
 pub mod place

@@ -3,17 +3,17 @@ use Rattle.std.proofs.Common.{◌≡◌, ℕ, zero, suc, ◌+◌, ◌≤◌, Boo
 use Rattle.std.proofs.Common.{filter, sum_by, cond, refl, ap, arith, ◌<◌, inl, inr, option_and_then, subst}
 use Rattle.std.specs.List.{list_any, list_all, range_with_len, find}
 use Rattle.std.proofs.lemmas.Bool.Decides.{nat_tests, Decides-ltb}
-use Rattle.std.proofs.lemmas.List.Sums.{sum_by_push}
 use Rattle.bt_base.specs.Ids.{same}
 use Rattle.bt_base.proofs.SameIds.{same_equiv}
 use Rattle.bt_base.proofs.Turns.{lex_lt, lex_first, lex_next}
 use Rattle.bt_rows.specs.Keys.{same_node, same_pool, same_pool_equiv}
 use Rattle.bt_rows.specs.Ranges.{is_from_to}
-use Rattle.bt_rows.proofs.DistinctRows.{found_first, find-passes, sum_by-less}
+use Rattle.bt_rows.specs.Lists.{AreDistinct}
+use Rattle.bt_rows.proofs.DistinctRows.{found_first, find-passes}
 use Rattle.batch_model.specs.Finding.{Each, last_number, has_number_left}
 use Rattle.batch_model.specs.Limits.{seat_limit}
 use Rattle.batch_model.specs.Rows.{is_pool, is_node, add_node_row}
-use Rattle.batch_model.specs.Nodes.{is_leaving, stays}
+use Rattle.batch_model.specs.Nodes.{is_leaving, is_in_pool}
 use Rattle.batch_model.specs.Runs.{is_unended, start_run, is_start}
 use Rattle.batch_model.specs.Pools.{free_seat, waits_for_start, staying_count}
 use Rattle.batch_model.specs.Slots.{holds_on, held_slots}
@@ -25,7 +25,7 @@ use Rattle.batch_model.specs.WellFormed.{has_pool_row, is_node_number, is_node_i
 use Rattle.batch_model.specs.Variants.{State, PoolRow, StartTask, NodeRow, Starting, Usable, RunRow}
 use Rattle.batch_model.specs.Variants.{NodeStage}
 use Rattle.batch_model.specs.Steps.{DueStep}
-use Rattle.batch_model.specs.Measure.{steps_of_pool, pools_left, rank}
+use Rattle.batch_model.specs.Measure.{leaving_count, steps_of_pool, pools_left, rank}
 use Rattle.model_lists.proofs.Tests.{or_first, or_second, and_true, not_true, true_not, and_first, and_second, passes_or_not}
 use Rattle.model_lists.proofs.RowLists.{each_append, each_any, each_weaker, each_of_two, each_found, find_test, any_append_old, any_append_new, any_found}
 use Rattle.model_lists.proofs.RowLists.{none_any}
@@ -45,6 +45,7 @@ use Rattle.batch_model.specs.JobRules.{is_unended_of}
 use Rattle.batch_model.specs.Sound.{PreparationsAreSound, CompletedJobsRest, prepare_the_same}
 use Rattle.model_tables.proofs.PrepsKept.{preps_with_nodes, preps_run_added, rest_run_added}
 use Rattle.model_rules.proofs.Rules.{IsDueKept, from_map, from_then, from_only_if}
+use Rattle.model_rules.proofs.NodeCounts.{one_if, counts_one, counts_nothing, staying_added, leaving_added, counts_staying, counts_no_leaving, in_pool_as, pools_fall}
 
 -- consistent
 
@@ -382,48 +383,61 @@ module _ (seats : ℕ) (s : State) (pool : PoolRow) (seat : ℕ) (c : IsConsiste
 
 -- the rank
 
--- a pool that lacks a node has fewer than its target
-lacks_less : (s : State) (pool : PoolRow) → lacks_node s pool ≡ true → staying_count s pool.id < pool.dedicated
-lacks_less s pool h = (Decides-ltb (staying_count s pool.id) pool.dedicated).0 (and_second _ _ h)
-
 -- a new node isn't leaving
-not_leaving : (waits : Bool) → not (is_leaving (cond {A = NodeStage} waits Starting Usable)) ≡ true
-not_leaving true = refl
-not_leaving false = refl
+new_stays : (s : State) (pool : PoolRow) (seat : ℕ) → is_leaving (new_node s pool seat).stage ≡ false
+new_stays s pool seat = either (waits_for_start pool)
+  where
+    either : (waits : Bool) → is_leaving (cond {A = NodeStage} waits Starting Usable) ≡ false
+    either true = refl
+    either false = refl
 
--- the new node stays in its pool
-stays_new : (s : State) (pool : PoolRow) (seat : ℕ) → stays pool.id (new_node s pool seat) ≡ true
-stays_new s pool seat = and_true (same_equiv.refl pool.id) (not_leaving (waits_for_start pool))
+-- fewer nodes stay than the pool's target
+abbrev has_too_few : State → PoolRow → Bool
+has_too_few s pool = nat_lt (staying_count s pool.id) pool.dedicated
 
--- a row that passes counts one
-counts_one : {b : Bool} → b ≡ true → cond {A = ℕ} b 1 0 ≡ 1
-counts_one h = rw h refl
+module _ (s : State) (pool : PoolRow) (seat : ℕ) (other : PoolRow) where
+  -- of the nodes that stay a pool has one more if the new node is one of its, and as many are leaving
+  more_stay : staying_count (with_row s pool seat) other.id ≡ staying_count s other.id + one_if (same_pool other pool)
+  more_stay =
+      let counted = counts_staying (new_node s pool seat) other.id (new_stays s pool seat) in
+      let its : one_if (is_in_pool other.id (new_node s pool seat)) ≡ one_if (same_pool other pool) =
+      ap one_if (in_pool_as (new_node s pool seat) pool other (same_equiv.refl pool.id))
+      in
+      omega (arith, staying_added s (new_node s pool seat) other.id, counted, its)
 
--- the tables with the new node, before its start task is begun
-abbrev with_new : State → PoolRow → ℕ → State
-with_new s pool seat = add_node_row (new_node s pool seat) s
+  same_leave : leaving_count (with_row s pool seat) other.id ≡ leaving_count s other.id
+  same_leave =
+      let counted = counts_no_leaving (new_node s pool seat) other.id (new_stays s pool seat) in
+      omega (arith, leaving_added s (new_node s pool seat) other.id, counted)
 
--- with one more node a pool has at most one more
-one_more : (s : State) (pool : PoolRow) (seat : ℕ) (id : List ℕ)
-    → staying_count (with_new s pool seat) id ≡ staying_count s id + cond {A = ℕ} (stays id (new_node s pool seat)) 1 0
-one_more s pool seat id = sum_by_push (λ (node : NodeRow). cond (stays id node) 1 0) s.nodes (new_node s pool seat)
+  -- another pool has as many steps
+  other_steps : same_pool other pool ≡ false → steps_of_pool (with_row s pool seat) other ≤ steps_of_pool s other
+  other_steps apart =
+      let none : one_if (same_pool other pool) ≡ 0 = counts_nothing (same_pool other pool) apart in
+      omega (arith, more_stay, same_leave, none)
 
--- that pool has a node less to get, and no pool has more
-fewer_to_add : (s : State) (pool : PoolRow) (seat : ℕ) → find (lacks_node s) s.pools ≡ Some pool → pools_left (with_new s pool seat) < pools_left s
-fewer_to_add s pool seat f =
-    let one : cond {A = ℕ} (stays pool.id (new_node s pool seat)) 1 0 ≡ 1 = counts_one (stays_new s pool seat) in
-    let less : staying_count s pool.id < pool.dedicated = lacks_less s pool (find-passes (lacks_node s) pool s.pools f) in
-    sum_by-less (steps_of_pool (with_new s pool seat)) (steps_of_pool s) (lacks_node s) pool s.pools f
-    (λ other. omega (arith, one_more s pool seat other.id))
-    (omega (arith, one_more s pool seat pool.id, less, one))
+  -- that pool has a node less to get
+  fewer_steps : same_pool other pool ≡ true → has_too_few s other ≡ true → steps_of_pool (with_row s pool seat) other < steps_of_pool s other
+  fewer_steps alike few =
+      let one : one_if (same_pool other pool) ≡ 1 = counts_one (same_pool other pool) alike in
+      let less : staying_count s other.id < other.dedicated = (Decides-ltb (staying_count s other.id) other.dedicated).0 few in
+      omega (arith, more_stay, same_leave, one, less)
+
+-- over all pools there are fewer steps
+fewer_to_add : (s : State) (pool : PoolRow) (seat : ℕ) → AreDistinct same_pool s.pools → find (lacks_node s) s.pools ≡ Some pool
+    → pools_left (with_row s pool seat) < pools_left s
+fewer_to_add s pool seat keys f =
+    pools_fall (steps_of_pool (with_row s pool seat)) (steps_of_pool s) (has_too_few s) (lacks_node s) pool s.pools keys f
+    (and_second _ (has_too_few s pool) (find-passes (lacks_node s) pool s.pools f)) (other_steps s pool seat) (fewer_steps s pool seat)
 
 -- so it is, too, where a start run is queued
-node_falls : (s : State) (pool : PoolRow) (seat : ℕ) → find (lacks_node s) s.pools ≡ Some pool → lex_lt (rank (node_added s seat pool).state) (rank s) ≡ true
-node_falls s pool seat f = begun pool.start
+node_falls : (s : State) (pool : PoolRow) (seat : ℕ) → AreDistinct same_pool s.pools → find (lacks_node s) s.pools ≡ Some pool
+    → lex_lt (rank (node_added s seat pool).state) (rank s) ≡ true
+node_falls s pool seat keys f = begun pool.start
   where
-    begun : (start : Option StartTask) → lex_lt (rank (begin_start start (new_node s pool seat) (with_new s pool seat))) (rank s) ≡ true
-    begun None = lex_next _ _ _ _ (omega arith) (lex_first _ _ _ _ (fewer_to_add s pool seat f) refl)
-    begun (Some start) = lex_next _ _ _ _ (omega arith) (lex_first _ _ _ _ (fewer_to_add s pool seat f) refl)
+    begun : (start : Option StartTask) → lex_lt (rank (begin_start start (new_node s pool seat) (with_row s pool seat))) (rank s) ≡ true
+    begun None = lex_next _ _ _ _ (omega arith) (lex_first _ _ _ _ (fewer_to_add s pool seat keys f) refl)
+    begun (Some start) = lex_next _ _ _ _ (omega arith) (lex_first _ _ _ _ (fewer_to_add s pool seat keys f) refl)
 
 -- the rule
 
@@ -440,7 +454,7 @@ module _ (seats : ℕ) (s : State) (h : IsSound seats s) where
       preparing = preps_node_added s pool seat h.consistent.numbers.nodes_of_runs h.preparing;
       resting = rest_node_added s pool seat h.resting;
     };
-    falls = node_falls s pool seat found;
+    falls = node_falls s pool seat h.consistent.keys.pools found;
     places = tt;
     ends = tt;
     releases = tt;
