@@ -42,7 +42,7 @@ use Rattle.model_tables.proofs.TaskMoved.{less_placed}
 -- ids
 
 -- what is the same as an id that is not this one is not this one
-not_same : (one other id : List ℕ) → same one other ≡ true → not (same other id) ≡ true → not (same one id) ≡ true
+pub not_same : (one other id : List ℕ) → same one other ≡ true → not (same other id) ≡ true → not (same one id) ≡ true
 not_same one other id h k = ap not (same_equiv.congr one other id h) ∙ k
 
 -- what is named by a name that does not name this id

@@ -6,6 +6,7 @@ pub mod JobsMoved
 pub mod WallTimes
 pub mod Releases
 pub mod NodeCounts
+pub mod PoolDropped
 pub mod PoolResized
 pub mod NodeAdded
 pub mod place
