@@ -9,6 +9,7 @@ pub mod NodeCounts
 pub mod PoolDropped
 pub mod PoolResized
 pub mod NodeAdded
+pub mod NodeDropped
 pub mod place
 pub mod TaskPlaced
 pub mod DueSound
