@@ -2,7 +2,7 @@
 use Rattle.std.proofs.Common.{◌≡◌, ℕ, ◌≤◌, true, List, ◌∷◌, is_some, unwrap_or, inl, inr, refl}
 use Rattle.bt_base.specs.Moments.{last_moment}
 use Rattle.bt_rows.specs.declared.event.EventKind.{EventKind}
-use Rattle.bt_rows.specs.declared.event.EventKind.TheVariants.{AddPool, AddJob, PatchJob, DisableJob, EnableJob, TerminateJob, DeleteJob, AddTask, AddTasks}
+use Rattle.bt_rows.specs.declared.event.EventKind.TheVariants.{AddPool, DeletePool, Resize, StopResize, AddJob, PatchJob, DisableJob, EnableJob, TerminateJob, DeleteJob, AddTask, AddTasks}
 use Rattle.bt_rows.specs.declared.event.EventKind.TheVariants.{DeleteTask, TerminateTask, ReactivateTask, Take, End}
 use Rattle.bt_rows.specs.declared.event.JobSpec.{JobSpec}
 use Rattle.bt_rows.specs.declared.event.TaskSpec.{TaskSpec}
@@ -11,10 +11,12 @@ use Rattle.bt_rows.specs.declared.refusal.Refusal.TheVariants.{PoolNotFound, Job
 use Rattle.bt_rows.specs.declared.reply.Reply.TheVariants.{Refused}
 use Rattle.bt_rows.specs.Ranges.{is_event_in_range}
 use Rattle.batch_model.specs.Steps.{refuse_if}
-use Rattle.batch_model.specs.Rows.{pool_of, job_of, task_of, run_of, add_pool_row, add_job_row, put_job, put_task}
+use Rattle.batch_model.specs.Rows.{pool_of, job_of, task_of, run_of, add_pool_row, put_pool, add_job_row, put_job, put_task}
 use Rattle.batch_model.specs.Jobs.{is_past, job_in, new_job}
 use Rattle.batch_model.specs.Stops.{disable, close, terminate}
 use Rattle.batch_model.specs.Pools.{new_pool}
+use Rattle.batch_model.specs.PoolEvents.{resized_pool, resize_refusals, resize_pool, stopping, stop_resize_refusals, stop_resize}
+use Rattle.batch_model.specs.PoolEvents.{pool_deleted, delete_pool_refusals, delete_pool}
 use Rattle.batch_model.specs.Events.{add_pool_refusals, add_job, add_job_in, add_job_refusals, task_refusals, task_added, add_task, add_each, accept_all}
 use Rattle.batch_model.specs.Events.{patched, patch_refusals, patch_job, disable_refusals, disable_job, enable_refusals, enable_job, user_terminate}
 use Rattle.batch_model.specs.Events.{for_row, terminate_refusals, terminate_job, delete_refusals, delete_job}
@@ -27,6 +29,7 @@ use Rattle.model_lists.proofs.Tests.{passes_or_not}
 use Rattle.model_events.proofs.Keeping.{for_row_keeps, Leaves, leaves_if_accepted, given_leaves, answer_leaves, for_row_leaves}
 use Rattle.model_events.proofs.MomentPassed.{sound_at_moment}
 use Rattle.model_events.proofs.PoolAdded.{add_pool_kept}
+use Rattle.model_events.proofs.PoolsChanged.{resize_pool_kept, stop_resize_kept, delete_pool_kept}
 use Rattle.model_events.proofs.JobAdded.{add_job_kept}
 use Rattle.model_events.proofs.JobsChanged.{patch_job_kept, disable_job_kept, enable_job_kept, terminate_job_kept, delete_job_kept}
 use Rattle.model_events.proofs.TaskAdded.{add_task_kept, add_tasks_kept}
@@ -38,6 +41,12 @@ module _ (seats : ℕ) (s : State) (h : IsSound seats s) where
   -- each event at the tables' moment
   sound_now : (event : EventKind) → is_event_in_range event ≡ true → IsSound seats (event_now event s).state
   sound_now (AddPool spec) k = add_pool_kept seats s spec k h
+  sound_now (DeletePool pool) k =
+      for_row_keeps (IsSound seats) s h PoolNotFound (delete_pool s) (pool_of s pool) (λ row found. delete_pool_kept seats s pool row found h)
+  sound_now (Resize pool spec) k =
+      for_row_keeps (IsSound seats) s h PoolNotFound (resize_pool s spec) (pool_of s pool) (λ row found. resize_pool_kept seats s pool row found h spec k)
+  sound_now (StopResize pool) k =
+      for_row_keeps (IsSound seats) s h PoolNotFound (stop_resize s) (pool_of s pool) (λ row found. stop_resize_kept seats s pool row found h)
   sound_now (AddJob job spec) k = add_job_kept seats s job spec k h
   sound_now (PatchJob job patch) k =
       for_row_keeps (IsSound seats) s h JobNotFound (patch_job s patch) (job_of s job) (λ row found. patch_job_kept seats s job row found h patch k)
@@ -91,6 +100,14 @@ module _ (s : State) where
   -- each event at the tables' moment
   refused_now : (event : EventKind) → Leaves s (event_now event s)
   refused_now (AddPool spec) = answer_leaves s (add_pool_refusals s spec) 201 (add_pool_row (new_pool s.moment spec) s)
+  refused_now (DeletePool pool) =
+      for_row_leaves s PoolNotFound (delete_pool s) (pool_of s pool) (λ row. answer_leaves s (delete_pool_refusals row) 202 (pool_deleted s row))
+  refused_now (Resize pool spec) =
+      for_row_leaves s PoolNotFound (resize_pool s spec) (pool_of s pool)
+      (λ row. answer_leaves s (resize_refusals s row) 202 (put_pool (resized_pool s.moment spec row) s))
+  refused_now (StopResize pool) =
+      for_row_leaves s PoolNotFound (stop_resize s) (pool_of s pool)
+      (λ row. answer_leaves s (stop_resize_refusals row) 202 (put_pool (stopping row) s))
   refused_now (AddJob job spec) = job_leaves job spec
   refused_now (PatchJob job patch) =
       for_row_leaves s JobNotFound (patch_job s patch) (job_of s job)

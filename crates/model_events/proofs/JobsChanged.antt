@@ -22,14 +22,9 @@ use Rattle.model_lists.proofs.Tests.{and_first, and_second, not_false}
 use Rattle.model_lists.proofs.RowLists.{each_found}
 use Rattle.model_tables.proofs.JobPut.{sound_job_put, found_waits}
 use Rattle.model_tables.proofs.JobsStopped.{sound_disabled, sound_closed}
-use Rattle.model_events.proofs.Keeping.{passed, answer_keeps}
+use Rattle.model_events.proofs.Keeping.{passed, answer_keeps, given_passes}
 
 -- patches
-
--- a value that is given or is there
-given_passes : {A : Type 0} (p : A → Bool) (given : Option A) (old : A) → passes_if_some p given ≡ true → p old ≡ true → p (unwrap_or given old) ≡ true
-given_passes p None old h k = k
-given_passes p (Some new) old h k = h
 
 -- tests of a job's values, of which the third and fourth are of its limits
 new_limits : (a b c d new_c new_d prep release both reason past : Bool) → (new_c && new_d) ≡ true

@@ -1,8 +1,9 @@
 -- What holds before an event holds after it, through its refusals, each of which leaves the tables.
-use Rattle.std.proofs.Common.{◌≡◌, ℕ, Bool, true, false, List, [], ◌∷◌, Option, Some, None, refl}
+use Rattle.std.proofs.Common.{◌≡◌, ℕ, Bool, true, false, List, [], ◌∷◌, Option, Some, None, refl, unwrap_or}
 use Rattle.std.specs.Option.{option_map_or}
 use Rattle.bt_rows.specs.declared.refusal.Refusal.{Refusal}
 use Rattle.bt_rows.specs.declared.reply.Reply.TheVariants.{Refused}
+use Rattle.bt_rows.specs.Ranges.{passes_if_some}
 use Rattle.batch_model.specs.Finding.{first_of}
 use Rattle.batch_model.specs.Steps.{Answered, refuse_if}
 use Rattle.batch_model.specs.Events.{refuse, accept, answer, for_row}
@@ -67,3 +68,8 @@ module _ (s : State) where
       → Leaves s (for_row s refusal answer_for row)
   for_row_leaves refusal answer_for None gives other e = refl
   for_row_leaves refusal answer_for (Some row) gives other e = gives row other e
+
+-- a value that is given, or the one that is there
+pub given_passes : {A : Type 0} (p : A → Bool) (given : Option A) (old : A) → passes_if_some p given ≡ true → p old ≡ true → p (unwrap_or given old) ≡ true
+given_passes p None old h k = k
+given_passes p (Some new) old h k = h

@@ -1,6 +1,7 @@
 pub mod Keeping
 pub mod MomentPassed
 pub mod PoolAdded
+pub mod PoolsChanged
 pub mod JobAdded
 pub mod JobsChanged
 pub mod TaskAdded
