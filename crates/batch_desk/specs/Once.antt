@@ -40,7 +40,7 @@ abbrev pub times_made : ℕ → State → List State → ℕ
 times_made number s [] = 0
 times_made number s (t ∷ ts) = (if makes number s t then 1 else 0) + times_made number t ts
 
--- a run with a number is made at most once in the history, also if the run is dropped with its job or task later
+-- a run with a number is made at most once in the history, also if the run is dropped with its job, task or pool later
 abbrev pub MakesRunsOnce : ℕ → State → List Entry → Type 0
 MakesRunsOnce seats opened entries = (number : ℕ) → times_made number opened (trace seats opened entries) ≤ 1
 

@@ -20,7 +20,7 @@ use Rattle.model_laws.proofs.LastingRuns.{open_lasts, is_new_start, starts_last,
 use Rattle.model_laws.proofs.SameRuns.{same_run_later}
 use Rattle.model_laws.proofs.StayingRuns.{IsStaying, Stays, added_stays}
 
--- no run is made, and runs change and go in such ways alone; a run that names no task stays
+-- no run is made, and runs change and go in such ways alone; a run that names no task and is not of a start task stays
 pub record Lasts (s t : State) : Type 0 where
   pub runs : (test : RunRow → Bool) → IsLasting test → HasNoMore test s t
   pub stay : (test : RunRow → Bool) → IsStaying test → Stays test s t
@@ -117,7 +117,7 @@ module _ (s w : State) (event : EventKind) where
     closed = λ number h. closed_on number t h does;
   }
 
-  -- a run that names no task stays
+  -- a run that names no task and is not of a start task stays
   pub stays_on : (test : RunRow → Bool) → IsStaying test → (t : State) → EventRuns s event w t → Stays test w t
   stays_on test staying t (makes_none u k) = k.stay test staying
   stays_on test staying t (makes_start u run k n start again) = λ h. added_stays test run u (k.stay test staying h)
