@@ -12,5 +12,6 @@ pub mod NodeAdded
 pub mod NodeDropped
 pub mod place
 pub mod TaskPlaced
+pub mod NodesLeft
 pub mod DueSound
 pub mod OpeningSound

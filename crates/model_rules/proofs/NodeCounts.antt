@@ -1,24 +1,22 @@
 -- How many nodes of a pool stay and how many are leaving, on which the rank rests: what changes if a node is added, leaves or is dropped.
-use Rattle.std.proofs.Common.{◌≡◌, ℕ, ◌+◌, ◌-◌, ◌*◌, ◌≤◌, ◌<◌, Bool, true, false, not, ◌&&◌, ◌||◌, List, [], ◌∷◌, Some, cond, filter, find, sum_by, count_by, refl}
-use Rattle.std.proofs.Common.{sym, ◌∙◌, ap, subst, arith}
+use Rattle.std.proofs.Common.{◌≡◌, ℕ, ◌+◌, ◌≤◌, ◌<◌, Bool, true, false, not, ◌&&◌, ◌||◌, List, [], ◌∷◌, Some, cond, filter, find, sum_by, refl}
+use Rattle.std.proofs.Common.{◌∙◌, ap, subst, arith}
 use Rattle.std.specs.List.{list_any, list_all}
 use Rattle.std.specs.Cmp.{IsEquivalence}
 use Rattle.std.proofs.lemmas.List.Sums.{sum_by-cons}
-use Rattle.bt_base.specs.Ids.{same}
 use Rattle.bt_base.proofs.SameIds.{same_equiv}
 use Rattle.bt_rows.specs.Keys.{same_pool, same_pool_equiv, same_node, same_node_equiv}
 use Rattle.bt_rows.specs.Lists.{AreDistinct}
 use Rattle.bt_rows.proofs.DistinctRows.{found_first}
-use Rattle.batch_model.specs.Finding.{Each, change_where}
+use Rattle.batch_model.specs.Finding.{Each}
 use Rattle.batch_model.specs.Rows.{is_node, add_node_row, change_nodes}
 use Rattle.batch_model.specs.Nodes.{is_leaving, is_in_pool, stays}
-use Rattle.batch_model.specs.Pools.{is_steady, staying_count}
+use Rattle.batch_model.specs.Pools.{staying_count}
 use Rattle.batch_model.specs.PoolEvents.{is_leaving_from}
 use Rattle.batch_model.specs.Leaving.{leaving_by}
 use Rattle.batch_model.specs.Dues.{drop_node}
-use Rattle.batch_model.specs.Measure.{leaving_count, steps_of_pool, pools_left}
+use Rattle.batch_model.specs.Measure.{leaving_count}
 use Rattle.batch_model.specs.Variants.{State, PoolRow, NodeRow, Dealloc}
-use Rattle.model_lists.proofs.Tests.{true_not}
 use Rattle.model_lists.proofs.RowLists.{each_weaker, any_none}
 use Rattle.model_lists.proofs.RowSums.{count_append, sum_less_where}
 use Rattle.model_lists.proofs.DistinctLists.{each_with_key}

@@ -1,10 +1,9 @@
 -- A node that leaves and has nothing to wait for is dropped with the preparations on it: the tables stay sound, and the rank falls.
-use Rattle.std.proofs.Common.{◌≡◌, ℕ, ◌+◌, ◌≤◌, ◌<◌, Bool, true, false, not, ◌&&◌, ◌||◌, nat_eq, nat_lt, nat_le, List, Some, find, refl, sym, ◌∙◌, ap, arith, subst}
-use Rattle.std.specs.List.{list_any, list_all, find}
+use Rattle.std.proofs.Common.{◌≡◌, ℕ, ◌+◌, ◌<◌, Bool, true, false, not, ◌&&◌, nat_eq, nat_lt, List, Some, find, refl, sym, ◌∙◌, ap, arith, subst}
+use Rattle.std.specs.List.{find}
 use Rattle.std.specs.Cmp.{nat_eq_equiv}
-use Rattle.bt_base.specs.Ids.{same}
 use Rattle.bt_base.proofs.SameIds.{same_equiv}
-use Rattle.bt_base.proofs.Turns.{lex_lt, lex_first, lex_next}
+use Rattle.bt_base.proofs.Turns.{lex_first, lex_next}
 use Rattle.bt_rows.specs.Keys.{same_node, same_node_equiv, same_prep}
 use Rattle.bt_rows.specs.Lists.{AreDistinct}
 use Rattle.bt_rows.specs.Ranges.{is_from_to}
@@ -12,19 +11,17 @@ use Rattle.bt_rows.proofs.DistinctRows.{found_first, sum_by-less}
 use Rattle.batch_model.specs.Finding.{Each}
 use Rattle.batch_model.specs.Rows.{is_pool, is_node}
 use Rattle.batch_model.specs.Runs.{is_unended, is_waiting, is_preparation, is_release, is_work, is_open_preparation, is_at_prep}
-use Rattle.batch_model.specs.Nodes.{is_leaving, is_in_pool, stays}
+use Rattle.batch_model.specs.Nodes.{is_leaving, is_in_pool}
 use Rattle.batch_model.specs.Pools.{staying_count}
-use Rattle.batch_model.specs.PoolEvents.{is_leaving_from}
-use Rattle.batch_model.specs.Slots.{held_slots}
 use Rattle.batch_model.specs.Dues.{is_unended_on, may_go, is_empty_node, drop_node, node_dropped, drop_first}
-use Rattle.batch_model.specs.Measure.{leaving_count, steps_of_pool, pools_left, rank}
+use Rattle.batch_model.specs.Measure.{leaving_count, steps_of_pool, pools_left}
 use Rattle.batch_model.specs.Sound.{IsConsistent, IsWithinLimits, IsSound, StartsAreSound, PreparationsAreSound, are_out_of_order, has_node_row, share_seat}
 use Rattle.batch_model.specs.Sound.{has_node_while_unended, is_of_pool, fits_nodes, has_slots_for, has_usable_start, has_prep_where, runs_yet, is_completed_prep}
 use Rattle.batch_model.specs.Sound.{is_released, has_running_prep, waits_in, is_work_begun, is_prepared_run, has_known_release}
 use Rattle.batch_model.specs.WellFormed.{is_node_in_range, has_few_tries, has_job_row, has_pool_row, has_few_preparations}
 use Rattle.batch_model.specs.Steps.{DueStep}
-use Rattle.batch_model.specs.Variants.{State, PoolRow, NodeRow, NodeStage, Starting, Usable, StartFailed, Leaving, RunRow, PrepRow}
-use Rattle.model_lists.proofs.Tests.{and_first, and_second, and_true, not_true, true_not, asked, under}
+use Rattle.batch_model.specs.Variants.{State, NodeRow, NodeStage, Starting, Usable, StartFailed, Leaving, RunRow, PrepRow}
+use Rattle.model_lists.proofs.Tests.{and_first, and_second, and_true, not_true, asked, under}
 use Rattle.model_lists.proofs.RowLists.{each_weaker, each_of_two, each_found, find_test, find_any, any_none}
 use Rattle.model_lists.proofs.KeptRows.{kept_pass, each_kept, distinct_kept, any_kept, any_still}
 use Rattle.model_rules.proofs.NodeCounts.{one_if, counts_one, staying_dropped, leaving_dropped, counts_leaving, counts_no_staying}

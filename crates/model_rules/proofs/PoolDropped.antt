@@ -1,7 +1,7 @@
 -- A pool that is being deleted and has no nodes is dropped with its samples and its start runs: the tables stay sound, and the rank falls.
 use Rattle.std.proofs.Common.{◌≡◌, ℕ, ◌≤◌, ◌<◌, Bool, true, false, not, ◌&&◌, ◌||◌, nat_eq, nat_lt, nat_le, List, [], ◌∷◌, Some, is_some, cond, length, count_by}
-use Rattle.std.proofs.Common.{filter, find, sum_by, refl, sym, ◌∙◌, ap, arith}
-use Rattle.std.specs.List.{list_any, list_all, find, filter}
+use Rattle.std.proofs.Common.{filter, find, refl, sym, ◌∙◌, ap, arith}
+use Rattle.std.specs.List.{list_all, find, filter}
 use Rattle.std.specs.Option.{option_map_or, option_and_then}
 use Rattle.std.specs.Cmp.{nat_eq_equiv}
 use Rattle.bt_base.specs.Ids.{same}
@@ -9,16 +9,15 @@ use Rattle.bt_base.proofs.SameIds.{same_equiv}
 use Rattle.bt_base.proofs.Turns.{lex_lt, lex_first, lex_next}
 use Rattle.bt_rows.specs.Keys.{same_pool, same_run, same_sample}
 use Rattle.bt_rows.specs.Metrics.{same_metric}
-use Rattle.bt_rows.specs.declared.due.ResizeEnd.TheVariants.{Removed}
 use Rattle.batch_model.specs.Finding.{Each}
 use Rattle.batch_model.specs.Rows.{is_pool, is_node}
-use Rattle.batch_model.specs.Runs.{is_unended, is_start, is_main, is_work, is_present, is_busy_for, ending_of}
+use Rattle.batch_model.specs.Runs.{is_unended, is_start, is_main, is_present, is_busy_for, ending_of}
 use Rattle.batch_model.specs.Tasks.{is_placed, is_undisturbed, is_busy, main_ending}
 use Rattle.batch_model.specs.Nodes.{is_usable, is_in_pool}
 use Rattle.batch_model.specs.Pools.{is_resizing, is_steady, has_node, waits_for_start}
 use Rattle.batch_model.specs.Jobs.{is_job_completed}
 use Rattle.batch_model.specs.JobRules.{is_unended_of, has_unended_run}
-use Rattle.batch_model.specs.Samples.{is_sample_of, samples_of, last_label, newest_label, sample_limit}
+use Rattle.batch_model.specs.Samples.{is_sample_of, samples_of, last_label, sample_limit}
 use Rattle.batch_model.specs.Slots.{held_slots, holds_on}
 use Rattle.batch_model.specs.Dues.{is_gone, is_start_run_of, drop_pool, pool_dropped}
 use Rattle.batch_model.specs.Measure.{one_unless, steps_of_pool, pools_left, rank}
@@ -30,7 +29,7 @@ use Rattle.batch_model.specs.WellFormed.{scales, are_labels_out_of_order, is_cov
 use Rattle.batch_model.specs.WellFormed.{has_few_preparations}
 use Rattle.batch_model.specs.Variants.{State, PoolRow, Alloc, Steady, Resizing, Stopping, NodeRow, TaskRow, RunRow, RunKind, StartRun, PrepRun, TaskRun, CoordinationRun}
 use Rattle.batch_model.specs.Variants.{ReleaseRun, PrepRow, Metric, ActiveTasks, CpuPercent, SampleRow, ScaleRow}
-use Rattle.model_lists.proofs.Tests.{and_first, and_second, and_true, not_true, true_not, asked, under, or_second}
+use Rattle.model_lists.proofs.Tests.{and_first, and_second, not_true, asked, under, or_second}
 use Rattle.model_lists.proofs.RowLists.{each_weaker, each_of_two, each_of_three, each_found, find_test, find_any, any_none}
 use Rattle.model_lists.proofs.KeptRows.{kept_pass, each_kept, any_kept, distinct_kept, any_still, any_still_where, find_still, sum_kept, sum_passing_kept}
 use Rattle.model_lists.proofs.KeptRows.{length_kept, each_swap, sum_dropped}
