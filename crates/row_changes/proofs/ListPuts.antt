@@ -2,11 +2,11 @@
 use Rattle.std.proofs.Common.{◌≡◌, Bool, List, [], ◌∷◌, ◌++◌, Option, Some, None, true, false, not, cond, filter, refl, ◌∙◌, ap}
 use Rattle.bt_rows.specs.Changes.{apply_change, apply_changes}
 use Rattle.bt_rows.specs.Lists.{drop_row, AreDistinct}
-use Rattle.bt_rows.specs.Keys.{same_pool, same_job, same_job_equiv, same_task, same_task_equiv, same_run, same_run_equiv, same_prep, same_prep_equiv}
+use Rattle.bt_rows.specs.Keys.{same_pool, same_node, same_job, same_job_equiv, same_task, same_task_equiv, same_run, same_run_equiv, same_prep, same_prep_equiv}
 use Rattle.bt_rows.specs.declared.tables.Change.{Change}
-use Rattle.bt_rows.specs.declared.tables.Change.TheVariants.{PutPool, PutTask, PutRun}
+use Rattle.bt_rows.specs.declared.tables.Change.TheVariants.{PutPool, PutNode, PutTask, PutRun}
 use Rattle.batch_model.specs.Finding.{only_if}
-use Rattle.batch_model.specs.Variants.{State, PoolRow, JobRow, TaskRow, RunRow, PrepRow}
+use Rattle.batch_model.specs.Variants.{State, PoolRow, NodeRow, JobRow, TaskRow, RunRow, PrepRow}
 use Rattle.row_changes.specs.Puts.{puts_of, put_if_some, changes_where, job_drop, task_drop, run_drop, prep_drop}
 use Rattle.row_changes.proofs.PutsInPlace.{put_if_some as put_row_if_some, put_each, drop_where, drop_where_filters}
 
@@ -24,6 +24,14 @@ pools_cons give (Some row) rest s ih = ih (apply_change (PutPool row) s)
 pub pools_put : (give : PoolRow → Option PoolRow) (pools : List PoolRow) (s : State) → apply_changes (puts_of PutPool give pools) s ≡ record s { pools = put_each same_pool give pools s.pools }
 pools_put give [] s = refl
 pools_put give (pool ∷ pools) s = pools_cons give (give pool) pools s (pools_put give pools)
+
+nodes_cons : (give : NodeRow → Option NodeRow) (o : Option NodeRow) (rest : List NodeRow) (s : State) → ((t : State) → apply_changes (puts_of PutNode give rest) t ≡ record t { nodes = put_each same_node give rest t.nodes }) → apply_changes (put_if_some PutNode o ++ puts_of PutNode give rest) s ≡ record s { nodes = put_each same_node give rest (put_row_if_some same_node o s.nodes) }
+nodes_cons give None rest s ih = ih s
+nodes_cons give (Some row) rest s ih = ih (apply_change (PutNode row) s)
+
+pub nodes_put : (give : NodeRow → Option NodeRow) (nodes : List NodeRow) (s : State) → apply_changes (puts_of PutNode give nodes) s ≡ record s { nodes = put_each same_node give nodes s.nodes }
+nodes_put give [] s = refl
+nodes_put give (node ∷ nodes) s = nodes_cons give (give node) nodes s (nodes_put give nodes)
 
 tasks_cons : (give : TaskRow → Option TaskRow) (o : Option TaskRow) (rest : List TaskRow) (s : State) → ((t : State) → apply_changes (puts_of PutTask give rest) t ≡ record t { tasks = put_each same_task give rest t.tasks }) → apply_changes (put_if_some PutTask o ++ puts_of PutTask give rest) s ≡ record s { tasks = put_each same_task give rest (put_row_if_some same_task o s.tasks) }
 tasks_cons give None rest s ih = ih s

@@ -4,7 +4,6 @@ use Rattle.std.specs.List.{list_any}
 use Rattle.std.specs.Cmp.{IsEquivalence}
 use Rattle.bt_rows.specs.Lists.{AreDistinct}
 use Rattle.batch_model.specs.Finding.{Each, only_if, change_where}
-use Rattle.model_lists.proofs.ChangedRows.{changed, same_changed}
 use Rattle.model_lists.proofs.RowLists.{any_agree, each_head, each_tail}
 use Rattle.row_changes.proofs.PutsInPlace.{put_if_some, put_each, put_each_past, only_given}
 
@@ -34,29 +33,26 @@ module _ {R : Type 0} (same : R → R → Bool) (e : IsEquivalence same) (now : 
       ∙ put_each_past same e give keeps (given_now x) xs (map now xs) (given_now_apart x xs (give x) refl d.0)
       ∙ ap (λ rows. given_now x ∷ rows) (put_in_place_now xs d.1)
 
--- rows that pass `first` became `was`; then of the rows that passed `test` before, `change` is put. None passed both, and `later` says
--- of a row as it is now what `test` said of it before.
-module _ {R : Type 0} (same : R → R → Bool) (e : IsEquivalence same) (first : R → Bool) (was : R → R) (kept : (x z : R) → same z (was x) ≡ same z x)
+-- rows became what `now` makes of them; then of the rows that passed `test` before, `change` is put. Such a row is as it was, and `later`
+-- says of a row as it is now what `test` said of it before.
+module _ {R : Type 0} (same : R → R → Bool) (e : IsEquivalence same) (now : R → R) (kept : (x z : R) → same z (now x) ≡ same z x)
     (test later : R → Bool) (change : R → R) (keeps : (x z : R) → same z (change x) ≡ same z x)
-    (a : R → Bool) (apart : (x : R) → a x ≡ true → test x ≡ true → first x ≡ false)
-    (alike : (x : R) → a x ≡ true → later (changed first was x) ≡ test x) where
+    (a : R → Bool) (apart : (x : R) → a x ≡ true → test x ≡ true → now x ≡ x)
+    (alike : (x : R) → a x ≡ true → later (now x) ≡ test x) where
   one_now : (x : R) (b : Bool) → test x ≡ b → a x ≡ true
-      → unwrap_or (only_if b (Some (change x))) (changed first was x)
-      ≡ cond (later (changed first was x)) (change (changed first was x)) (changed first was x)
-  one_now x true i k =
-      let as_it_was : changed first was x ≡ x = ap (λ b. cond b (was x) x) (apart x k i) in
-      ap change (sym as_it_was) ∙ sym (ap (λ b. cond b (change (changed first was x)) (changed first was x)) (alike x k ∙ i))
-  one_now x false i k = sym (ap (λ b. cond b (change (changed first was x)) (changed first was x)) (alike x k ∙ i))
+      → unwrap_or (only_if b (Some (change x))) (now x) ≡ cond (later (now x)) (change (now x)) (now x)
+  one_now x true i k = ap change (sym (apart x k i)) ∙ sym (ap (λ b. cond b (change (now x)) (now x)) (alike x k ∙ i))
+  one_now x false i k = sym (ap (λ b. cond b (change (now x)) (now x)) (alike x k ∙ i))
 
   all_now : (xs : List R) → Each a xs
-      → map (λ x. unwrap_or (only_if (test x) (Some (change x))) (changed first was x)) xs ≡ change_where later change (change_where first was xs)
+      → map (λ x. unwrap_or (only_if (test x) (Some (change x))) (now x)) xs ≡ change_where later change (map now xs)
   all_now [] k = refl
   all_now (x ∷ xs) k = rw (one_now x (test x) refl (each_head a x xs k), all_now xs (each_tail a x xs k)) refl
 
   -- puts of the changed rows are the change of the rows as they are now
   pub put_is_change_after : (xs : List R) → AreDistinct same xs → Each a xs
-      → put_each same (λ x. only_if (test x) (Some (change x))) xs (change_where first was xs) ≡ change_where later change (change_where first was xs)
+      → put_each same (λ x. only_if (test x) (Some (change x))) xs (map now xs) ≡ change_where later change (map now xs)
   put_is_change_after xs d k =
-      put_in_place_now same e (changed first was) (λ x z. same_changed first was (same z) x (λ i. kept x z))
+      put_in_place_now same e now kept
       (λ x. only_if (test x) (Some (change x))) (λ x y. only_given same e test change keeps x y (test x)) xs d
       ∙ all_now xs k

@@ -6,6 +6,7 @@ use Rattle.bt_rows.specs.Changes.{apply_changes}
 use Rattle.batch_model.specs.Finding.{Each}
 use Rattle.batch_model.specs.Jobs.{job_in}
 use Rattle.batch_model.specs.Rows.{is_job, job_of, put_job}
+use Rattle.batch_model.specs.Runs.{prepares}
 use Rattle.batch_model.specs.Sound.{names_no_task}
 use Rattle.batch_model.specs.Stops.{close, disable, job_for, stop_for}
 use Rattle.batch_model.specs.Tasks.{is_in_job}
@@ -37,8 +38,8 @@ module _ (s : State) (keys : KeysAreDistinct s) (job : JobRow) (there : job_of s
 
   pub closed_made : Each names_no_task s.runs → (next : JobState) (why : List ℕ) → apply_changes (close_changes next why job now s) (with_moment now s) ≡ close next why job (with_moment now s)
   closed_made apart next why =
-      ap (apply_changes (stop_changes (is_in_job job.id) WantTerminate now s ++ halt_changes job.id now s))
+      ap (apply_changes (stop_changes (is_in_job job.id) WantTerminate now s ++ halt_changes (prepares job.id) now s))
       (job_changed (is_job job.id) job (job_for next why job) (with_moment now s) (keys_moved now s keys) there refl)
-      ∙ apply_append (stop_changes (is_in_job job.id) WantTerminate now s) (halt_changes job.id now s) (with_row (job_for next why job))
-      ∙ ap (apply_changes (halt_changes job.id now s)) (stop_made (is_in_job job.id) WantTerminate (with_row (job_for next why job)) keys.tasks keys.runs)
-      ∙ halt_made job.id (is_in_job job.id) WantTerminate (with_row (job_for next why job)) apart keys.runs keys.preps
+      ∙ apply_append (stop_changes (is_in_job job.id) WantTerminate now s) (halt_changes (prepares job.id) now s) (with_row (job_for next why job))
+      ∙ ap (apply_changes (halt_changes (prepares job.id) now s)) (stop_made (is_in_job job.id) WantTerminate (with_row (job_for next why job)) keys.tasks keys.runs)
+      ∙ halt_made (prepares job.id) (is_in_job job.id) WantTerminate (with_row (job_for next why job)) apart keys.runs keys.preps

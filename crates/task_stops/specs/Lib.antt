@@ -1,2 +1,3 @@
 pub mod HaltChanges
+pub mod LeaveTests
 pub mod StopChanges

@@ -12,8 +12,7 @@ ghost use Rattle.batch_model.specs.WellFormed.{KeysAreDistinct};
 ghost use Rattle.task_stops.specs.StopChanges.{stop_changes};
 ghost use Rattle.task_stops.specs.declared.stop.Stopped.TheVariants.{OthersOfJob};
 
-use crate::halt::push_halt;
-use crate::jobs::{job_for, job_in};
+use crate::jobs::{job_for, job_in, push_halt_of_job};
 use crate::stop::{Stopped, push_stop};
 use bt_base::{Duplicate, Id, NoMemory, Shared, Text};
 use bt_rows::job::{JobRow, JobState};
@@ -84,6 +83,6 @@ pub fn terminate_after_put(
     let terminating = Shared::new(alloc, job_for(JobState::Terminating, reason, job)?)?;
     let mut changes = vec![in alloc; Change::PutJob(terminating)]?;
     push_stop_after_put(&mut changes, tables, row, &job.id, Want::Terminate)?;
-    push_halt(&mut changes, tables, tables.moment(), &job.id)?;
+    push_halt_of_job(&mut changes, tables, tables.moment(), &job.id)?;
     Ok(changes)
 }

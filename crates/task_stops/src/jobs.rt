@@ -4,14 +4,16 @@ ghost use Rattle.bt_rows.specs.Changes.{apply_changes};
 ghost use Rattle.batch_model.specs.Finding.{Each};
 ghost use Rattle.batch_model.specs.Jobs.{job_in};
 ghost use Rattle.batch_model.specs.Rows.{job_of};
+ghost use Rattle.batch_model.specs.Runs.{prepares};
 ghost use Rattle.batch_model.specs.Sound.{names_no_task};
 ghost use Rattle.batch_model.specs.Stops.{close, disable, job_for};
 ghost use Rattle.batch_model.specs.Tasks.{is_in_job};
 ghost use Rattle.batch_model.specs.WellFormed.{KeysAreDistinct};
 ghost use Rattle.machine_plans.specs.Plans.{with_moment};
+ghost use Rattle.task_stops.specs.HaltChanges.{halt_changes};
 ghost use Rattle.task_stops.specs.StopChanges.{stop_changes, stop_changes_for};
 
-use crate::halt::push_halt;
+use crate::halt::{Halted, push_halt};
 use crate::stop::{Stopped, push_stop};
 use bt_base::{Duplicate, Id, NoMemory, Shared, Text};
 use bt_rows::event::DisableTasks;
@@ -71,6 +73,19 @@ fn push_stop_for(
     }
 }
 
+/// Adds the changes that halt the job's preparations.
+pub fn push_halt_of_job(
+    changes: &mut Vec<Change>,
+    tables: &Tables,
+    now: u64,
+    job: &Id,
+) -> Result<(), NoMemory>
+    ensures { OnOk result (changes.new.items ≡ changes.old.items ++ halt_changes (prepares job.now) now tables.now.state) }
+{
+    let which = Halted::OfJob(job.copy()?);
+    push_halt(changes, tables, now, &which)
+}
+
 /// The changes that disable the job at `now`, in milliseconds since 1970: it is disabling, and its placed tasks are stopped as the
 /// option says. The only error is out of memory.
 pub fn disable(
@@ -108,6 +123,6 @@ pub fn close(
     let row = Shared::new(alloc, job_for(state, reason, job)?)?;
     let mut changes = vec![in alloc; Change::PutJob(row)]?;
     push_stop_of_job(&mut changes, tables, now, &job.id, Want::Terminate)?;
-    push_halt(&mut changes, tables, now, &job.id)?;
+    push_halt_of_job(&mut changes, tables, now, &job.id)?;
     Ok(changes)
 }

@@ -10,6 +10,7 @@ ghost use Rattle.batch_model.specs.WellFormed.{KeysAreDistinct};
 ghost use Rattle.row_changes.specs.Puts.{puts_of};
 ghost use Rattle.task_stops.specs.StopChanges.{is_among, stopped_test, is_to_halt, halted_run, stopped_task, stop_changes};
 
+use crate::leaving::{LeavingNodes, has_run_on};
 use crate::rows::{halted, wanting};
 use bt_base::{Id, NoMemory};
 use bt_rows::prep::PrepRow;
@@ -29,6 +30,8 @@ pub enum Stopped {
     WaitingFor(PrepRow),
     /// All tasks of a job but for one.
     OthersOfJob(Id, TaskKey),
+    /// The tasks of which a run of the present attempt is on a node that leaves.
+    OnNodes(LeavingNodes),
 }
 
 /// Whether the run waits for the preparation.
@@ -75,6 +78,7 @@ fn is_among(tables: &Tables, which: &Stopped, task: &TaskRow) -> bool
         Stopped::One(key) => has_key(key, task),
         Stopped::WaitingFor(prep) => is_waiting_on(tables, prep, task),
         Stopped::OthersOfJob(job, key) => task.job.same(job) && !has_key(key, task),
+        Stopped::OnNodes(nodes) => has_run_on(tables, nodes, task),
     }
 }
 

@@ -1,6 +1,7 @@
 use Rattle.std.proofs.Common.{◌∷◌, [], ◌++◌, ◌∙◌, ap}
 use Rattle.bt_rows.specs.declared.tables.Change.TheVariants.{PutJob}
 use Rattle.bt_rows.specs.Changes.{apply_changes}
+use Rattle.batch_model.specs.Runs.{prepares}
 use Rattle.batch_model.specs.Tasks.{is_in_job}
 use Rattle.batch_model.specs.Variants.{WantTerminate}
 use Rattle.machine_plans.specs.Plans.{with_moment}
@@ -14,8 +15,8 @@ returns c =
     let s = c.args.tables.now.state in
     let job = c.args.job.now in
     ap (λ changes. apply_changes changes (with_moment c.args.now s))
-    (c.in_ok-push_halt.ensures
-    ∙ ap (λ changes. changes ++ halt_changes job.id c.args.now s)
+    (c.in_ok-push_halt_of_job.ensures
+    ∙ ap (λ changes. changes ++ halt_changes (prepares job.id) c.args.now s)
     (c.in_ok-push_stop_of_job.ensures
     ∙ ap (λ changes. changes ++ stop_changes (is_in_job job.id) WantTerminate c.args.now s)
     (c.in_ok-changes.ensures.items ∙ ap (λ row. PutJob row ∷ []) (c.in_ok-row.ensures ∙ c.in_ok-job_for.ensures))))
