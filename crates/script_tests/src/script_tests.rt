@@ -37,12 +37,20 @@ const ONE_SEAT: &str = "1 201\n1 U15 p 1 1\n2 full\ntables 0\n\
 const TWO_SEATS: &str = "1 201\n1 U15 p 1 1\n1 U15 p 2 2\n1 U11 p steady\n2 full\ntables 0\n\
     pool p active steady 2 0 1 spread\nnode 1 p 1 idle\nnode 2 p 2 idle\n";
 
+/// A pool that wants more nodes than there are seats, with a timeout of its own.
+const TIMED_OUT: &str =
+    "0 add-pool {\"id\":\"p\",\"targetDedicatedNodes\":2,\"resizeTimeout\":\"PT5M\"}\n\
+    299999 tick\n300000 tick\n";
+
+const TIMED_OUT_OUTPUT: &str = "1 201\n1 U15 p 1 1\n2 200\n3 200\n3 U11 p timeout\ntables 300000\n\
+    pool p active steady 2 0 1 spread\nnode 1 p 1 idle\n";
+
 /// A line of each word, and lines that are refused for their word, their ending, an id before a body, and a missing member.
 const ALL_WORDS: &str = "#7 take 1\n7 add-pool {\"id\":\"P\",\"targetDedicatedNodes\":1000}\n\
     7 add-job {\"poolInfo\":{\"poolId\":\"P\"},\"id\":\"j\"}\n\
     7 add-task j {\"id\":\"t\",\"commandLine\":\"a \\\"b c\\\"\"}\n\
     7 add-tasks j {\"value\":[]}\n007 take 1\n7 end 1 2147483648\n7 end 1 -7\n007 tick\n\
-    7 delete-pool P\n7 add-task j! {\n7 add-job {\"id\":\"k\"}\n";
+    7 disable-autoscale P\n7 add-task j! {\n7 add-job {\"id\":\"k\"}\n";
 
 const ALL_WORDS_OUTPUT: &str =
     "2 201\n2 U15 P 1 1\n3 201\n4 201\n4 U16 j t 1 1\n5 200\n6 200\n7 400 UnreadableBody\n\
@@ -83,7 +91,7 @@ const READS_OUTPUT: &str = "1 200 {\"value\":[]}\n2 201\n2 U15 P 1 1\n2 U11 P st
 #[test]
 fn scripts_and_options_are_followed(rt: HostRuntime) -> Result<(), Fail> {
     let read = "1 200 {\"value\":[]}\ntables 0\n";
-    let rows: [(&[&str], &str, Status, &str); 10] = [
+    let rows: [(&[&str], &str, Status, &str); 11] = [
         (&["replay"], "", Status::Done, "tables 0\n"),
         (
             &["replay"],
@@ -116,6 +124,12 @@ fn scripts_and_options_are_followed(rt: HostRuntime) -> Result<(), Fail> {
             TWO_NODES,
             Status::JournalFull,
             TWO_SEATS,
+        ),
+        (
+            &["replay", "--seats=1"],
+            TIMED_OUT,
+            Status::Done,
+            TIMED_OUT_OUTPUT,
         ),
         (
             &["replay", "--seats=1"],

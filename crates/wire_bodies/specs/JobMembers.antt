@@ -29,7 +29,7 @@ parallel_if d = do
 -- the limits that the members of an object are: a wall time, by default none, and retries, by default none
 unfoldable pub limits_in : Data → Result Limits Refusal
 limits_in d = do
-  wall ← duration_member (Some d) names.MaxWallClockTime
+  wall ← duration_member (Some d) names.MaxWallClockTime None
   retries ← signed_member (Some d) names.MaxTaskRetryCount (negsuc 0) RETRY_LIMIT (pos 0)
   Ok (record { retries = retries; wall = wall })
 

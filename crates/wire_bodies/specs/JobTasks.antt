@@ -37,7 +37,7 @@ preparation_if d = do
 unfoldable pub release_in : Data → Result ReleaseTask Refusal
 release_in d = do
   line ← command_member (Some d) names.CommandLine
-  wall ← limited_duration_member (Some d) names.MaxWallClockTime RELEASE_TIME_LIMIT RELEASE_TIME_LIMIT
+  wall ← limited_duration_member (Some d) names.MaxWallClockTime 0 RELEASE_TIME_LIMIT RELEASE_TIME_LIMIT
   Ok (record { line = line; wall = wall })
 
 -- a release task, if its object is there; without a preparation it is refused

@@ -6,6 +6,8 @@ pub mod JobChanges
 pub mod JobMembers
 pub mod JobTasks
 pub mod Jobs
+pub mod PoolMembers
 pub mod Pools
+pub mod Resizes
 pub mod Starts
 pub mod Tasks

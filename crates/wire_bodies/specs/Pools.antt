@@ -2,7 +2,7 @@
 use Rattle.std.specs.Prelude.{ℕ, List, Some, None, Result, Ok, false}
 use Rattle.serde_json.specs.Data.{Data}
 use Rattle.bt_base.specs.Fails.{◌>>=◌}
-use Rattle.bt_rows.specs.declared.limits.TheConstants.{DEFAULT_RESIZE_TIMEOUT, SLOT_LIMIT, TARGET_LIMIT}
+use Rattle.bt_rows.specs.declared.limits.TheConstants.{SLOT_LIMIT, TARGET_LIMIT}
 use Rattle.bt_rows.specs.declared.member.Member.TheVariants as names
 use Rattle.bt_rows.specs.declared.event.PoolSpec.{PoolSpec}
 use Rattle.bt_rows.specs.declared.pool.Fill.TheVariants.{Spread}
@@ -10,6 +10,8 @@ use Rattle.bt_rows.specs.declared.refusal.Refusal.{Refusal}
 use Rattle.wire_members.specs.Body.{object_of}
 use Rattle.wire_members.specs.Members.{count_member, id_member, object_member, unbuilt_member, word_member}
 use Rattle.wire_members.specs.Words.{fill_word}
+use Rattle.wire_bodies.specs.declared.pool_member.TheConstants.{LOW_PRIORITY_LIMIT}
+use Rattle.wire_bodies.specs.PoolMembers.{resize_timeout}
 use Rattle.wire_bodies.specs.Starts.{start_if}
 
 -- the members in this order, with their defaults
@@ -17,18 +19,18 @@ unfoldable pub pool_in : Data → Result PoolSpec Refusal
 pool_in d = do
   id ← id_member (Some d) names.Id
   dedicated ← count_member (Some d) names.TargetDedicatedNodes 0 TARGET_LIMIT 0
-  _ ← unbuilt_member (Some d) names.TargetLowPriorityNodes
+  low ← count_member (Some d) names.TargetLowPriorityNodes 0 LOW_PRIORITY_LIMIT 0
   slots ← count_member (Some d) names.TaskSlotsPerNode 1 SLOT_LIMIT 1
   policy ← object_member (Some d) names.TaskSchedulingPolicy
   fill ← word_member fill_word policy names.NodeFillType Spread
   _ ← unbuilt_member (Some d) names.EnableInterNodeCommunication
-  _ ← unbuilt_member (Some d) names.ResizeTimeout
+  timeout ← resize_timeout d
   part ← object_member (Some d) names.StartTask
   start ← start_if part
   _ ← unbuilt_member (Some d) names.EnableAutoScale
   _ ← unbuilt_member (Some d) names.AutoScaleFormula
   _ ← unbuilt_member (Some d) names.AutoScaleEvaluationInterval
-  Ok (record { id = id; dedicated = dedicated; low = 0; slots = slots; fill = fill; inter = false; timeout = DEFAULT_RESIZE_TIMEOUT; start = start; scale = None })
+  Ok (record { id = id; dedicated = dedicated; low = low; slots = slots; fill = fill; inter = false; timeout = timeout; start = start; scale = None })
 
 -- the pool that the bytes of a body are
 unfoldable pub pool_of : List ℕ → Result PoolSpec Refusal

@@ -25,14 +25,14 @@ task_in d = do
   slots ← count_member (Some d) names.RequiredSlots 1 SLOT_LIMIT 1
   part ← object_member (Some d) names.Constraints
   retries ← signed_if part names.MaxTaskRetryCount (negsuc 0) RETRY_LIMIT
-  wall ← duration_member part names.MaxWallClockTime
-  _ ← unbuilt_member part names.RetentionTime
+  wall ← duration_member part names.MaxWallClockTime None
+  retention ← duration_member part names.RetentionTime (Some DEFAULT_RETENTION)
   exits ← object_member (Some d) names.ExitConditions
   conditions ← conditions_in exits
   depends ← object_member (Some d) names.DependsOn
   dependencies ← dependencies_in depends
   _ ← unbuilt_member (Some d) names.MultiInstanceSettings
-  Ok (record { id = id; line = line; slots = slots; retries = retries; wall = wall; retention = Some DEFAULT_RETENTION; codes = conditions.codes; ranges = conditions.ranges; launch = conditions.launch; other = conditions.other; needs = dependencies.needs; spans = dependencies.spans; multi = None })
+  Ok (record { id = id; line = line; slots = slots; retries = retries; wall = wall; retention = retention; codes = conditions.codes; ranges = conditions.ranges; launch = conditions.launch; other = conditions.other; needs = dependencies.needs; spans = dependencies.spans; multi = None })
 
 -- the task that the bytes of a body are
 unfoldable pub task_of : List ℕ → Result TaskSpec Refusal

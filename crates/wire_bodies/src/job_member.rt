@@ -49,7 +49,7 @@ fn limits(part: &Value) -> Result<Limits, Fail<Refusal>>
     ensures value { Gives result (limits_in (view part.now)) }
     ensures kept { IfOk result (λ limits. are_limits_in_range limits ≡ true) }
 {
-    let wall = duration_member(Some(part), Member::MaxWallClockTime)?;
+    let wall = duration_member(Some(part), Member::MaxWallClockTime, None)?;
     let retry_limit = i64::from(RETRY_LIMIT);
     let retries = signed_member(Some(part), Member::MaxTaskRetryCount, -1, retry_limit, 0)?;
     Ok(Limits {

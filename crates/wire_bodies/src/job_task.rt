@@ -71,6 +71,7 @@ fn release(alloc: Global, part: &Value) -> Result<ReleaseTask, Fail<Refusal>>
     let wall = limited_duration_member(
         Some(part),
         Member::MaxWallClockTime,
+        0,
         limit,
         RELEASE_TIME_LIMIT,
     )?;

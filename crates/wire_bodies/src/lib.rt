@@ -11,7 +11,9 @@ mod job_member;
 mod job_task;
 mod list_item;
 mod pool;
+mod pool_member;
 mod reason;
+mod resize;
 mod start;
 mod task;
 
@@ -19,4 +21,5 @@ pub use collection::{read_collection, read_task_items};
 pub use job::{read_job, read_job_spec};
 pub use job_change::{read_disable_tasks, read_job_patch, read_terminate_reason};
 pub use pool::read_pool;
+pub use resize::read_resize;
 pub use task::read_task;

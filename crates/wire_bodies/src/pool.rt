@@ -5,10 +5,11 @@ ghost use Rattle.bt_base.specs.Fails.{Gives};
 ghost use Rattle.bt_rows.specs.Ranges.{is_pool_spec_in_range};
 ghost use Rattle.wire_bodies.specs.Pools.{pool_in, pool_of};
 
+use crate::pool_member::{LOW_PRIORITY_LIMIT, resize_timeout};
 use crate::start::start_if;
 use bt_base::Fail;
 use bt_rows::event::PoolSpec;
-use bt_rows::limits::{DEFAULT_RESIZE_TIMEOUT, SLOT_LIMIT, TARGET_LIMIT};
+use bt_rows::limits::{SLOT_LIMIT, TARGET_LIMIT};
 use bt_rows::member::Member;
 use bt_rows::pool::Fill;
 use bt_rows::refusal::Refusal;
@@ -27,7 +28,8 @@ fn pool(alloc: Global, body: &Value) -> Result<PoolSpec, Fail<Refusal>>
     let id = id_member(alloc, Some(body), Member::Id)?;
     let target_limit = u64::from(TARGET_LIMIT);
     let dedicated = count_member(Some(body), Member::TargetDedicatedNodes, 0, target_limit, 0)?;
-    unbuilt_member(Some(body), Member::TargetLowPriorityNodes)?;
+    let low_limit = u64::from(LOW_PRIORITY_LIMIT);
+    let low = count_member(Some(body), Member::TargetLowPriorityNodes, 0, low_limit, 0)?;
     let slots = count_member(
         Some(body),
         Member::TaskSlotsPerNode,
@@ -38,7 +40,7 @@ fn pool(alloc: Global, body: &Value) -> Result<PoolSpec, Fail<Refusal>>
     let policy = object_member(Some(body), Member::TaskSchedulingPolicy)?;
     let fill = word_member(policy, Member::NodeFillType, Fill::Spread)?;
     unbuilt_member(Some(body), Member::EnableInterNodeCommunication)?;
-    unbuilt_member(Some(body), Member::ResizeTimeout)?;
+    let timeout = resize_timeout(body)?;
     let part = object_member(Some(body), Member::StartTask)?;
     let start = start_if(alloc, part)?;
     unbuilt_member(Some(body), Member::EnableAutoScale)?;
@@ -47,11 +49,11 @@ fn pool(alloc: Global, body: &Value) -> Result<PoolSpec, Fail<Refusal>>
     Ok(PoolSpec {
         id,
         dedicated: dedicated as u32,
-        low: 0,
+        low: low as u32,
         slots: slots as u8,
         fill,
         inter: false,
-        timeout: DEFAULT_RESIZE_TIMEOUT,
+        timeout,
         start,
         scale: None,
     })
@@ -60,8 +62,10 @@ fn pool(alloc: Global, body: &Value) -> Result<PoolSpec, Fail<Refusal>>
 /// The body of `add-pool` (Azure: Create Pool): `id`, and the members below, with their defaults.
 ///
 /// - `targetDedicatedNodes` from 0 to 1,000 (0);
+/// - `targetLowPriorityNodes`, which is 0 (0);
 /// - `taskSlotsPerNode` from 1 to 8 (1);
 /// - `taskSchedulingPolicy` with `nodeFillType`, which is `spread` or `pack` in upper or lower case (`spread`);
+/// - `resizeTimeout`, a duration from 5 minutes to 10 days (15 minutes);
 /// - `startTask` with `commandLine`, `maxTaskRetryCount` from -1, for no limit, to 1,000,000 (0), and `waitForSuccess` (true);
 ///   without it, the pool has no start task.
 ///

@@ -57,15 +57,16 @@ pub fn task(alloc: Global, body: &Value) -> Result<TaskSpec, Fail<Refusal>>
     )?;
     let part = object_member(Some(body), Member::Constraints)?;
     let retries = signed_if(part, Member::MaxTaskRetryCount, -1, RETRY_LIMIT)?;
-    let wall = duration_member(part, Member::MaxWallClockTime)?;
-    unbuilt_member(part, Member::RetentionTime)?;
+    let wall = duration_member(part, Member::MaxWallClockTime, None)?;
+    let usual_retention = Some(DEFAULT_RETENTION);
+    let retention = duration_member(part, Member::RetentionTime, usual_retention)?;
     let exits = conditions_in(alloc, object_member(Some(body), Member::ExitConditions)?)?;
     let depends = dependencies_in(alloc, object_member(Some(body), Member::DependsOn)?)?;
     unbuilt_member(Some(body), Member::MultiInstanceSettings)?;
     let settings = TaskSettings {
         retries,
         wall,
-        retention: Some(DEFAULT_RETENTION),
+        retention,
         codes: exits.codes,
         ranges: exits.ranges,
         launch: exits.launch,
@@ -80,8 +81,8 @@ pub fn task(alloc: Global, body: &Value) -> Result<TaskSpec, Fail<Refusal>>
 /// The body of `add-task` (Azure: Create Task): `id`, `commandLine`, and the members below, with their defaults.
 ///
 /// - `requiredSlots` from 1 to 8 (1);
-/// - `constraints` with `maxTaskRetryCount` from -1, for no limit, to 1,000,000 (the job's), and `maxWallClockTime`, a duration of
-///   at most 36,500 days (no limit);
+/// - `constraints` with `maxTaskRetryCount` from -1, for no limit, to 1,000,000 (the job's), and `maxWallClockTime` (no limit) and
+///   `retentionTime` (7 days), durations of at most 36,500 days, of which `P10675199DT2H48M5.4775807S` is no limit;
 /// - `exitConditions`, as `conditions_in` reads them (none);
 /// - `dependsOn`, as `dependencies_in` reads it (nothing).
 ///

@@ -163,8 +163,9 @@ pub fn is_skipped(line: &[u8]) -> bool
 /// An empty line and one that begins with `#` are skipped. Another line is a moment (the digits of milliseconds since 1970, up to
 /// the end of the year 9999), a space and one of
 ///
-/// - `add-pool BODY`, `add-job BODY`, `patch-job JOB BODY`, `disable-job JOB BODY`, `terminate-job JOB BODY`, `add-task JOB BODY`
-///   and `add-tasks JOB BODY`, with a JSON object up to the end of the line as the body;
+/// - `add-pool BODY`, `resize POOL BODY`, `add-job BODY`, `patch-job JOB BODY`, `disable-job JOB BODY`, `terminate-job JOB BODY`,
+///   `add-task JOB BODY` and `add-tasks JOB BODY`, with a JSON object up to the end of the line as the body;
+/// - `delete-pool POOL` and `stop-resize POOL`;
 /// - `terminate-job JOB`, `enable-job JOB` and `delete-job JOB`;
 /// - `delete-task JOB TASK`, `terminate-task JOB TASK` and `reactivate-task JOB TASK`;
 /// - `take RUN` and `end RUN ENDING`, with an exit code of 32 bits, `none` or `notstarted` as the ending;

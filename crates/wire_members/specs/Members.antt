@@ -77,6 +77,10 @@ there value = option_map (λ a. Some a) value
 abbrev pub count_member : Option Data → Member → ℕ → ℕ → ℕ → Result ℕ Refusal
 count_member part name low high default = optional (count_in low high) default part name
 
+-- a whole number; None if it is absent
+abbrev pub count_if : Option Data → Member → ℕ → ℕ → Result (Option ℕ) Refusal
+count_if part name low high = optional (λ d. there (count_in low high d)) None part name
+
 -- a whole number that is required
 abbrev pub required_count : Option Data → Member → ℕ → ℕ → Result ℕ Refusal
 required_count part name low high = required (count_in low high) part name

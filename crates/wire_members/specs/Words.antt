@@ -1,6 +1,8 @@
 -- The words of bodies, in upper or lower case, as the Azure Batch REST reference has them.
 use Rattle.std.specs.Prelude.{ℕ, Bool, true, false, List, Option, Some, None, codes, if◌then◌else◌}
 use Rattle.bt_base.specs.Ids.{same}
+use Rattle.bt_base.specs.declared.dealloc_option.Dealloc.{Dealloc}
+use Rattle.bt_base.specs.declared.dealloc_option.Dealloc.TheVariants as options
 use Rattle.bt_rows.specs.declared.pool.Fill.{Fill}
 use Rattle.bt_rows.specs.declared.pool.Fill.TheVariants.{Spread, Pack}
 use Rattle.bt_rows.specs.declared.task.JobAction.{JobAction}
@@ -19,6 +21,15 @@ unfoldable pub fill_word : List ℕ → Option Fill
 fill_word t =
     if same t (codes "spread") then Some Spread
     else if same t (codes "pack") then Some Pack
+    else None
+
+-- a `nodeDeallocationOption`
+unfoldable pub dealloc_word : List ℕ → Option Dealloc
+dealloc_word t =
+    if same t (codes "requeue") then Some options.Requeue
+    else if same t (codes "terminate") then Some options.Terminate
+    else if same t (codes "taskcompletion") then Some options.TaskCompletion
+    else if same t (codes "retaineddata") then Some options.RetainedData
     else None
 
 -- a `jobAction`

@@ -26,13 +26,18 @@ fn duration_of(value: &Value) -> Option<Option<u64>>
     }
 }
 
-/// A duration of at most 36,500 days, in milliseconds; None, for no limit, if it is absent or `P10675199DT2H48M5.4775807S`.
-pub fn duration_member(part: Option<&Value>, name: Member) -> Result<Option<u64>, Fail<Refusal>>
-    ensures value { Gives result (duration_member (option_map (λ v. view v.now) part.entry) name) }
-    ensures kept { IfOk result (λ duration. passes_if_some is_duration duration ≡ true) }
+/// A duration of at most 36,500 days, in milliseconds, or None for no limit, which is `P10675199DT2H48M5.4775807S`; the default if
+/// it is absent.
+pub fn duration_member(
+    part: Option<&Value>,
+    name: Member,
+    default: Option<u64>,
+) -> Result<Option<u64>, Fail<Refusal>>
+    ensures value { Gives result (duration_member (option_map (λ v. view v.now) part.entry) name default) }
+    ensures kept { passes_if_some is_duration default ≡ true → IfOk result (λ duration. passes_if_some is_duration duration ≡ true) }
 {
     match member(part, name) {
-        None => Ok(None),
+        None => Ok(default),
         Some(value) => match duration_of(value) {
             Some(duration) => Ok(duration),
             None => Err(invalid_property(name)),
@@ -40,13 +45,13 @@ pub fn duration_member(part: Option<&Value>, name: Member) -> Result<Option<u64>
     }
 }
 
-/// The value as a duration of at most `limit`, in milliseconds, if it is one.
-fn limited_duration_of(value: &Value, limit: u64) -> Option<u64>
-    ensures value { result ≡ limited_duration_in limit (view value.now) }
-    ensures bound { IfSome result (λ duration. duration ≤ limit) }
+/// The value as a duration from `low` to `high`, in milliseconds, if it is one.
+fn limited_duration_of(value: &Value, low: u64, high: u64) -> Option<u64>
+    ensures value { result ≡ limited_duration_in low high (view value.now) }
+    ensures bound { IfSome result (λ duration. (low ≤ duration) × (duration ≤ high)) }
 {
     match duration_of(value) {
-        Some(Some(duration)) => if duration <= limit {
+        Some(Some(duration)) => if low <= duration && duration <= high {
             Some(duration)
         } else {
             None
@@ -55,18 +60,19 @@ fn limited_duration_of(value: &Value, limit: u64) -> Option<u64>
     }
 }
 
-/// A duration of at most `limit`, in milliseconds; the default if it is absent.
+/// A duration from `low` to `high`, in milliseconds; the default if it is absent.
 pub fn limited_duration_member(
     part: Option<&Value>,
     name: Member,
-    limit: u64,
+    low: u64,
+    high: u64,
     default: u64,
 ) -> Result<u64, Fail<Refusal>>
-    ensures value { Gives result (limited_duration_member (option_map (λ v. view v.now) part.entry) name limit default) }
-    ensures bound { default ≤ limit → IfOk result (λ duration. duration ≤ limit) }
+    ensures value { Gives result (limited_duration_member (option_map (λ v. view v.now) part.entry) name low high default) }
+    ensures bound { low ≤ default → default ≤ high → IfOk result (λ duration. (low ≤ duration) × (duration ≤ high)) }
 {
     match member(part, name) {
         None => Ok(default),
-        Some(value) => limited_duration_of(value, limit).ok_or(invalid_property(name)),
+        Some(value) => limited_duration_of(value, low, high).ok_or(invalid_property(name)),
     }
 }

@@ -7,7 +7,7 @@ ghost use Rattle.bt_base.specs.Fails.{Gives, GivesAs};
 ghost use Rattle.bt_base.specs.declared.fail.Fail.TheVariants.{Why};
 ghost use Rattle.bt_rows.specs.declared.refusal.Refusal.TheVariants.{InvalidPropertyValue};
 ghost use Rattle.wire_members.specs.Members.{member_of, or_invalid, count_in, signed_in, command_in};
-ghost use Rattle.wire_members.specs.Members.{count_member, required_count, signed_member, signed_if, required_signed, flag_member, text_member, id_member, command_member, object_member, required_object, list_member, required_list, object_item, id_item, unbuilt_member};
+ghost use Rattle.wire_members.specs.Members.{count_member, count_if, required_count, signed_member, signed_if, required_signed, flag_member, text_member, id_member, command_member, object_member, required_object, list_member, required_list, object_item, id_item, unbuilt_member};
 
 use bt_base::{CommandLine, Fail, Id, Text};
 use bt_rows::member::Member;
@@ -65,6 +65,25 @@ pub fn count_member(
     match member(part, name) {
         None => Ok(default),
         Some(value) => count_of(value, low, high).ok_or(invalid_property(name)),
+    }
+}
+
+/// A whole number of 32 bits from `low` to `high`; None if it is absent.
+pub fn count_if(
+    part: Option<&Value>,
+    name: Member,
+    low: u32,
+    high: u32,
+) -> Result<Option<u32>, Fail<Refusal>>
+    ensures value { Gives result (count_if (option_map (λ v. view v.now) part.entry) name low high) }
+    ensures bound { IfOk result (λ n. IfSome n (λ n. (low ≤ n) × (n ≤ high))) }
+{
+    match member(part, name) {
+        None => Ok(None),
+        Some(value) => match count_of(value, u64::from(low), u64::from(high)) {
+            Some(n) => Ok(Some(n as u32)),
+            None => Err(invalid_property(name)),
+        },
     }
 }
 

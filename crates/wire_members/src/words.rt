@@ -1,12 +1,12 @@
-//! The words of bodies (Azure: the values of nodeFillType, jobAction, onAllTasksComplete, onTaskFailure, dependencyAction and
-//! disableTasks).
+//! The words of bodies (Azure: the values of nodeFillType, nodeDeallocationOption, jobAction, onAllTasksComplete, onTaskFailure,
+//! dependencyAction and disableTasks).
 ghost use Rattle.std.specs.Prelude.{◌≡◌};
-ghost use Rattle.wire_members.specs.Words.{fill_word, job_action_word, all_tasks_word, failure_word, dependency_word, disable_word, is_terminating, is_performing, is_satisfying};
+ghost use Rattle.wire_members.specs.Words.{fill_word, dealloc_word, job_action_word, all_tasks_word, failure_word, dependency_word, disable_word, is_terminating, is_performing, is_satisfying};
 
 use crate::word::WordKind;
 use bt_base::is_same;
 use bt_rows::event::DisableTasks;
-use bt_rows::pool::Fill;
+use bt_rows::pool::{Dealloc, Fill};
 use bt_rows::task::JobAction;
 
 impl WordKind for Fill {
@@ -18,6 +18,25 @@ impl WordKind for Fill {
             Some(Fill::Spread)
         } else if is_same(text, "pack") {
             Some(Fill::Pack)
+        } else {
+            None
+        }
+    }
+}
+
+impl WordKind for Dealloc {
+    ghost of_text = { dealloc_word };
+
+    #[tactic(auto, unfolding(crate::specs::Words::dealloc_word))]
+    fn of_text(text: &str) -> Option<Dealloc> {
+        if is_same(text, "requeue") {
+            Some(Dealloc::Requeue)
+        } else if is_same(text, "terminate") {
+            Some(Dealloc::Terminate)
+        } else if is_same(text, "taskcompletion") {
+            Some(Dealloc::TaskCompletion)
+        } else if is_same(text, "retaineddata") {
+            Some(Dealloc::RetainedData)
         } else {
             None
         }

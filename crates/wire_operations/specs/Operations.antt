@@ -9,6 +9,7 @@ use Rattle.bt_rows.specs.declared.event.EventKind.TheVariants as events
 use Rattle.bt_rows.specs.declared.refusal.Refusal.{Refusal}
 use Rattle.bt_rows.specs.declared.refusal.Refusal.TheVariants.{UnreadableBody}
 use Rattle.wire_bodies.specs.Pools.{pool_of}
+use Rattle.wire_bodies.specs.Resizes.{resize_of}
 use Rattle.wire_bodies.specs.Jobs.{job_of}
 use Rattle.wire_bodies.specs.JobChanges.{patch_of, disable_of, reason_of}
 use Rattle.wire_bodies.specs.Tasks.{task_of}
@@ -50,8 +51,9 @@ operation_name (Task tasks.Reactivate) = codes "reactivate-task"
 -- the operations whose events the machines have, each once
 abbrev pub built_operations : List Operation
 built_operations =
-    Service services.AddPool ∷ Service services.AddJob ∷ Job jobs.Patch ∷ Job jobs.Disable ∷ Job jobs.Enable ∷ Job jobs.Terminate
-    ∷ Job jobs.Delete ∷ Job jobs.AddTask ∷ Job jobs.AddTasks ∷ Task tasks.Delete ∷ Task tasks.Terminate ∷ Task tasks.Reactivate ∷ []
+    Service services.AddPool ∷ Service services.AddJob ∷ Pool pools.Delete ∷ Pool pools.Resize ∷ Pool pools.StopResize
+    ∷ Job jobs.Patch ∷ Job jobs.Disable ∷ Job jobs.Enable ∷ Job jobs.Terminate ∷ Job jobs.Delete ∷ Job jobs.AddTask ∷ Job jobs.AddTasks
+    ∷ Task tasks.Delete ∷ Task tasks.Terminate ∷ Task tasks.Reactivate ∷ []
 
 -- the operation with this name, of those that are built
 unfoldable pub operation_in : List ℕ → Option Operation
@@ -92,8 +94,7 @@ abbrev pub reason_if : Option (List ℕ) → Result (Option (List ℕ)) Refusal
 reason_if None = Ok None
 reason_if (Some bytes) = reason_of bytes
 
--- The event of an operation with its ids and its body. Until the machines have the events of deleting, resizing and scaling a pool, they
--- are refused.
+-- The event of an operation with its ids and its body. Until the machines have the events of scaling a pool, they are refused.
 unfoldable pub event_of : Asked → Option (List ℕ) → Result EventKind Refusal
 event_of (asks.Service services.AddPool) body = do
   bytes ← required_body body
@@ -103,9 +104,12 @@ event_of (asks.Service services.AddJob) body = do
   bytes ← required_body body
   job ← job_of bytes
   Ok (events.AddJob job.0 job.1)
-event_of (asks.Pool pools.Delete pool) body = Err UnreadableBody
-event_of (asks.Pool pools.Resize pool) body = Err UnreadableBody
-event_of (asks.Pool pools.StopResize pool) body = Err UnreadableBody
+event_of (asks.Pool pools.Delete pool) body = Ok (events.DeletePool pool)
+event_of (asks.Pool pools.Resize pool) body = do
+  bytes ← required_body body
+  resize ← resize_of bytes
+  Ok (events.Resize pool resize)
+event_of (asks.Pool pools.StopResize pool) body = Ok (events.StopResize pool)
 event_of (asks.Pool pools.EnableAutoscale pool) body = Err UnreadableBody
 event_of (asks.Pool pools.DisableAutoscale pool) body = Err UnreadableBody
 event_of (asks.Pool pools.EvaluateAutoscale pool) body = Err UnreadableBody

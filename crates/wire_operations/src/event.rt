@@ -4,6 +4,7 @@ ghost use Rattle.bt_base.specs.Fails.{Gives, GivesAs};
 ghost use Rattle.bt_rows.specs.Ranges.{is_reason, passes_if_some};
 ghost use Rattle.wire_operations.specs.declared.operation.Asked.TheVariants as asks;
 ghost use Rattle.wire_operations.specs.declared.operation.ServiceOperation.TheVariants as services;
+ghost use Rattle.wire_operations.specs.declared.operation.PoolOperation.TheVariants as pools;
 ghost use Rattle.wire_operations.specs.declared.operation.JobOperation.TheVariants as jobs;
 ghost use Rattle.wire_operations.specs.Operations.{required_body, reason_if, event_of};
 
@@ -12,8 +13,8 @@ use bt_rows::event::{Event, EventKind};
 use bt_rows::refusal::Refusal;
 use std::alloc::Global;
 use wire_bodies::{
-    read_collection, read_disable_tasks, read_job, read_job_patch, read_pool, read_task,
-    read_terminate_reason,
+    read_collection, read_disable_tasks, read_job, read_job_patch, read_pool, read_resize,
+    read_task, read_terminate_reason,
 };
 
 /// The bytes of a body that has to be there.
@@ -42,6 +43,16 @@ pub fn add_pool(alloc: Global, body: Option<&[u8]>) -> Result<Event, Fail<Refusa
     let pool = read_pool(alloc, required_body(body)?)?;
     let pool = Shared::new(alloc, pool)?;
     Ok(Event::new(EventKind::AddPool(pool)))
+}
+
+/// The event of `resize` with this id and this body.
+#[tactic(auto, unfolding(crate::specs::Operations::event_of))]
+pub fn resize_pool(alloc: Global, pool: Id, body: Option<&[u8]>) -> Result<Event, Fail<Refusal>>
+    ensures { Gives result (event_of (asks.Pool pools.Resize pool) (option_map (λ bytes. bytes.now) body.entry)) }
+{
+    let resize = read_resize(alloc, required_body(body)?)?;
+    let resize = Shared::new(alloc, resize)?;
+    Ok(Event::new(EventKind::Resize(pool, resize)))
 }
 
 /// The event of `add-job` with this body.

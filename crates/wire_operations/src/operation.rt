@@ -3,7 +3,9 @@ ghost use Rattle.std.specs.Prelude.{◌≡◌, option_map};
 ghost use Rattle.bt_base.specs.Fails.{Gives};
 ghost use Rattle.wire_operations.specs.Operations.{operation_name, operation_in, pool_body, job_body, allows, event_of};
 
-use crate::event::{add_job, add_pool, add_task, add_tasks, disable_job, patch_job, terminate_job};
+use crate::event::{
+    add_job, add_pool, add_task, add_tasks, disable_job, patch_job, resize_pool, terminate_job,
+};
 use bt_base::{Fail, Id};
 use bt_rows::event::{Event, EventKind};
 use bt_rows::refusal::Refusal;
@@ -184,6 +186,9 @@ impl Operation {
         let built = [
             Operation::Service(ServiceOperation::AddPool),
             Operation::Service(ServiceOperation::AddJob),
+            Operation::Pool(PoolOperation::Delete),
+            Operation::Pool(PoolOperation::Resize),
+            Operation::Pool(PoolOperation::StopResize),
             Operation::Job(JobOperation::Patch),
             Operation::Job(JobOperation::Disable),
             Operation::Job(JobOperation::Enable),
@@ -205,8 +210,8 @@ impl Operation {
 /// The event that this operation is with these ids and the bytes of this body, None if there is no body.
 ///
 /// A body that is missing where the operation has one is `UnreadableBody`; its other faults are those that the functions of wire_bodies
-/// state. Operations without a body do not look at it. Those of pools, whose events are not built, are `UnreadableBody`. It fails with
-/// `Memory` when out of memory.
+/// state. Operations without a body do not look at it. Those of the scaling of pools, whose events are not built, are `UnreadableBody`. It
+/// fails with `Memory` when out of memory.
 #[tactic(auto, unfolding(crate::specs::Operations::event_of))]
 pub fn read_operation(
     alloc: Global,
@@ -218,10 +223,10 @@ pub fn read_operation(
     match asked {
         Asked::Service(ServiceOperation::AddPool) => add_pool(alloc, body),
         Asked::Service(ServiceOperation::AddJob) => add_job(alloc, body),
-        Asked::Pool(PoolOperation::Delete, _pool)
-        | Asked::Pool(PoolOperation::Resize, _pool)
-        | Asked::Pool(PoolOperation::StopResize, _pool)
-        | Asked::Pool(PoolOperation::EnableAutoscale, _pool)
+        Asked::Pool(PoolOperation::Delete, pool) => Ok(Event::new(EventKind::DeletePool(pool))),
+        Asked::Pool(PoolOperation::Resize, pool) => resize_pool(alloc, pool, body),
+        Asked::Pool(PoolOperation::StopResize, pool) => Ok(Event::new(EventKind::StopResize(pool))),
+        Asked::Pool(PoolOperation::EnableAutoscale, _pool)
         | Asked::Pool(PoolOperation::DisableAutoscale, _pool)
         | Asked::Pool(PoolOperation::EvaluateAutoscale, _pool) => {
             Err(Fail::Why(Refusal::UnreadableBody))

@@ -23,6 +23,9 @@ const AFTER: &str = "{\"code\":\"InvalidPropertyValue\",\"number\":2,\"values\":
 
 const ID: &str = "{\"code\":\"InvalidPropertyValue\",\"number\":2,\"values\":[\"id\"]}";
 
+const TARGET: &str =
+    "{\"code\":\"InvalidPropertyValue\",\"number\":2,\"values\":[\"targetDedicatedNodes\"]}";
+
 const UNREADABLE: &str = "{\"code\":\"UnreadableBody\",\"number\":1,\"values\":[]}";
 
 /// Requests that are answered as they are read: method, target, body, status, the body of the response.
@@ -49,7 +52,10 @@ const ANSWERED: &[(&[u8], &str, &[u8], u16, &str)] = &[
     (b"POST", "/jobs/j/disable", b"[]", 400, UNREADABLE),
     (b"PATCH", "/jobs/j", b"", 400, UNREADABLE),
     (b"DELETE", "/pools/p.p", b"", 400, ID),
-    (b"POST", "/pools/p/resize", b"{}", 400, UNREADABLE),
+    (b"POST", "/pools/p/resize", b"{}", 400, TARGET),
+    (b"POST", "/pools/p/resize", b"", 400, UNREADABLE),
+    (b"POST", "/pools/p.p/stopresize", b"", 400, ID),
+    (b"POST", "/pools/p/disableautoscale", b"", 400, UNREADABLE),
 ];
 
 /// Whether this is a response with this status and this body.
@@ -148,6 +154,14 @@ fn others_are_reads_and_calls(rt: HostRuntime) -> Result<(), Fail> {
 /// Requests that are calls: method, target, body, and the name of the operation.
 const CALLS: &[(&[u8], &str, &[u8], &str)] = &[
     (b"POST", "/pools", b"{\"id\":\"p\"}", "add-pool"),
+    (b"DELETE", "/pools/p", b"{", "delete-pool"),
+    (
+        b"POST",
+        "/pools/p/resize",
+        b"{\"targetDedicatedNodes\":0}",
+        "resize",
+    ),
+    (b"POST", "/pools/p/stopresize", b"{", "stop-resize"),
     (
         b"POST",
         "/jobs",
@@ -193,6 +207,9 @@ fn called(wanted: &Wanted) -> &'static str {
     };
     match event.kind() {
         EventKind::AddPool(_) => "add-pool",
+        EventKind::DeletePool(_) => "delete-pool",
+        EventKind::Resize(_, _) => "resize",
+        EventKind::StopResize(_) => "stop-resize",
         EventKind::AddJob(_, _) => "add-job",
         EventKind::PatchJob(_, _) => "patch-job",
         EventKind::DisableJob(_, _) => "disable-job",

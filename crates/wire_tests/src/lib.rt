@@ -20,6 +20,8 @@ mod link_doors_tests;
 #[cfg(test)]
 mod origin_tests;
 #[cfg(test)]
+mod wire_bodies_tests;
+#[cfg(test)]
 mod wire_json_tests;
 #[cfg(test)]
 mod wire_operations_tests;

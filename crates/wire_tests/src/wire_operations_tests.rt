@@ -6,6 +6,9 @@ use wire_operations::{JobOperation, Operation, PoolOperation, ServiceOperation, 
 const NAMES: &[(Operation, &str)] = &[
     (Operation::Service(ServiceOperation::AddPool), "add-pool"),
     (Operation::Service(ServiceOperation::AddJob), "add-job"),
+    (Operation::Pool(PoolOperation::Delete), "delete-pool"),
+    (Operation::Pool(PoolOperation::Resize), "resize"),
+    (Operation::Pool(PoolOperation::StopResize), "stop-resize"),
     (Operation::Job(JobOperation::Patch), "patch-job"),
     (Operation::Job(JobOperation::Disable), "disable-job"),
     (Operation::Job(JobOperation::Enable), "enable-job"),
@@ -19,9 +22,6 @@ const NAMES: &[(Operation, &str)] = &[
         Operation::Task(TaskOperation::Reactivate),
         "reactivate-task",
     ),
-    (Operation::Pool(PoolOperation::Delete), "delete-pool"),
-    (Operation::Pool(PoolOperation::Resize), "resize"),
-    (Operation::Pool(PoolOperation::StopResize), "stop-resize"),
     (
         Operation::Pool(PoolOperation::EnableAutoscale),
         "enable-autoscale",
@@ -48,7 +48,10 @@ fn operations_have_the_names_of_the_profile(rt: HostRuntime) -> Result<(), Fail>
 fn operations_are_found_by_their_names(rt: HostRuntime) -> Result<(), Fail> {
     let add_tasks = Operation::Job(JobOperation::AddTasks);
     assert!(rt; Operation::read(b"add-tasks") == Some(add_tasks));
+    let stop_resize = Operation::Pool(PoolOperation::StopResize);
+    assert!(rt; Operation::read(b"stop-resize") == Some(stop_resize));
     assert!(rt; Operation::read(b"add-tasks ").is_none());
+    assert!(rt; Operation::read(b"enable-autoscale").is_none());
     assert!(rt; Operation::read(b"take").is_none());
     Ok(())
 }
