@@ -5,7 +5,7 @@ ghost use Rattle.batch_model.specs.Sound.{IsSound};
 ghost use Rattle.machine_plans.specs.Plans.{IsRule};
 
 use bt_base::NoMemory;
-use bt_rows::plan::{Plan, View};
+use bt_rows::plan::Plan;
 use machine_index::IndexedTables;
 use std::alloc::Global;
 use task_placing::place_first;
@@ -16,16 +16,13 @@ pub fn plan_due(alloc: Global, indexed: &IndexedTables, seats: u8) -> Result<Opt
     requires few { seats ≤ 32 }
     ensures { IfOk result (IsRule (due_step seats indexed.now.state) indexed.now.state) }
 {
-    let tables = indexed.tables();
-    let now = tables.moment();
-    let view = View { tables, seats, now };
     if let Some(plan) = job_machine::next_due(alloc, indexed)? {
         return Ok(Some(plan));
     }
-    if let Some(plan) = pool_resize::next_due(alloc, &view)? {
+    if let Some(plan) = pool_resize::next_due(alloc, indexed)? {
         return Ok(Some(plan));
     }
-    if let Some(plan) = node_machine::next_due(alloc, &view)? {
+    if let Some(plan) = node_machine::next_due(alloc, indexed, seats)? {
         return Ok(Some(plan));
     }
     place_first(alloc, indexed)

@@ -4,7 +4,7 @@
 ghost use Rattle.std.specs.Prelude.{◌≡◌, Some, IfOk, find};
 ghost use Rattle.std.specs.Option.{option_copied};
 ghost use Rattle.bt_rows.specs.declared.due.Due.TheVariants.{TaskTimedOut};
-ghost use Rattle.batch_model.specs.Finding.{Each, has_passed};
+ghost use Rattle.batch_model.specs.Finding.{Each};
 ghost use Rattle.batch_model.specs.Jobs.{is_past};
 ghost use Rattle.batch_model.specs.Rows.{job_of, run_of};
 ghost use Rattle.batch_model.specs.Runs.{asked_to_stop};
@@ -26,7 +26,7 @@ use bt_rows::task::{TaskRow, Want};
 use machine_index::IndexedTables;
 use machine_plans::step_one;
 use std::alloc::Global;
-use table_scans::is_placed;
+use table_scans::{has_passed, is_placed};
 use task_stops::{close, stop_task};
 
 /// Whether the job is terminating, completed or deleting.
@@ -44,16 +44,6 @@ pub fn is_undisturbed(task: &TaskRow) -> bool
     ensures { result ≡ is_undisturbed task.now }
 {
     task.wanted.is_none() && task.fail.is_none()
-}
-
-/// Whether a duration, in milliseconds, from a moment on is over; no limit never is.
-fn has_passed(from: u64, duration: Option<u64>, now: u64) -> bool
-    ensures { result ≡ has_passed from duration now }
-{
-    match duration {
-        None => false,
-        Some(duration) => from <= now && duration <= now - from,
-    }
 }
 
 /// Whether the task has started, and its wall time is over since then.

@@ -3,11 +3,13 @@ ghost use Rattle.std.specs.Prelude.{◌≡◌, ◌≤◌, true, IfOk};
 ghost use Rattle.bt_rows.specs.declared.event.EventKind.TheVariants.{Tick};
 ghost use Rattle.batch_model.specs.Dues.{node_step};
 ghost use Rattle.batch_model.specs.Events.{accept, event_now};
-ghost use Rattle.batch_model.specs.Sound.{IsSound};
+ghost use Rattle.batch_model.specs.Sound.{IsSound, NumbersAreNew};
+ghost use Rattle.batch_model.specs.WellFormed.{KeysAreDistinct};
 ghost use Rattle.machine_plans.specs.Plans.{IsAnswer, IsRule, moved_to, with_moment};
 ghost use Rattle.node_machine.specs.Owners.{is_of_nodes};
 
 use crate::adding::add_node;
+use crate::dropping::drop_first;
 use crate::ending::end_start;
 use crate::taking::take_run;
 use bt_base::{Fail, NoMemory};
@@ -15,6 +17,7 @@ use bt_rows::event::{Event, EventKind};
 use bt_rows::plan::{Plan, View};
 use bt_rows::refusal::Refusal;
 use bt_rows::tables::Tables;
+use machine_index::IndexedTables;
 use machine_plans::accept_none;
 use std::alloc::Global;
 
@@ -48,12 +51,17 @@ pub fn plan_event(alloc: Global, view: &View, event: &Event) -> Result<Plan, Fai
     }
 }
 
-/// The plan of the first due step of nodes; None exactly if no rule of theirs applies. A pool that has fewer nodes than its target
-/// gets one on the lowest free seat, which begins the pool's start task (U15). The only error is out of memory.
-pub fn next_due(alloc: Global, view: &View) -> Result<Option<Plan>, NoMemory>
-    requires sound { IsSound view.now.seats view.now.tables.now.state }
-    requires few { view.now.seats ≤ 32 }
-    ensures { IfOk result (IsRule (node_step view.entry.now.seats view.entry.now.tables.now.state) view.entry.now.tables.now.state) }
+/// The plan of the first due step of nodes; None exactly if no rule of theirs applies. In this order: a leaving node that has nothing to
+/// wait for is dropped (U14), and a pool that has fewer nodes than its target gets one on the lowest free seat, which begins the pool's
+/// start task (U15). The only error is out of memory.
+pub fn next_due(alloc: Global, indexed: &IndexedTables, seats: u8) -> Result<Option<Plan>, NoMemory>
+    requires keys { KeysAreDistinct indexed.now.state }
+    requires numbers { NumbersAreNew indexed.now.state }
+    requires few { seats ≤ 32 }
+    ensures { IfOk result (IsRule (node_step seats indexed.now.state) indexed.now.state) }
 {
-    add_node(alloc, view.tables, view.seats)
+    if let Some(plan) = drop_first(alloc, indexed)? {
+        return Ok(Some(plan));
+    }
+    add_node(alloc, indexed.tables(), seats)
 }

@@ -22,7 +22,7 @@ use machine_plans::reply_listed;
 use std::alloc::Global;
 
 /// The task that the run names.
-fn find_task_of<'a>(tables: &'a Tables, run: &RunRow) -> Option<&'a TaskRow>
+pub fn find_task_of<'a>(tables: &'a Tables, run: &RunRow) -> Option<&'a TaskRow>
     ensures { option_copied result ≡ find (is_task_of_run run.now) tables.now.state.tasks }
 {
     match &run.job {

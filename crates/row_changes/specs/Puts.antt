@@ -1,11 +1,12 @@
 -- The changes that rows of a list give, in their order.
 use Rattle.std.specs.Prelude.{Bool, List, [], ◌∷◌, ◌++◌, Option, Some, None}
 use Rattle.bt_rows.specs.declared.tables.Change.{Change}
-use Rattle.bt_rows.specs.declared.tables.Change.TheVariants.{DropJob, DropTask, DropRun, DropPrep}
+use Rattle.bt_rows.specs.declared.tables.Change.TheVariants.{DropJob, DropTask, DropRun, DropPrep, DropSample, DropScale}
 use Rattle.bt_rows.specs.declared.task.TaskKey.{TaskKey}
 use Rattle.bt_rows.specs.declared.prep.PrepKey.{PrepKey}
+use Rattle.bt_rows.specs.declared.sample.SampleKey.{SampleKey}
 use Rattle.batch_model.specs.Finding.{only_if}
-use Rattle.batch_model.specs.Variants.{JobRow, TaskRow, RunRow, PrepRow}
+use Rattle.batch_model.specs.Variants.{JobRow, TaskRow, RunRow, PrepRow, SampleRow, ScaleRow}
 
 module _ {R : Type 0} (put : R → Change) where
   -- the put of a row, if there is one
@@ -41,3 +42,12 @@ key_of_prep prep = record { job = prep.job; node = prep.node }
 
 abbrev pub prep_drop : PrepRow → Change
 prep_drop prep = DropPrep (key_of_prep prep)
+
+abbrev pub key_of_sample : SampleRow → SampleKey
+key_of_sample sample = record { pool = sample.pool; metric = sample.metric; label = sample.label }
+
+abbrev pub sample_drop : SampleRow → Change
+sample_drop sample = DropSample (key_of_sample sample)
+
+abbrev pub scale_drop : ScaleRow → Change
+scale_drop scale = DropScale scale.pool

@@ -8,10 +8,14 @@ mod preparations;
 mod runs;
 mod slots;
 mod states;
+mod times;
 
 pub use attempts::{ending_of, is_active, is_placed, is_success, is_unended, main_ending};
-pub use nodes::{has_leaving, has_number_left, is_in_pool, is_resizing, is_usable, staying_count};
+pub use nodes::{
+    has_leaving, has_number_left, is_in_pool, is_resizing, is_usable, stays, staying_count,
+};
 pub use preparations::{is_at_prep, is_tried_again, prepares, waits_for_preparation};
 pub use runs::{is_present, is_start_number, names};
 pub use slots::holds_slots;
 pub use states::{node_state, task_state};
+pub use times::has_passed;

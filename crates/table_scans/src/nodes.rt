@@ -39,7 +39,7 @@ pub fn is_in_pool(pool: &Id, node: &NodeRow) -> bool
 }
 
 /// Whether the node is one of the pool and does not leave it.
-fn stays(pool: &Id, node: &NodeRow) -> bool
+pub fn stays(pool: &Id, node: &NodeRow) -> bool
     ensures { result ≡ stays pool.now node.now }
 {
     is_in_pool(pool, node) && !is_leaving(node.stage)
