@@ -23,7 +23,7 @@ use Rattle.row_changes.specs.Puts.{put_if_some}
 use Rattle.row_changes.proofs.PrepPuts.{at_prep_key, found_prep_changed, names_same}
 
 -- tasks of the run have the key of one that is
-one_task : (run : RunRow) (task x : TaskRow) → is_task_of_run run task ≡ true → is_task_of_run run x ≡ same_task x task
+pub one_task : (run : RunRow) (task x : TaskRow) → is_task_of_run run task ≡ true → is_task_of_run run x ≡ same_task x task
 one_task run task x h =
     let job = names_same run.job task.job x.job (and_first (names run.job task.job) (names run.task task.id) h) in
     let id = names_same run.task task.id x.id (and_second (names run.job task.job) (names run.task task.id) h) in

@@ -57,6 +57,7 @@ fn is_ahead(indexed: &IndexedTables, so_far: Option<&NodeRow>, node: &NodeRow) -
 }
 
 /// The node if it stays in the pool and leaves before the one so far, or else the one so far.
+#[tactic(auto, using(crate::proofs::FirstToLeave::passed_over, crate::proofs::FirstToLeave::taken, crate::proofs::FirstToLeave::kept_back))]
 fn ahead<'a>(
     indexed: &IndexedTables,
     pool: &Id,
@@ -73,6 +74,7 @@ fn ahead<'a>(
 }
 
 /// The node of the pool that leaves before the others.
+#[tactic(auto, using(crate::proofs::FirstToLeave::none_left))]
 fn first_to_leave<'a>(indexed: &'a IndexedTables, pool: &Id) -> Option<&'a NodeRow>
     ensures { option_copied result ≡ best (leaves_before indexed.now.state) (staying indexed.now.state pool.now) }
 {

@@ -6,6 +6,8 @@ mod formula_tests;
 #[cfg(test)]
 mod keeper_tests;
 #[cfg(test)]
+mod resize_tests;
+#[cfg(test)]
 mod run_tests;
 #[cfg(test)]
 mod script_tests;

@@ -1,0 +1,3 @@
+pub mod FirstToLeave
+pub mod FoundPools
+pub mod PoolChanges
