@@ -1,9 +1,10 @@
 -- Bodies with nothing but what they need, and the usual values elsewhere.
 use Rattle.std.specs.Prelude.{ℕ, List, [], codes, Some, None, pos, negsuc, false}
 use Rattle.bt_rows.specs.declared.event.PoolSpec.{PoolSpec}
+use Rattle.bt_rows.specs.declared.event.ResizeSpec.{ResizeSpec}
 use Rattle.bt_rows.specs.declared.event.JobSpec.{JobSpec}
 use Rattle.bt_rows.specs.declared.event.TaskSpec.{TaskSpec}
-use Rattle.batch_model.specs.Variants.{Spread}
+use Rattle.batch_model.specs.Variants.{Spread, Dealloc}
 
 -- a pool with this id and so many nodes to have
 abbrev pub pool_body : List ℕ → ℕ → PoolSpec
@@ -18,6 +19,10 @@ pool_body name target = record {
   start = None;
   scale = None;
 }
+
+-- a resize to so many nodes, of which those that leave do so by the option
+abbrev pub resize_body : ℕ → Dealloc → ResizeSpec
+resize_body target by = record { dedicated = Some target; low = None; timeout = 900000; option = by }
 
 -- a job in this pool
 abbrev pub job_body : List ℕ → JobSpec

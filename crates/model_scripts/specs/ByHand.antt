@@ -8,9 +8,9 @@ use Rattle.bt_rows.specs.declared.reply.Reply.TheVariants.{Status, Refused}
 use Rattle.bt_rows.specs.declared.refusal.Refusal.TheVariants as refusal
 use Rattle.bt_rows.specs.declared.due.Outcome.TheVariants.{Deleted, Success, Failure, Again}
 use Rattle.bt_rows.specs.declared.due.JobEnd.TheVariants.{Kept, Removed}
-use Rattle.bt_rows.specs.declared.due.ResizeEnd.TheVariants.{Reached, TimedOut}
+use Rattle.bt_rows.specs.declared.due.ResizeEnd.TheVariants.{Removed as PoolRemoved, Reached, TimedOut, Stopped}
 use Rattle.bt_rows.specs.declared.due.Due.{Due}
-use Rattle.bt_rows.specs.declared.due.Due.TheVariants.{TaskSettled, JobEnabled, JobDisabled, JobEnded, PoolResized, NodeAdded, TaskPlaced}
+use Rattle.bt_rows.specs.declared.due.Due.TheVariants.{TaskSettled, JobEnabled, JobDisabled, JobEnded, PoolResized, NodeDropped, NodeAdded, TaskPlaced}
 use Rattle.batch_model.specs.Variants.{State, empty_state, Alloc, Steady, Resizing, Stopping, ByRequeue, PoolRow, NodeStage, Starting, StartFailed, Leaving}
 use Rattle.batch_model.specs.Variants.{NodeRow, JobState, JobActive, Disabling, Disabled, Enabling, Terminating, JobCompleted, Deleting, JobRow, Want}
 use Rattle.batch_model.specs.Variants.{WantRequeue, WantTerminate, WantWall, WantDelete, TaskRow, Code, RunState, Waiting, Queued, Taken, Ended, Withdrawn}
@@ -192,8 +192,14 @@ due_of_steady = due_of (with_pools_in Steady lacking)
 abbrev pub due_of_stopping : Option Due
 due_of_stopping = due_of (with_pools_in Stopping lacking)
 
+abbrev pub stopped_due : Option Due
+stopped_due = Some (PoolResized (codes "p") Stopped)
+
 abbrev pub due_of_deleted : Option Due
 due_of_deleted = due_of (with_pools_deleted lacking)
+
+abbrev pub removed_due : Option Due
+removed_due = Some (PoolResized (codes "p") PoolRemoved)
 
 -- the ends of a resize
 
@@ -211,9 +217,9 @@ due_of_late = due_of (moved_to 900000 lacking)
 abbrev pub timed_out_due : Option Due
 timed_out_due = Some (PoolResized (codes "p") TimedOut)
 
--- one that is being deleted, or is steady, does not time out
+-- one that is being deleted and has its node neither counts as such nor times out, and a steady one does not time out
 abbrev pub due_of_late_deleted : Option Due
-due_of_late_deleted = due_of (with_pools_deleted (moved_to 900000 lacking))
+due_of_late_deleted = due_of (with_pools_deleted (moved_to 900000 (with_pools_in Resizing placed_task)))
 
 abbrev pub due_of_late_steady : Option Due
 due_of_late_steady = due_of (with_pools_in Steady (moved_to 900000 lacking))
@@ -271,8 +277,12 @@ due_on_starting = due_of (with_nodes_in Starting task_to_place)
 abbrev pub due_on_failed : Option Due
 due_on_failed = due_of (with_nodes_in StartFailed task_to_place)
 
-abbrev pub due_on_leaving : Option Due
-due_on_leaving = due_of (with_nodes_in (Leaving ByRequeue) task_to_place)
+-- a node that leaves is dropped
+abbrev pub dues_on_leaving : List Due
+dues_on_leaving = dues_of (with_nodes_in (Leaving ByRequeue) task_to_place)
+
+abbrev pub dropped_dues : List Due
+dropped_dues = NodeDropped 1 ∷ []
 
 abbrev pub due_in_deleted_pool : Option Due
 due_in_deleted_pool = due_of (with_pools_deleted task_to_place)

@@ -8,7 +8,6 @@ use Rattle.bt_rows.specs.Ranges.{is_from_to}
 use Rattle.bt_rows.specs.Keys.{same_pool, same_node, same_job, same_task, same_run, same_prep, same_sample, same_scale}
 use Rattle.batch_model.specs.Variants.{State, empty_state, NodeRow, RunRow, PrepRow, SampleRow, ScaleRow}
 use Rattle.batch_model.specs.Runs.{is_coordination, is_unended}
-use Rattle.batch_model.specs.Nodes.{is_leaving}
 use Rattle.batch_model.specs.WellFormed as well
 use Rattle.batch_model.specs.Sound as sound
 use Rattle.batch_model.specs.Finding.{last_number}
@@ -71,7 +70,6 @@ has_fitting_nodes s = all_of
     (are_distinct sound.share_seat s.nodes
     ∷ list_all (λ node. is_from_to 1 seat_count node.seat) s.nodes
     ∷ list_all (λ node. well.has_pool_row s node.pool) s.nodes
-    ∷ list_all (λ node. not (is_leaving node.stage)) s.nodes
     ∷ list_all (sound.has_slots_for s) s.nodes
     ∷ list_all (sound.has_node_while_unended s) s.runs
     ∷ list_all (sound.belongs s) s.runs

@@ -1,7 +1,7 @@
 -- What is not built yet.
 use Rattle.std.specs.Prelude.{List, [], ◌∷◌, map, replicate, Some, None, codes, false}
 use Rattle.bt_rows.specs.declared.event.EventKind.{EventKind}
-use Rattle.bt_rows.specs.declared.event.EventKind.TheVariants.{AddPool, DeletePool, DisableAutoscale, AddJob}
+use Rattle.bt_rows.specs.declared.event.EventKind.TheVariants.{AddPool, DisableAutoscale, EvaluateAutoscale, AddJob}
 use Rattle.bt_rows.specs.declared.event.EventKind.TheVariants.{AddTask, AddTasks}
 use Rattle.bt_rows.specs.declared.reply.Reply.{Reply}
 use Rattle.bt_rows.specs.declared.reply.Element.TheVariants.{Added, NotAdded}
@@ -58,9 +58,9 @@ unheeded_pools_lines = line (Refused refusal.UnreadableBody) [] ∷ []
 abbrev pub unheeded_pools_rows : Sheet
 unheeded_pools_rows = record { pools = []; nodes = []; jobs = []; tasks = []; runs = []; moment = 0 }
 
--- events that are not built yet: one of pools and one of formulas
+-- events of formulas, which are not built yet
 abbrev pub unbuilt : List EventKind
-unbuilt = DeletePool (codes "p") ∷ DisableAutoscale (codes "p") ∷ []
+unbuilt = DisableAutoscale (codes "p") ∷ EvaluateAutoscale (codes "p") (codes "1") ∷ []
 
 abbrev pub replies_to_unbuilt : List Reply
 replies_to_unbuilt = map (λ event. (event_step 0 event empty_state).reply) unbuilt

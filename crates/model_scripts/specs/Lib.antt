@@ -3,12 +3,15 @@ pub mod Bodies
 pub mod ByHand
 pub mod Checks
 pub mod CollectionScripts
+pub mod DeletionScripts
 pub mod EndingScripts
 pub mod FirstPath
 pub mod LaterScripts
+pub mod LeavingScripts
 pub mod OpeningScripts
 pub mod PlacingScripts
 pub mod PoolScripts
+pub mod ResizeScripts
 pub mod Scripts
 pub mod SlotScripts
 pub mod StartScripts

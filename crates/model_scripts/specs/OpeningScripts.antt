@@ -67,8 +67,12 @@ opened_rows = record {
 abbrev pub unsettled : State
 unsettled = (event_step 9 (End 1 (Code (pos 0))) (state_after taken)).state
 
-abbrev pub unsettled_lines : List Line
-unsettled_lines = (run seat_count (at 20 Tick ∷ []) (opening unsettled)).lines
+-- the lines of calls from its opening
+abbrev pub lines_of_unsettled : List Call → List Line
+lines_of_unsettled calls = (run seat_count calls (opening unsettled)).lines
+
+abbrev pub one_tick : List Call
+one_tick = at 20 Tick ∷ []
 
 abbrev pub settled_lines : List Line
 settled_lines =

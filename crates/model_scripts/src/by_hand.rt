@@ -32,14 +32,15 @@ pub fn rules_begin_again()
     ensures mixed { row.dues_of_mixed ≡ row.mixed_dues }
 {}
 
-/// A pool that is steady, stops or is being deleted gets no nodes, and one that is being deleted is not steady by its count.
+/// A pool that is steady, stops or is being deleted gets no nodes: one that stops is steady, and one that is being deleted is dropped.
 pub fn only_resizing_pools_get_nodes()
     ensures steady { row.due_of_steady ≡ None }
-    ensures stopping { row.due_of_stopping ≡ None }
-    ensures deleted { row.due_of_deleted ≡ None }
+    ensures stopping { row.due_of_stopping ≡ row.stopped_due }
+    ensures deleted { row.due_of_deleted ≡ row.removed_due }
 {}
 
-/// A pool that has its nodes reached its target, also late; one that lacks some gets none after its timeout.
+/// A pool that has its nodes reached its target, also late, and one that lacks some gets none after its timeout. A pool that is being
+/// deleted and has a node does neither.
 pub fn resizes_end_in_two_ways()
     ensures reached { row.due_of_reached ≡ row.reached_due }
     ensures late { row.due_of_late ≡ row.timed_out_due }
@@ -63,7 +64,7 @@ pub fn leaving_nodes_do_not_count()
 pub fn tasks_go_on_usable_nodes()
     ensures starting { row.due_on_starting ≡ None }
     ensures failed { row.due_on_failed ≡ None }
-    ensures leaving { row.due_on_leaving ≡ None }
+    ensures leaving { row.dues_on_leaving ≡ row.dropped_dues }
     ensures deleted { row.due_in_deleted_pool ≡ None }
     ensures usable { row.due_on_usable ≡ row.placed_due }
 {}

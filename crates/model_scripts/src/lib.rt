@@ -6,12 +6,15 @@
 mod adding;
 mod by_hand;
 mod collections;
+mod deletions;
 mod endings;
 mod first_path;
 mod later;
+mod leaving;
 mod openings;
 mod placing;
 mod pools;
+mod resizes;
 mod slots;
 mod starts;
 mod ticks;
@@ -31,6 +34,10 @@ pub use collections::{
     at_most_100_elements, collections_are_refused_in_order, dependency_lists_are_not_too_long,
     each_element_is_answered,
 };
+pub use deletions::{
+    a_pool_is_added_again, a_pool_is_deleted, a_pool_is_deleted_while_nodes_leave,
+    an_empty_pool_is_deleted, opened_pools_have_no_nodes, rows_of_a_pool_are_dropped,
+};
 pub use endings::{any_other_ending_is_a_failure, the_limit_of_the_task_goes_before};
 pub use first_path::{
     a_task_ends_with_success, nothing_comes_of_no_calls, runs_are_taken_and_ended_once,
@@ -38,6 +45,13 @@ pub use first_path::{
 pub use later::{
     events_are_not_read_yet, pools_that_scale_are_not_read_yet,
     tasks_with_instances_are_not_read_yet,
+};
+pub use leaving::{
+    a_preparation_goes_on, a_queued_preparation_leaves, a_requeued_task_goes_on_another_node,
+    a_taken_preparation_leaves, deleted_tasks_retain_nothing, earlier_attempts_are_retained,
+    nodes_leave_after_retention, nodes_leave_after_their_tasks, nodes_leave_by_requeue,
+    nodes_leave_by_terminate, retention_without_end, start_runs_end_on_leaving_nodes,
+    start_runs_hold_no_node,
 };
 pub use openings::{
     a_taken_run_is_made_again, an_ending_is_settled_after_the_opening, empty_tables_open_as_empty,
@@ -50,6 +64,10 @@ pub use placing::{
 pub use pools::{
     a_pool_gets_its_nodes, at_most_64_pools, ids_of_pools_have_no_case, nodes_are_as_many_as_seats,
     pools_share_seats,
+};
+pub use resizes::{
+    a_pool_grows, a_pool_grows_while_a_node_leaves, a_resize_is_stopped, a_resize_keeps_its_target,
+    nodes_of_other_pools_stay, nodes_with_fewest_slots_leave_first, resizes_are_refused,
 };
 pub use slots::{
     a_task_fits_no_smaller_node, a_wide_task_is_passed_over, fill_types_go_before_numbers,

@@ -26,7 +26,7 @@ pub fn nodes_start_anew()
 
 /// An ending that was not settled yet is not lost.
 pub fn an_ending_is_settled_after_the_opening()
-    ensures { row.unsettled_lines ≡ row.settled_lines }
+    ensures { row.lines_of_unsettled row.one_tick ≡ row.settled_lines }
 {}
 
 /// A requeue is wanted of a placed task that nothing ends.
