@@ -1,5 +1,5 @@
 -- The changes that drop a node lead to the tables without it.
-use Rattle.std.proofs.Common.{◌≡◌, ℕ, filter, not, ◌∙◌, ap}
+use Rattle.std.proofs.Common.{◌≡◌, filter, not, ◌∙◌, ap}
 use Rattle.bt_rows.specs.Changes.{apply_changes}
 use Rattle.batch_model.specs.Dues.{drop_node}
 use Rattle.batch_model.specs.Rows.{is_node}

@@ -178,11 +178,7 @@ fn drop_scales(changes: &mut Vec<Change>, tables: &Tables, pool: &Id) -> Result<
 }
 
 /// Adds the put of the pool, which is being deleted, and the drop of its scaling.
-fn push_deletion(
-    changes: &mut Vec<Change>,
-    tables: &Tables,
-    pool: &PoolRow,
-) -> Result<(), NoMemory>
+fn push_deletion(changes: &mut Vec<Change>, tables: &Tables, pool: &PoolRow) -> Result<(), NoMemory>
     ensures { OnOk result (changes.new.items ≡ changes.old.items ++ deletion pool.now tables.now.state) }
 {
     let alloc = *changes.allocator();

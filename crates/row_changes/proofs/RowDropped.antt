@@ -1,15 +1,14 @@
 -- The drop of one row by its key leaves the rows without it.
 use Rattle.std.proofs.Common.{◌≡◌, ℕ, Bool, true, false, not, List, [], ◌∷◌, cond, filter, refl, sym, ◌∙◌, ap}
-use Rattle.std.specs.Cmp.{IsEquivalence, nat_eq_equiv}
+use Rattle.std.specs.Cmp.{nat_eq_equiv}
 use Rattle.std.specs.List.{list_any}
-use Rattle.bt_base.specs.Ids.{same}
 use Rattle.bt_base.proofs.SameIds.{same_equiv}
 use Rattle.bt_rows.specs.Changes.{apply_change}
 use Rattle.bt_rows.specs.Keys.{same_pool, same_node}
 use Rattle.bt_rows.specs.Lists.{drop_row, AreDistinct}
 use Rattle.bt_rows.specs.declared.tables.Change.TheVariants.{DropPool, DropNode}
 use Rattle.batch_model.specs.Rows.{is_pool, is_node}
-use Rattle.batch_model.specs.Variants.{State, PoolRow, NodeRow}
+use Rattle.batch_model.specs.Variants.{State}
 use Rattle.model_lists.proofs.RowLists.{none_weaker}
 use Rattle.model_lists.proofs.Tests.{or_false_first, or_false_second}
 

@@ -29,13 +29,11 @@ const RETAINED_OUTPUT: &str =
     pool p active steady 0 0 1 spread\njob j p active 0 -\ntask j t completed success 0 0\n\
     run 1 task 1 j t ended 0\n";
 
-const NOT_RETAINED_OUTPUT: &str =
-    "6 U5 j t success\n7 200\n7 U14 1\n7 U11 p steady\ntables 30\n\
+const NOT_RETAINED_OUTPUT: &str = "6 U5 j t success\n7 200\n7 U14 1\n7 U11 p steady\ntables 30\n\
     pool p active steady 0 0 1 spread\njob j p active 0 -\n";
 
 /// Three nodes that hold two slots, one and one, of which one is to stay.
-const CHOSEN: &str =
-    "0 add-pool {\"id\":\"p\",\"targetDedicatedNodes\":3,\"taskSlotsPerNode\":2}\n\
+const CHOSEN: &str = "0 add-pool {\"id\":\"p\",\"targetDedicatedNodes\":3,\"taskSlotsPerNode\":2}\n\
     0 add-job {\"id\":\"j\",\"poolInfo\":{\"poolId\":\"p\"}}\n\
     0 add-tasks j {\"value\":[{\"id\":\"a\",\"commandLine\":\"w\",\"requiredSlots\":2},\
     {\"id\":\"b\",\"commandLine\":\"w\"},{\"id\":\"c\",\"commandLine\":\"w\"}]}\n\
@@ -43,8 +41,7 @@ const CHOSEN: &str =
     1 resize p {\"targetDedicatedNodes\":1,\"nodeDeallocationOption\":\"taskcompletion\"}\n\
     2 end 2 0\n2 end 3 0\n";
 
-const CHOSEN_OUTPUT: &str =
-    "1 201\n1 U15 p 1 1\n1 U15 p 2 2\n1 U15 p 3 3\n1 U11 p steady\n2 201\n\
+const CHOSEN_OUTPUT: &str = "1 201\n1 U15 p 1 1\n1 U15 p 2 2\n1 U15 p 3 3\n1 U11 p steady\n2 201\n\
     3 200 201 201 201\n3 U16 j a 1 1\n3 U16 j b 2 2\n3 U16 j c 3 3\n4 200\n5 200\n6 200\n\
     7 202\n7 U13 3\n7 U13 2\n8 200\n8 U5 j b success\n8 U14 2\n\
     9 200\n9 U5 j c success\n9 U14 3\n9 U11 p steady\ntables 2\n\
@@ -79,8 +76,7 @@ const PREPARING: &str = "0 add-pool {\"id\":\"p\",\"targetDedicatedNodes\":1}\n\
     0 add-job {\"id\":\"j\",\"jobPreparationTask\":{\"commandLine\":\"prep\"},\"poolInfo\":{\"poolId\":\"p\"}}\n\
     0 add-task j {\"id\":\"t\",\"commandLine\":\"w\"}\n";
 
-const PREPARING_OUTPUT: &str =
-    "1 201\n1 U15 p 1 1\n1 U11 p steady\n2 201\n3 201\n3 U16 j t 1 2\n";
+const PREPARING_OUTPUT: &str = "1 201\n1 U15 p 1 1\n1 U11 p steady\n2 201\n3 201\n3 U16 j t 1 2\n";
 
 const HALTED_OUTPUT: &str =
     "4 200\n5 202\n5 U13 1\n5 U5 j t active 0\n6 200\n6 U14 1\n6 U11 p steady\n\
@@ -105,8 +101,7 @@ fn nodes_leave_by_each_option(rt: HostRuntime) -> Result<(), Fail> {
     let complete = "\"taskcompletion\"}\n20 end 1 0\n";
     let retain = "\"retaineddata\"}\n20 end 1 0\n10019 tick\n10020 tick\n";
     let drop_task = "\"retaineddata\"}\n20 end 1 0\n30 delete-task j t\n";
-    let start =
-        "2 resize p {\"targetDedicatedNodes\":0}\n2 list-nodes p\n3 take 2\n3 end 1 0\n";
+    let start = "2 resize p {\"targetDedicatedNodes\":0}\n2 list-nodes p\n3 take 2\n3 end 1 0\n";
     let fail = "2 resize p {\"targetDedicatedNodes\":0,\
         \"nodeDeallocationOption\":\"taskcompletion\"}\n3 end 1 1\n";
     let remove = "2 delete-pool p\n3 end 1 0\n";
@@ -223,7 +218,8 @@ const LATE_OUTPUT: &str = "1 201\n1 U15 p 1 1\n1 U11 p steady\n2 201\n3 201\n3 U
 
 #[test]
 fn pools_are_resized_and_deleted(rt: HostRuntime) -> Result<(), Fail> {
-    let stop = "0 resize p {\"targetDedicatedNodes\":1}\n0 stop-resize p\n0 stop-resize p\n0 get-pool p\n";
+    let stop =
+        "0 resize p {\"targetDedicatedNodes\":1}\n0 stop-resize p\n0 stop-resize p\n0 get-pool p\n";
     let rows = [
         (DELETED, "", DELETED_OUTPUT, ""),
         (REFUSED, "", REFUSED_OUTPUT, ""),

@@ -374,7 +374,11 @@ fn joined(alloc: Global, first: &str, rest: &str) -> Result<String, AllocError> 
 }
 
 /// Whether the script of these two parts is done with this output of two parts.
-pub fn is_done(alloc: Global, script: (&str, &str), output: (&str, &str)) -> Result<bool, AllocError> {
+pub fn is_done(
+    alloc: Global,
+    script: (&str, &str),
+    output: (&str, &str),
+) -> Result<bool, AllocError> {
     let script = joined(alloc, script.0, script.1)?;
     let wanted = joined(alloc, output.0, output.1)?;
     gives(

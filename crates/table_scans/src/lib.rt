@@ -12,7 +12,7 @@ mod times;
 
 pub use attempts::{ending_of, is_active, is_placed, is_success, is_unended, main_ending};
 pub use nodes::{
-    has_leaving, has_number_left, is_in_pool, is_resizing, is_usable, stays, staying_count,
+    has_leaving, has_number_left, is_in_pool, is_resizing, is_usable, staying_count, stays,
 };
 pub use preparations::{is_at_prep, is_tried_again, prepares, waits_for_preparation};
 pub use runs::{is_present, is_start_number, names};

@@ -6,7 +6,6 @@ use Rattle.machine_plans.specs.Plans.{with_moment}
 use Rattle.pool_resize.proofs.PoolChanges.{deleted}
 use Rattle.pool_resize.proofs.events.delete.Goals as goal
 
--- src/events.rt:195:1
 pub returns : goal.returns
 returns c =
     let s = c.args.tables.now.state in
