@@ -17,6 +17,7 @@ use Rattle.batch_model.specs.Settling.{is_over, settle}
 use Rattle.batch_model.specs.JobRules.{enable_first, terminate_first, disable_first, release_first, end_first}
 use Rattle.batch_model.specs.WallTimes.{time_out_task_first, time_out_release_first, time_out_job_first}
 use Rattle.batch_model.specs.Placing.{place_first}
+use Rattle.batch_model.specs.Scaling.{sample_first, scale_first}
 use Rattle.batch_model.specs.Steps.{DueStep}
 use Rattle.batch_model.specs.Variants.{State, PoolRow, StartTask, Steady, ResizeError, AllocationTimedOut, ResizeStopped, NodeRow, NodeStage, Starting, Usable, Leaving, Dealloc, RetainedData, TaskRow, RunRow, PrepRow, SampleRow}
 
@@ -138,9 +139,9 @@ one_leaves s pool = option_map (node_leaves s pool) (best (leaves_before s) (sta
 abbrev pub remove_node : State → Option DueStep
 remove_node s = option_and_then (one_leaves s) (find (has_too_many s) s.pools)
 
--- the rules of pools: a resize has ended (U11), and a node leaves (U13)
+-- the rules of pools: a resize has ended (U11), a formula is evaluated (U12), and a node leaves (U13)
 abbrev pub pool_step : State → Option DueStep
-pool_step s = first_of (end_resize s ∷ remove_node s ∷ [])
+pool_step s = first_of (end_resize s ∷ scale_first s ∷ remove_node s ∷ [])
 
 -- U14: a leaving node without unended runs and held slots is dropped, once the retention times of the tasks that ran there are over if it
 -- leaves by retained data
@@ -234,4 +235,4 @@ node_step seats s = first_of (drop_first s ∷ add_node seats s ∷ [])
 
 -- the first rule that applies; none is rest
 abbrev pub due_step : ℕ → State → Option DueStep
-due_step seats s = first_of (job_step s ∷ pool_step s ∷ node_step seats s ∷ place_first s ∷ [])
+due_step seats s = first_of (sample_first s ∷ job_step s ∷ pool_step s ∷ node_step seats s ∷ place_first s ∷ [])

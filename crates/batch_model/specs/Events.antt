@@ -1,11 +1,11 @@
--- Events: their refusals in order, their statuses and what they do. The events that are not built stand in NotBuilt.
+-- Events: their refusals in order, their statuses and what they do. A task of several instances is not built: NotBuilt.
 -- Source: Azure Batch REST reference, an operation each, with its error codes; runs, ticks and orders are this project's own.
 use Rattle.std.specs.Prelude.{ℕ, Bool, true, false, not, ◌&&◌, ◌||◌, nat_lt, nat_le, max, List, [], ◌∷◌, length, codes, Option, Some, None, is_some, unwrap_or, if◌then◌else◌}
 use Rattle.std.specs.Option.{option_map_or}
 use Rattle.std.specs.List.{list_any}
 use Rattle.bt_rows.specs.declared.event.EventKind.{EventKind}
-use Rattle.bt_rows.specs.declared.event.EventKind.TheVariants.{AddPool, DeletePool, Resize, StopResize, AddJob, PatchJob, DisableJob, EnableJob, TerminateJob, DeleteJob, AddTask, AddTasks}
-use Rattle.bt_rows.specs.declared.event.EventKind.TheVariants.{DeleteTask, TerminateTask, ReactivateTask, Take, End, Tick}
+use Rattle.bt_rows.specs.declared.event.EventKind.TheVariants.{AddPool, DeletePool, Resize, StopResize, EnableAutoscale, DisableAutoscale, EvaluateAutoscale, AddJob, PatchJob, DisableJob, EnableJob, TerminateJob, DeleteJob, AddTask, AddTasks}
+use Rattle.bt_rows.specs.declared.event.EventKind.TheVariants.{DeleteTask, TerminateTask, ReactivateTask, Take, End, Sample, Tick}
 use Rattle.bt_rows.specs.declared.event.PoolSpec.{PoolSpec}
 use Rattle.bt_rows.specs.declared.event.JobSpec.{JobSpec}
 use Rattle.bt_rows.specs.declared.event.Limits.{Limits}
@@ -39,20 +39,25 @@ use Rattle.batch_model.specs.Steps.{Answered, refuse_if}
 -- answers, and the events of pools that are there
 pub use Rattle.batch_model.specs.Answers.{refuse, accept, answer, for_row}
 use Rattle.batch_model.specs.PoolEvents.{resize_pool, stop_resize, delete_pool}
+use Rattle.batch_model.specs.Scaling.{given_refusal, add_given_scale, enable_autoscale, disable_autoscale, evaluate_autoscale, sample_pool}
 use Rattle.batch_model.specs.Variants.{State, PoolRow, JobRow, Enabling, Deleting, Given, TaskRow, Active, WantTerminate, WantDelete, Closed, Ending, RunRow, RunKind, StartRun, PrepRun, TaskRun, CoordinationRun, ReleaseRun, Taken, PrepRow}
 use Rattle.batch_model.specs.Variants.{Ended}
 
--- why a pool is not added, in order; a pool that scales automatically is not built
+-- why a pool is not added, in order
 abbrev pub add_pool_refusals : State → PoolSpec → List (Option Refusal)
 add_pool_refusals s spec =
-    refuse_if (is_some spec.scale) not_built
-    ∷ refuse_if (is_some (pool_of s spec.id)) PoolExists
+    refuse_if (is_some (pool_of s spec.id)) PoolExists
     ∷ refuse_if (nat_le pool_limit (length s.pools)) (TableFull Pools pool_limit)
+    ∷ given_refusal spec.scale
     ∷ []
+
+-- the pool is there, and scales as it is told, if it is
+abbrev pub pool_added : State → PoolSpec → State
+pool_added s spec = add_given_scale spec.id spec.scale (add_pool_row (new_pool s.moment spec) s)
 
 -- `add-pool`
 abbrev pub add_pool : State → PoolSpec → Answered
-add_pool s spec = answer s (add_pool_refusals s spec) 201 (add_pool_row (new_pool s.moment spec) s)
+add_pool s spec = answer s (add_pool_refusals s spec) 201 (pool_added s spec)
 
 -- why no job is added in a pool that is there, in order
 abbrev pub add_job_refusals : State → PoolRow → List (Option Refusal)
@@ -353,6 +358,9 @@ event_now (AddPool spec) s = add_pool s spec
 event_now (DeletePool pool) s = for_row s PoolNotFound (delete_pool s) (pool_of s pool)
 event_now (Resize pool spec) s = for_row s PoolNotFound (resize_pool s spec) (pool_of s pool)
 event_now (StopResize pool) s = for_row s PoolNotFound (stop_resize s) (pool_of s pool)
+event_now (EnableAutoscale pool spec) s = for_row s PoolNotFound (enable_autoscale s spec) (pool_of s pool)
+event_now (DisableAutoscale pool) s = for_row s PoolNotFound (disable_autoscale s) (pool_of s pool)
+event_now (EvaluateAutoscale pool formula) s = for_row s PoolNotFound (evaluate_autoscale s formula) (pool_of s pool)
 event_now (AddJob job spec) s = add_job s job spec
 event_now (PatchJob job patch) s = for_row s JobNotFound (patch_job s patch) (job_of s job)
 event_now (DisableJob job option) s = for_row s JobNotFound (disable_job s option) (job_of s job)
@@ -366,8 +374,8 @@ event_now (TerminateTask job task) s = for_row s JobNotFound (terminate_task s t
 event_now (ReactivateTask job task) s = for_row s JobNotFound (reactivate_task s task) (job_of s job)
 event_now (Take run) s = for_row s RunNotFound (take_run s) (run_of s run)
 event_now (End run ending) s = for_row s RunNotFound (end_run s ending) (run_of s run)
+event_now (Sample pool percentage) s = for_row s PoolNotFound (sample_pool s percentage) (pool_of s pool)
 event_now Tick s = accept 200 s
-event_now _ s = refuse not_built s
 
 -- the last moment first becomes the greater of itself and the event's
 abbrev pub at_moment : ℕ → State → State

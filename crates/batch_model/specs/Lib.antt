@@ -4,12 +4,14 @@ pub mod Dues
 pub mod Endings
 pub mod Events
 pub mod Finding
+pub mod Formulas
 pub mod JobRules
 pub mod Jobs
 pub mod Laws
 pub mod Leaving
 pub mod Limits
 pub mod Measure
+pub mod Metrics
 pub mod Nodes
 pub mod NotBuilt
 pub mod Opening
@@ -22,6 +24,7 @@ pub mod Readiness
 pub mod Rows
 pub mod Runs
 pub mod Samples
+pub mod Scaling
 pub mod Settling
 pub mod Slots
 pub mod Sound

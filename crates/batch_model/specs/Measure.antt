@@ -6,7 +6,12 @@ use Rattle.batch_model.specs.JobRules.{wants_release}
 use Rattle.batch_model.specs.WallTimes.{can_be_asked}
 use Rattle.batch_model.specs.Pools.{is_steady, staying_count}
 use Rattle.batch_model.specs.PoolEvents.{is_leaving_from}
+use Rattle.batch_model.specs.Scaling.{is_to_sample, is_to_scale}
 use Rattle.batch_model.specs.Variants.{State, PoolRow, JobRow, JobState, JobActive, Disabling, Disabled, Enabling, Terminating, JobCompleted, Deleting, TaskRow}
+
+-- pools that are to be sampled, and pools whose formula is to be evaluated
+abbrev pub scaling_left : State → ℕ
+scaling_left s = count_by (is_to_sample s) s.pools + count_by (is_to_scale s) s.pools
 
 -- how many states at most a job passes through before it is completed, by its state
 abbrev pub steps_of_job : JobState → ℕ
@@ -72,4 +77,4 @@ tasks_left s = sum_by (steps_of_task s) s.tasks
 
 -- the numbers in order
 abbrev pub rank : State → List ℕ
-rank s = jobs_left s ∷ pools_left s ∷ ends_left s ∷ tasks_left s ∷ []
+rank s = scaling_left s ∷ jobs_left s ∷ pools_left s ∷ ends_left s ∷ tasks_left s ∷ []

@@ -7,9 +7,8 @@ use Rattle.batch_model.specs.Finding.{Each}
 use Rattle.batch_model.specs.Runs.{is_unended, is_coordination}
 use Rattle.batch_model.specs.Variants.{State}
 
--- an event that has no clause of its own in `event_now` is answered as if its body could not be read, and so are add-pool with a
--- formula, add-task with a task of several instances, and each such element of add-tasks. Each word of the profile gets its clause,
--- and these bodies their rows; with the last of them this goes.
+-- add-task with a task of several instances is answered as if its body could not be read, and so is each such element of add-tasks.
+-- With the rows of such tasks this goes.
 abbrev pub not_built : Refusal
 not_built = UnreadableBody
 

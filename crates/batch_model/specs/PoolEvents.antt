@@ -1,7 +1,6 @@
 -- Events that resize pools, stop that, and delete pools: their refusals in order, their statuses and what they do.
 -- Source: Azure Batch REST reference, Resize Pool, Stop Pool Resize and Delete Pool, with their error codes.
-use Rattle.std.specs.Prelude.{ℕ, Bool, true, not, ◌&&◌, List, [], ◌∷◌, filter, Option, unwrap_or}
-use Rattle.bt_base.specs.Ids.{same}
+use Rattle.std.specs.Prelude.{ℕ, Bool, true, not, ◌&&◌, List, [], ◌∷◌, Option, unwrap_or}
 use Rattle.bt_rows.specs.declared.event.ResizeSpec.{ResizeSpec}
 use Rattle.bt_rows.specs.declared.refusal.Refusal.{Refusal}
 use Rattle.bt_rows.specs.declared.refusal.Refusal.TheVariants.{PoolBeingDeleted, PoolBeingResized, PoolScalesAutomatically, PoolNotResizing}
@@ -11,8 +10,9 @@ use Rattle.batch_model.specs.Pools.{is_steady, is_resizing, resizing_from}
 use Rattle.batch_model.specs.WellFormed.{scales}
 use Rattle.batch_model.specs.Leaving.{leave}
 use Rattle.batch_model.specs.Answers.{answer}
+use Rattle.batch_model.specs.Scaling.{drop_scale}
 use Rattle.batch_model.specs.Steps.{Answered, refuse_if}
-use Rattle.batch_model.specs.Variants.{State, PoolRow, Resizing, Stopping, ByRequeue, NodeRow, ScaleRow}
+use Rattle.batch_model.specs.Variants.{State, PoolRow, Resizing, Stopping, ByRequeue, NodeRow}
 
 -- why a pool is not resized, in order
 abbrev pub resize_refusals : State → PoolRow → List (Option Refusal)
@@ -60,10 +60,6 @@ delete_pool_refusals pool = refuse_if pool.deleting PoolBeingDeleted ∷ []
 -- being deleted: it resizes to no nodes, which leave by requeue; when that began, its timeout and its error stay as they are
 abbrev pub deleted_pool : PoolRow → PoolRow
 deleted_pool pool = record pool { deleting = true; alloc = Resizing; dedicated = 0; low = 0; option = ByRequeue }
-
--- the pool does not scale automatically any more
-abbrev pub drop_scale : List ℕ → State → State
-drop_scale pool s = record s { scales = filter (λ (scale : ScaleRow). not (same scale.pool pool)) s.scales }
 
 -- a node of the pool that is leaving
 abbrev pub is_leaving_from : List ℕ → NodeRow → Bool

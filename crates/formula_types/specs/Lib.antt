@@ -1,4 +1,5 @@
 pub mod Compiled
+pub mod Compiling
 pub mod Nodes
 pub mod Rules
 pub mod Scopes
