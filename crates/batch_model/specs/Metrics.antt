@@ -1,6 +1,6 @@
 -- The values of a pool's metrics now.
 -- Source: Azure Batch documentation of automatic scaling, its list of variables; what counts as ready is this project's own.
-use Rattle.std.specs.Prelude.{ℕ, ◌+◌, ◌*◌, Bool, not, ◌&&◌, List, [], ◌∷◌, ℤ, pos, count_by, filter, sum_by}
+use Rattle.std.specs.Prelude.{ℕ, ◌+◌, ◌*◌, Bool, false, not, ◌&&◌, List, [], ◌∷◌, ℤ, pos, count_by, filter, sum_by}
 use Rattle.std.specs.Option.{option_map_or}
 use Rattle.std.specs.List.{list_any}
 use Rattle.bt_base.specs.Ids.{same}

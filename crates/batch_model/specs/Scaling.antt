@@ -2,7 +2,7 @@
 -- Source: Azure Batch REST reference, Enable, Disable and Evaluate Pool Auto Scale, and its documentation of automatic scaling; due
 -- rules, and that one sample is taken each half minute, are this project's own.
 use Rattle.std.specs.Prelude.{ℕ, ◌+◌, Bool, false, not, ◌&&◌, nat_eq, nat_le, nat_lt, List, [], ◌∷◌, ◌++◌, filter, find, Option, Some, None, is_some, is_none, unwrap_or, Result, Ok, Err, if◌then◌else◌}
-use Rattle.std.specs.Option.{option_map, option_map_or, option_and_then, option_to_list}
+use Rattle.std.specs.Option.{option_map, option_map_or, option_and_then}
 use Rattle.bt_base.specs.Ids.{same}
 use Rattle.bt_rows.specs.declared.event.Scaling.{Scaling}
 use Rattle.bt_rows.specs.declared.event.ScaleSpec.{ScaleSpec}
