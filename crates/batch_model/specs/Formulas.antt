@@ -1,7 +1,6 @@
 -- Evaluation of a formula over a pool: the metrics that it reads, its results, and the text of these or of its first fault.
 -- Source: Azure Batch documentation of automatic scaling; the texts are this project's own.
-use Rattle.std.specs.Prelude.{ℕ, codes, List, ◌++◌, map, ℤ, Option, Some, None, Result, Ok, Err}
-use Rattle.std.specs.Fmt.{decimal}
+use Rattle.std.specs.Prelude.{ℕ, List, map, ℤ, Option, Some, None, Result, Ok, Err}
 use Rattle.std.specs.Option.{option_map}
 use Rattle.std.specs.List.{last_or}
 use Rattle.bt_base.specs.FormulaFaults.{name_of, place_of}
@@ -20,7 +19,7 @@ use Rattle.formula_eval.specs.declared.fault.EvalFault.{EvalFault}
 use Rattle.formula_eval.specs.declared.outcome.Targets.{Targets}
 use Rattle.formula_eval.specs.declared.outcome.Outcome.{Outcome}
 use Rattle.formula_eval.specs.Statements.{evaluated}
-use Rattle.formula_eval.specs.Results.{results_text}
+use Rattle.formula_eval.specs.Results.{error_text, results_text}
 use Rattle.batch_model.specs.Metrics.{metric_value}
 use Rattle.batch_model.specs.Samples.{samples_of}
 use Rattle.batch_model.specs.Variants.{State, PoolRow, Metric, CpuPercent, ActiveTasks, SampleRow}
@@ -64,10 +63,6 @@ pool_metrics s pool = record {
 -- the targets that the pool has before
 abbrev pub start_targets : PoolRow → Targets
 start_targets pool = record { dedicated = pool.dedicated; low = pool.low }
-
--- `error`, a fault's name and its place
-unfoldable pub error_text : List ℕ → ℕ → List ℕ
-error_text name place = codes "error " ++ name ++ codes " " ++ decimal place
 
 -- the results, or the text of the fault of an evaluation
 abbrev pub or_error : Result Outcome EvalFault → Result Outcome (List ℕ)

@@ -10,7 +10,8 @@ use Rattle.batch_model.specs.Pools.{is_steady, is_resizing, resizing_from}
 use Rattle.batch_model.specs.WellFormed.{scales}
 use Rattle.batch_model.specs.Leaving.{leave}
 use Rattle.batch_model.specs.Answers.{answer}
-use Rattle.batch_model.specs.Scaling.{drop_scale}
+-- the pool does not scale automatically any more
+pub use Rattle.batch_model.specs.Scaling.{drop_scale}
 use Rattle.batch_model.specs.Steps.{Answered, refuse_if}
 use Rattle.batch_model.specs.Variants.{State, PoolRow, Resizing, Stopping, ByRequeue, NodeRow}
 

@@ -2,6 +2,7 @@
 -- Source: Azure Batch documentation of automatic scaling; labels, and how many samples are kept, are this project's own.
 use Rattle.std.specs.Prelude.{ℕ, ◌*◌, ◌/◌, Bool, ◌&&◌, nat_le, List, [], ◌∷◌, ◌++◌, filter, length, ℤ, Option, Some, None, if◌then◌else◌}
 use Rattle.bt_base.specs.Ids.{same}
+use Rattle.bt_samples.specs.declared.history.TheConstants.{MAX_SAMPLES, SAMPLE_INTERVAL_MS}
 use Rattle.bt_rows.specs.Metrics.{same_metric}
 use Rattle.bt_rows.specs.declared.refusal.Refusal.{Refusal}
 use Rattle.bt_rows.specs.declared.refusal.Refusal.TheVariants.{SampleTooOld}
@@ -10,11 +11,11 @@ use Rattle.batch_model.specs.Variants.{State, Metric, SampleRow}
 
 -- the last multiple of 30 seconds that is not above a moment
 abbrev pub label_of : ℕ → ℕ
-label_of moment = moment / 30000 * 30000
+label_of moment = moment / SAMPLE_INTERVAL_MS * SAMPLE_INTERVAL_MS
 
 -- the number of samples of a pool and metric that are kept
 abbrev pub sample_limit : ℕ
-sample_limit = 2880
+sample_limit = MAX_SAMPLES
 
 -- a sample of the pool and metric
 abbrev pub is_sample_of : List ℕ → Metric → SampleRow → Bool
@@ -34,7 +35,7 @@ last_label (sample ∷ other ∷ samples) = last_label (other ∷ samples)
 abbrev pub newest_label : State → List ℕ → Metric → Option ℕ
 newest_label s pool metric = last_label (samples_of s pool metric)
 
--- there is one of this label or a later one
+-- the newest sample has this label or a later one
 abbrev pub sample_refusal : ℕ → ℕ → Option Refusal
 sample_refusal label newest = refuse_if (nat_le label newest) (SampleTooOld newest)
 
@@ -47,11 +48,11 @@ abbrev pub without_first : (SampleRow → Bool) → List SampleRow → List Samp
 without_first test [] = []
 without_first test (sample ∷ samples) = if test sample then samples else sample ∷ without_first test samples
 
--- as many samples of the pool and metric are there as are kept
+-- no more samples of the pool and metric are kept
 abbrev pub is_full : List ℕ → Metric → List SampleRow → Bool
 is_full pool metric samples = nat_le sample_limit (length (filter (is_sample_of pool metric) samples))
 
--- the oldest sample of the pool and metric goes if as many are there as are kept
+-- the oldest sample of the pool and metric goes if no more are kept
 abbrev pub with_room : List ℕ → Metric → List SampleRow → List SampleRow
 with_room pool metric samples = if is_full pool metric samples then without_first (is_sample_of pool metric) samples else samples
 

@@ -1,15 +1,17 @@
 -- Automatic scaling of pools: when their formulas are evaluated, and the events and due rules that do so.
 -- Source: Azure Batch REST reference, Enable, Disable and Evaluate Pool Auto Scale, and its documentation of automatic scaling; due
 -- rules, and that one sample is taken each half minute, are this project's own.
-use Rattle.std.specs.Prelude.{ℕ, ◌+◌, Bool, false, not, ◌&&◌, nat_eq, nat_le, nat_lt, List, [], ◌∷◌, ◌++◌, filter, find, Option, Some, None, is_some, is_none, unwrap_or, Result, Ok, Err, if◌then◌else◌}
+use Rattle.std.specs.Prelude.{ℕ, ◌+◌, Bool, false, not, ◌&&◌, nat_eq, nat_le, nat_lt, List, [], ◌∷◌, ◌++◌, filter, find, Option, Some, None, is_none, unwrap_or, Result, Ok, Err, if◌then◌else◌}
 use Rattle.std.specs.Option.{option_map, option_map_or, option_and_then}
 use Rattle.bt_base.specs.Ids.{same}
+use Rattle.bt_rows.specs.declared.limits.TheConstants.{DEFAULT_INTERVAL}
 use Rattle.bt_rows.specs.declared.event.Scaling.{Scaling}
 use Rattle.bt_rows.specs.declared.event.ScaleSpec.{ScaleSpec}
 use Rattle.bt_rows.specs.declared.refusal.Refusal.{Refusal}
 use Rattle.bt_rows.specs.declared.refusal.Refusal.TheVariants.{PoolBeingDeleted, PoolBeingResized, PoolDoesNotScale, AutoscaleTooSoon}
 use Rattle.bt_rows.specs.declared.reply.Reply.TheVariants.{Results}
 use Rattle.bt_rows.specs.declared.due.Due.TheVariants.{Sampled, PoolScaled}
+use Rattle.formula_eval.specs.declared.outcome.Targets.{Targets}
 use Rattle.formula_eval.specs.declared.outcome.Outcome.{Outcome}
 use Rattle.batch_model.specs.Finding.{first_of, at_row, change_where}
 use Rattle.batch_model.specs.Rows.{put_pool}
@@ -19,7 +21,8 @@ use Rattle.batch_model.specs.Metrics.{sampled_metrics, add_samples}
 use Rattle.batch_model.specs.Formulas.{formula_ran, ran_text, formula_refusal}
 use Rattle.batch_model.specs.Steps.{Answered, DueStep, refuse_if}
 use Rattle.batch_model.specs.Answers.{refuse, answer}
-use Rattle.batch_model.specs.Variants.{State, PoolRow, CpuPercent, ActiveTasks, ScaleRow}
+use Rattle.batch_model.specs.WellFormed.{scales}
+use Rattle.batch_model.specs.Variants.{State, PoolRow, Dealloc, CpuPercent, ActiveTasks, ScaleRow}
 use Rattle.std.specs.Prelude.{ℤ}
 
 -- the row says how the pool scales
@@ -44,7 +47,7 @@ drop_scale pool s = record s { scales = filter (λ scale. not (is_scale pool sca
 
 -- 15 minutes from one evaluation to the next, if a request states no interval
 abbrev pub usual_interval : ℕ
-usual_interval = 900000
+usual_interval = DEFAULT_INTERVAL
 
 -- a formula that is to be evaluated now
 abbrev pub new_scale : ℕ → List ℕ → List ℕ → ℕ → ScaleRow
@@ -87,7 +90,7 @@ too_soon now since = refuse_if (nat_lt now (since + 30000)) (AutoscaleTooSoon si
 
 -- no formula is given, and none is there
 abbrev pub lacks_formula : State → ScaleSpec → PoolRow → Bool
-lacks_formula s spec pool = is_none spec.formula && is_none (scale_of s pool.id)
+lacks_formula s spec pool = is_none spec.formula && not (scales s pool.id)
 
 -- why a pool does not scale by the given parts, in order
 abbrev pub enable_autoscale_refusals : State → ScaleSpec → PoolRow → List (Option Refusal)
@@ -107,7 +110,7 @@ enable_autoscale s spec pool = answer s (enable_autoscale_refusals s spec pool) 
 abbrev pub scaling_refusals : State → PoolRow → List (Option Refusal)
 scaling_refusals s pool =
     refuse_if pool.deleting PoolBeingDeleted
-    ∷ refuse_if (is_none (scale_of s pool.id)) PoolDoesNotScale
+    ∷ refuse_if (not (scales s pool.id)) PoolDoesNotScale
     ∷ []
 
 -- `disable-autoscale`
@@ -122,7 +125,7 @@ formula_shown s text pool = record { reply = Results (ran_text (formula_ran s po
 abbrev pub evaluate_refusals : State → List ℕ → PoolRow → List (Option Refusal)
 evaluate_refusals s text pool =
     refuse_if pool.deleting PoolBeingDeleted
-    ∷ refuse_if (is_none (scale_of s pool.id)) PoolDoesNotScale
+    ∷ refuse_if (not (scales s pool.id)) PoolDoesNotScale
     ∷ formula_refusal text
     ∷ []
 
@@ -147,7 +150,7 @@ lacks_sample s pool = not (option_map_or (nat_le (label_of s.moment)) (newest_la
 
 -- scales automatically, is not deleted, and lacks samples of now
 abbrev pub is_to_sample : State → PoolRow → Bool
-is_to_sample s pool = not pool.deleting && (is_some (scale_of s pool.id) && lacks_sample s pool)
+is_to_sample s pool = not pool.deleting && (scales s pool.id && lacks_sample s pool)
 
 -- the line names the pool and the label; each metric but that of the processors is sampled
 abbrev pub pool_sampled : State → PoolRow → DueStep
@@ -175,30 +178,39 @@ is_scaling s pool = is_steady pool.alloc && is_to_scale s pool
 abbrev pub evaluated_now : ℕ → List ℕ → ScaleRow → ScaleRow
 evaluated_now now text scale = record scale { next = now + scale.interval; last = Some text }
 
--- with the targets and the option of the results
-abbrev pub with_results : Outcome → PoolRow → PoolRow
-with_results outcome pool = record pool { dedicated = outcome.targets.dedicated; low = outcome.targets.low; option = outcome.option }
+-- with these targets and this option
+abbrev pub retargeted_to : Targets × Dealloc → PoolRow → PoolRow
+retargeted_to given pool = record pool { dedicated = given.0.dedicated; low = given.0.low; option = given.1 }
 
--- it resizes from now, within its usual time, unless it has as many staying nodes as its target
+-- it resizes from now, within its usual time, unless the number of its staying nodes is its target
 abbrev pub resized_unless_reached : State → PoolRow → PoolRow
 resized_unless_reached s pool =
     if nat_eq (staying_count s pool.id) pool.dedicated then pool else resizing_from s.moment pool.usual_timeout pool
 
--- what an evaluation makes of the pool: a fault leaves it
-abbrev pub pool_after : State → PoolRow → Result Outcome (List ℕ) → PoolRow
-pool_after s pool (Ok outcome) = resized_unless_reached s (with_results outcome pool)
-pool_after s pool (Err text) = pool
+-- what an evaluation that gave this makes of the pool: a fault gives nothing, and leaves it
+abbrev pub pool_after : State → PoolRow → Option (Targets × Dealloc) → PoolRow
+pool_after s pool None = pool
+pool_after s pool (Some given) = resized_unless_reached s (retargeted_to given pool)
 
--- the tables after an evaluation of the pool's formula, and the line, which names the pool and has the text
-abbrev pub scaled_after : State → PoolRow → ScaleRow → Result Outcome (List ℕ) → DueStep
-scaled_after s pool scale ran = record {
-  due = PoolScaled pool.id (ran_text ran);
-  state = put_pool (pool_after s pool ran) (put_scale (evaluated_now s.moment (ran_text ran) scale) s);
+-- the tables after an evaluation that gave this and has this text, and the line, which names the pool and has the text
+abbrev pub scaled_after : State → PoolRow → ScaleRow → List ℕ → Option (Targets × Dealloc) → DueStep
+scaled_after s pool scale text given = record {
+  due = PoolScaled pool.id text;
+  state = put_pool (pool_after s pool given) (put_scale (evaluated_now s.moment text scale) s);
 }
+
+-- the targets and the option of results; a fault gives none
+abbrev pub given_by : Result Outcome (List ℕ) → Option (Targets × Dealloc)
+given_by (Ok outcome) = Some (outcome.targets, outcome.option)
+given_by (Err text) = None
+
+-- the same, of results or of the text of a fault
+abbrev pub scaled_by_results : State → PoolRow → ScaleRow → Result Outcome (List ℕ) → DueStep
+scaled_by_results s pool scale ran = scaled_after s pool scale (ran_text ran) (given_by ran)
 
 -- the pool's formula is evaluated
 abbrev pub pool_scaled : State → PoolRow → ScaleRow → DueStep
-pool_scaled s pool scale = scaled_after s pool scale (formula_ran s pool scale.formula)
+pool_scaled s pool scale = scaled_by_results s pool scale (formula_ran s pool scale.formula)
 
 -- by its row
 abbrev pub scale_pool : State → PoolRow → Option DueStep

@@ -1,10 +1,14 @@
--- The text of results.
+-- The text of results, and that of a fault.
 use Rattle.std.specs.Prelude.{ℕ, ◌==◌, Bool, false, codes, List, [], ◌∷◌, ◌++◌, if◌then◌else◌}
 use Rattle.std.specs.Fmt.{decimal}
 use Rattle.formula_values.specs.Texts.{value_text}
 use Rattle.formula_eval.specs.declared.outcome.Variable.{Variable}
 use Rattle.formula_eval.specs.declared.outcome.Outcome.{Outcome}
 use Rattle.bt_base.specs.DeallocOptions.{option_word}
+
+-- `error`, a fault's name and its place
+unfoldable pub error_text : List ℕ → ℕ → List ℕ
+error_text name place = codes "error " ++ name ++ codes " " ++ decimal place
 
 -- a text begins with `$`
 abbrev pub has_dollar : List ℕ → Bool
