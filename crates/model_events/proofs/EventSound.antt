@@ -3,7 +3,7 @@ use Rattle.std.proofs.Common.{◌≡◌, ℕ, ◌≤◌, true, List, ◌∷◌, 
 use Rattle.bt_base.specs.Moments.{last_moment}
 use Rattle.bt_rows.specs.declared.event.EventKind.{EventKind}
 use Rattle.bt_rows.specs.declared.event.EventKind.TheVariants.{AddPool, DeletePool, Resize, StopResize, AddJob, PatchJob, DisableJob, EnableJob, TerminateJob, DeleteJob, AddTask, AddTasks}
-use Rattle.bt_rows.specs.declared.event.EventKind.TheVariants.{DeleteTask, TerminateTask, ReactivateTask, Take, End}
+use Rattle.bt_rows.specs.declared.event.EventKind.TheVariants.{DeleteTask, TerminateTask, ReactivateTask, Take, End, EnableAutoscale, DisableAutoscale, EvaluateAutoscale, Sample, Tick}
 use Rattle.bt_rows.specs.declared.event.JobSpec.{JobSpec}
 use Rattle.bt_rows.specs.declared.event.TaskSpec.{TaskSpec}
 use Rattle.bt_rows.specs.declared.refusal.Refusal.{Refusal}
@@ -11,25 +11,28 @@ use Rattle.bt_rows.specs.declared.refusal.Refusal.TheVariants.{PoolNotFound, Job
 use Rattle.bt_rows.specs.declared.reply.Reply.TheVariants.{Refused}
 use Rattle.bt_rows.specs.Ranges.{is_event_in_range}
 use Rattle.batch_model.specs.Steps.{refuse_if}
-use Rattle.batch_model.specs.Rows.{pool_of, job_of, task_of, run_of, add_pool_row, put_pool, add_job_row, put_job, put_task}
+use Rattle.batch_model.specs.Rows.{pool_of, job_of, task_of, run_of, put_pool, add_job_row, put_job, put_task}
 use Rattle.batch_model.specs.Jobs.{is_past, job_in, new_job}
 use Rattle.batch_model.specs.Stops.{disable, close, terminate}
-use Rattle.batch_model.specs.Pools.{new_pool}
+use Rattle.batch_model.specs.Samples.{new_sample, add_sample}
+use Rattle.batch_model.specs.Scaling.{drop_scale, autoscale_enabled, enable_autoscale_refusals, enable_autoscale, scaling_refusals, disable_autoscale}
+use Rattle.batch_model.specs.Scaling.{formula_shown, evaluate_refusals, evaluate_autoscale, sample_refusals, sample_pool}
 use Rattle.batch_model.specs.PoolEvents.{resized_pool, resize_refusals, resize_pool, stopping, stop_resize_refusals, stop_resize}
 use Rattle.batch_model.specs.PoolEvents.{pool_deleted, delete_pool_refusals, delete_pool}
-use Rattle.batch_model.specs.Events.{add_pool_refusals, add_job, add_job_in, add_job_refusals, task_refusals, task_added, add_task, add_each, accept_all}
+use Rattle.batch_model.specs.Events.{add_pool_refusals, pool_added, add_job, add_job_in, add_job_refusals, task_refusals, task_added, add_task, add_each, accept_all}
 use Rattle.batch_model.specs.Events.{patched, patch_refusals, patch_job, disable_refusals, disable_job, enable_refusals, enable_job, user_terminate}
 use Rattle.batch_model.specs.Events.{for_row, terminate_refusals, terminate_job, delete_refusals, delete_job}
 use Rattle.batch_model.specs.Events.{add_tasks, add_tasks_refusals, take_refusals, run_taken, take_run, end_refusals, run_ended, end_run, event_now, event_step}
 use Rattle.batch_model.specs.Events.{task_deleted, delete_found, delete_task_refusals, delete_task, task_terminated, terminate_task_refusals, terminate_found}
 use Rattle.batch_model.specs.Events.{terminate_task, reactivated, reactivate_refusals, reactivate_found, reactivate_task_refusals, reactivate_task, at_moment}
 use Rattle.batch_model.specs.Sound.{IsSound}
-use Rattle.batch_model.specs.Variants.{State, Enabling, Deleting}
+use Rattle.batch_model.specs.Variants.{State, Enabling, Deleting, CpuPercent}
 use Rattle.model_lists.proofs.Tests.{passes_or_not}
 use Rattle.model_events.proofs.Keeping.{for_row_keeps, Leaves, leaves_if_accepted, given_leaves, answer_leaves, for_row_leaves}
 use Rattle.model_events.proofs.MomentPassed.{sound_at_moment}
 use Rattle.model_events.proofs.PoolAdded.{add_pool_kept}
 use Rattle.model_events.proofs.PoolsChanged.{resize_pool_kept, stop_resize_kept, delete_pool_kept}
+use Rattle.model_events.proofs.PoolsScale.{enable_autoscale_kept, disable_autoscale_kept, evaluate_autoscale_kept, sample_pool_kept}
 use Rattle.model_events.proofs.JobAdded.{add_job_kept}
 use Rattle.model_events.proofs.JobsChanged.{patch_job_kept, disable_job_kept, enable_job_kept, terminate_job_kept, delete_job_kept}
 use Rattle.model_events.proofs.TaskAdded.{add_task_kept, add_tasks_kept}
@@ -71,7 +74,18 @@ module _ (seats : ℕ) (s : State) (h : IsSound seats s) where
       for_row_keeps (IsSound seats) s h JobNotFound (reactivate_task s task) (job_of s job) (λ row found. reactivate_task_kept seats s task row h)
   sound_now (Take run) k = for_row_keeps (IsSound seats) s h RunNotFound (take_run s) (run_of s run) (λ row. take_kept seats s run row h)
   sound_now (End run ending) k = for_row_keeps (IsSound seats) s h RunNotFound (end_run s ending) (run_of s run) (λ row. end_kept seats s run ending row h)
-  sound_now other k = h
+  sound_now (EnableAutoscale pool spec) k =
+      for_row_keeps (IsSound seats) s h PoolNotFound (enable_autoscale s spec) (pool_of s pool)
+      (λ row found. enable_autoscale_kept seats s pool row found h spec k)
+  sound_now (DisableAutoscale pool) k =
+      for_row_keeps (IsSound seats) s h PoolNotFound (disable_autoscale s) (pool_of s pool) (λ row found. disable_autoscale_kept seats s pool row found h)
+  sound_now (EvaluateAutoscale pool text) k =
+      for_row_keeps (IsSound seats) s h PoolNotFound (evaluate_autoscale s text) (pool_of s pool)
+      (λ row found. evaluate_autoscale_kept seats s pool row found h text)
+  sound_now (Sample pool percentage) k =
+      for_row_keeps (IsSound seats) s h PoolNotFound (sample_pool s percentage) (pool_of s pool)
+      (λ row found. sample_pool_kept seats s pool row found h percentage k)
+  sound_now Tick k = h
 
 -- each event leaves sound tables sound
 pub sound_by_event : (seats moment : ℕ) (event : EventKind) (s : State) → moment ≤ last_moment → is_event_in_range event ≡ true → IsSound seats s
@@ -99,7 +113,7 @@ module _ (s : State) where
 
   -- each event at the tables' moment
   refused_now : (event : EventKind) → Leaves s (event_now event s)
-  refused_now (AddPool spec) = answer_leaves s (add_pool_refusals s spec) 201 (add_pool_row (new_pool s.moment spec) s)
+  refused_now (AddPool spec) = answer_leaves s (add_pool_refusals s spec) 201 (pool_added s spec)
   refused_now (DeletePool pool) =
       for_row_leaves s PoolNotFound (delete_pool s) (pool_of s pool) (λ row. answer_leaves s (delete_pool_refusals row) 202 (pool_deleted s row))
   refused_now (Resize pool spec) =
@@ -143,7 +157,18 @@ module _ (s : State) where
   refused_now (Take run) = for_row_leaves s RunNotFound (take_run s) (run_of s run) (λ row. answer_leaves s (take_refusals row) 200 (run_taken s row))
   refused_now (End run ending) =
       for_row_leaves s RunNotFound (end_run s ending) (run_of s run) (λ row. answer_leaves s (end_refusals row) 200 (run_ended s ending row))
-  refused_now other = λ refusal e. refl
+  refused_now (EnableAutoscale pool spec) =
+      for_row_leaves s PoolNotFound (enable_autoscale s spec) (pool_of s pool)
+      (λ row. answer_leaves s (enable_autoscale_refusals s spec row) 200 (autoscale_enabled s spec row))
+  refused_now (DisableAutoscale pool) =
+      for_row_leaves s PoolNotFound (disable_autoscale s) (pool_of s pool) (λ row. answer_leaves s (scaling_refusals s row) 200 (drop_scale row.id s))
+  refused_now (EvaluateAutoscale pool text) =
+      for_row_leaves s PoolNotFound (evaluate_autoscale s text) (pool_of s pool)
+      (λ row. given_leaves s (formula_shown s text row) (λ refusal e. cc) (evaluate_refusals s text row))
+  refused_now (Sample pool percentage) =
+      for_row_leaves s PoolNotFound (sample_pool s percentage) (pool_of s pool)
+      (λ row. answer_leaves s (sample_refusals s row) 200 (add_sample (new_sample s row.id CpuPercent percentage) s))
+  refused_now Tick = λ refusal e. refl
 
 -- a refused event leaves the tables as they are at its moment
 pub refused_keeps : (moment : ℕ) (event : EventKind) (s : State) (refusal : Refusal) → (event_step moment event s).reply ≡ Refused refusal

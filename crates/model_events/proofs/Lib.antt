@@ -2,6 +2,7 @@ pub mod Keeping
 pub mod MomentPassed
 pub mod PoolAdded
 pub mod PoolsChanged
+pub mod PoolsScale
 pub mod JobAdded
 pub mod JobsChanged
 pub mod TaskAdded

@@ -1,30 +1,32 @@
 -- The event `add-pool` keeps sound tables.
 use Rattle.std.proofs.Common.{◌≡◌, ℕ, true, false, not, ◌||◌, nat_le, List, sym, ◌∙◌, Bool, ◌&&◌, nat_eq, is_none, length, refl}
-use Rattle.std.proofs.Common.{is_some, inl, inr}
+use Rattle.std.proofs.Common.{is_some, Option, Some, None, inl, inr}
 use Rattle.bt_base.specs.Ids.{same}
 use Rattle.bt_base.proofs.SameIds.{same_equiv}
 use Rattle.bt_rows.specs.Keys.{same_pool}
 use Rattle.bt_rows.specs.declared.event.PoolSpec.{PoolSpec}
+use Rattle.bt_rows.specs.declared.event.Scaling.{Scaling}
 use Rattle.bt_rows.specs.Ranges.{passes_if_some, is_target, is_slot_count, is_resize_timeout, is_start_in_range, is_scaling_in_range, is_pool_spec_in_range}
 use Rattle.bt_rows.specs.declared.refusal.Refusal.TheVariants.{PoolExists, TableFull}
 use Rattle.bt_rows.specs.declared.refusal.Table.TheVariants.{Pools}
 use Rattle.batch_model.specs.Rows.{is_pool, add_pool_row, pool_of}
 use Rattle.batch_model.specs.Slots.{held_slots}
 use Rattle.batch_model.specs.Sound.{IsConsistent, has_slots_for, IsWithinLimits, StartsAreSound, IsSound, awaits_no_start}
-use Rattle.batch_model.specs.WellFormed.{has_pool_row, is_pool_in_range, is_pool_valid, is_deleting_whole}
+use Rattle.batch_model.specs.WellFormed.{scales, has_pool_row, is_pool_in_range, is_pool_valid, is_deleting_whole}
 use Rattle.batch_model.specs.Variants.{State, PoolRow, NodeRow, SampleRow, ScaleRow}
 use Rattle.batch_model.specs.Pools.{new_pool, waits_for_start}
 use Rattle.batch_model.specs.Limits.{pool_limit}
-use Rattle.batch_model.specs.Events.{add_pool}
-use Rattle.batch_model.specs.Events.{add_pool_refusals}
+use Rattle.batch_model.specs.Events.{add_pool_refusals, pool_added, add_pool}
+use Rattle.batch_model.specs.Scaling.{is_scale, new_scale, add_given_scale}
 use Rattle.batch_model.specs.Finding.{Each}
-use Rattle.model_lists.proofs.Tests.{under, and_true, and_first, passes_or_not}
-use Rattle.model_lists.proofs.RowLists.{each_append, each_weaker, each_of_two, any_append_old, any_agree, none_found}
+use Rattle.model_lists.proofs.Tests.{under, and_true, and_first, and_second, true_not, passes_or_not}
+use Rattle.model_lists.proofs.RowLists.{any_none, none_any, any_append_new, each_append, each_weaker, each_of_two, any_append_old, any_agree, none_found}
 use Rattle.model_lists.proofs.DistinctLists.{distinct_append}
 use Rattle.model_lists.proofs.NextNumbers.{is_not_after_itself}
 use Rattle.model_lists.proofs.Lengths.{takes_one}
 use Rattle.model_tables.proofs.StartsKept.{none_awaited, starts_with_pools}
 use Rattle.model_tables.proofs.PrepsKept.{preps_with_others}
+use Rattle.model_tables.proofs.ScalesPut.{is_deleted, sound_scale_added}
 use Rattle.model_events.proofs.Keeping.{passed, answer_keeps}
 
 -- a pool whose id no pool has is not the pool of a node, which has a row
@@ -168,11 +170,57 @@ sound_pool_added seats s spec h in_range new room = record {
   resting = h.resting;
 }
 
+-- the pool scales as it is told, if it is
+given_scale_kept : (seats : ℕ) (s : State) (pool : List ℕ) (given : Option Scaling) → passes_if_some is_scaling_in_range given ≡ true
+    → has_pool_row s pool ≡ true → scales s pool ≡ false → Each (λ row. not (is_deleted pool row)) s.pools → IsSound seats s
+    → IsSound seats (add_given_scale pool given s)
+given_scale_kept seats s pool None range there none live h = h
+given_scale_kept seats s pool (Some scaling) range there none live h =
+    sound_scale_added s (new_scale s.moment pool scaling.formula scaling.interval) seats range there none live h
+
+-- it is told so within the limits
+scale_in_range : (spec : PoolSpec) → is_pool_spec_in_range spec ≡ true → passes_if_some is_scaling_in_range spec.scale ≡ true
+scale_in_range spec h =
+    and_second _ (passes_if_some is_scaling_in_range spec.scale) (and_first _ (is_none spec.scale || nat_eq spec.dedicated 0) h)
+
+-- no pool with a new id is being deleted, and none scales
+none_deleted : (s : State) (spec : PoolSpec) → has_pool_row s spec.id ≡ false → Each (λ row. not (is_deleted spec.id row)) (add_pool_row (new_pool s.moment spec) s).pools
+none_deleted s spec new =
+    each_append (λ row. not (is_deleted spec.id row)) s.pools (new_pool s.moment spec)
+    (each_weaker (λ row. not (is_pool spec.id row)) (λ row. not (is_deleted spec.id row)) (λ row. not_both (is_pool spec.id row) row.deleting) s.pools
+    (any_none (is_pool spec.id) s.pools new))
+    (not_second (is_pool spec.id (new_pool s.moment spec)))
+  where
+    not_both : (a b : Bool) → not a ≡ true → not (a && b) ≡ true
+    not_both true b k = cc
+    not_both false b k = refl
+
+    not_second : (a : Bool) → not (a && false) ≡ true
+    not_second true = refl
+    not_second false = refl
+
+none_scales : (s : State) (pool : PoolRow) → has_pool_row s pool.id ≡ false → Each (λ (scale : ScaleRow). has_pool_row s scale.pool) s.scales
+    → scales s pool.id ≡ false
+none_scales s pool new there =
+    none_any (is_scale pool.id) s.scales
+    (each_weaker (λ (scale : ScaleRow). has_pool_row s scale.pool) (λ scale. not (is_scale pool.id scale)) apart s.scales there)
+  where
+    apart : (scale : ScaleRow) → has_pool_row s scale.pool ≡ true → not (is_scale pool.id scale) ≡ true
+    apart scale row = elim (passes_or_not (is_scale pool.id scale)) [
+      | inl e ↦ let f : false ≡ true = is_other s pool scale.pool new row (same_equiv.symm pool.id scale.pool ∙ e) in cc
+      | inr e ↦ true_not e
+    ]
+
 -- `add-pool`
 pub add_pool_kept : (seats : ℕ) (s : State) (spec : PoolSpec) → is_pool_spec_in_range spec ≡ true → IsSound seats s → IsSound seats (add_pool s spec).state
 add_pool_kept seats s spec in_range h =
-    answer_keeps (IsSound seats) s h (add_pool_refusals s spec) 201 (add_pool_row (new_pool s.moment spec) s)
+    answer_keeps (IsSound seats) s h (add_pool_refusals s spec) 201 (pool_added s spec)
     (λ absent.
-    sound_pool_added seats s spec h in_range
-    (none_found (is_pool spec.id) s.pools (passed (is_some (pool_of s spec.id)) PoolExists absent.1.0))
-    (passed (nat_le pool_limit (length s.pools)) (TableFull Pools pool_limit) absent.1.1.0))
+    added (none_found (is_pool spec.id) s.pools (passed (is_some (pool_of s spec.id)) PoolExists absent.0))
+    (passed (nat_le pool_limit (length s.pools)) (TableFull Pools pool_limit) absent.1.0))
+  where
+    added : has_pool_row s spec.id ≡ false → nat_le pool_limit (length s.pools) ≡ false → IsSound seats (pool_added s spec)
+    added new room =
+        given_scale_kept seats (add_pool_row (new_pool s.moment spec) s) spec.id spec.scale (scale_in_range spec in_range)
+        (any_append_new (is_pool spec.id) s.pools (new_pool s.moment spec) (same_equiv.refl spec.id))
+        (none_scales s (new_pool s.moment spec) new h.limited.pools.pools_of_scales) (none_deleted s spec new) (sound_pool_added seats s spec h in_range new room)

@@ -6,7 +6,8 @@ use Rattle.bt_rows.specs.declared.refusal.Refusal.TheVariants.{PoolBeingDeleted}
 use Rattle.bt_rows.specs.Ranges.{passes_if_some, is_target, is_slot_count, is_resize_timeout, is_start_in_range, is_resize_spec_in_range}
 use Rattle.batch_model.specs.Rows.{is_pool, pool_of, put_pool}
 use Rattle.batch_model.specs.PoolEvents.{resized_pool, resize_refusals, resize_pool, stopping, stop_resize_refusals, stop_resize}
-use Rattle.batch_model.specs.PoolEvents.{deleted_pool, drop_scale, is_leaving_from, pool_deleted, delete_pool_refusals, delete_pool}
+use Rattle.batch_model.specs.PoolEvents.{deleted_pool, is_leaving_from, pool_deleted, delete_pool_refusals, delete_pool}
+use Rattle.batch_model.specs.Scaling.{drop_scale}
 use Rattle.batch_model.specs.Sound.{IsSound}
 use Rattle.batch_model.specs.WellFormed.{is_past_if_some, is_pool_valid, is_deleting_whole}
 use Rattle.batch_model.specs.Variants.{State, PoolRow, ByRequeue}

@@ -9,6 +9,9 @@ pub mod StartsKept
 pub mod PrepsKept
 pub mod PoolPut
 pub mod ScalesDropped
+pub mod SampleLists
+pub mod SamplesAdded
+pub mod ScalesPut
 pub mod JobPut
 pub mod TasksStopped
 pub mod TaskMoved

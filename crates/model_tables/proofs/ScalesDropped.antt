@@ -3,7 +3,7 @@ use Rattle.std.proofs.Common.{◌≡◌, ℕ, Bool, true, false, not, ◌&&◌, 
 use Rattle.bt_base.specs.Ids.{same}
 use Rattle.bt_rows.specs.Keys.{same_scale}
 use Rattle.batch_model.specs.Pools.{is_resizing}
-use Rattle.batch_model.specs.PoolEvents.{drop_scale}
+use Rattle.batch_model.specs.Scaling.{drop_scale}
 use Rattle.batch_model.specs.Sound.{IsConsistent, IsWithinLimits, IsSound}
 use Rattle.batch_model.specs.WellFormed.{has_pool_row, is_scale_in_range, scales, is_deleting_whole}
 use Rattle.batch_model.specs.Variants.{State, PoolRow, ScaleRow}
