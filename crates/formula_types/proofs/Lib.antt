@@ -1,4 +1,5 @@
 pub mod Calls
+pub mod Computes
 pub mod Found
 pub mod Nodes
 pub mod OneAnswer

@@ -4,8 +4,10 @@ ghost use Rattle.formula_lex.specs.Lexing.{lexed};
 ghost use Rattle.formula_lex.specs.declared.token.Token.{Token as AToken};
 ghost use Rattle.formula_trees.specs.Formula.{StatementTree};
 ghost use Rattle.formula_trees.specs.View.{statements_of};
+ghost use Rattle.bt_base.specs.Fails.{GivesAs};
 ghost use Rattle.bt_base.specs.declared.formula_fault.FormulaFault.{FormulaFault as AFault};
 ghost use Rattle.formula_types.specs.Compiled.{OrFault, IsRead, IsFormula, HasFault, have_types};
+ghost use Rattle.formula_types.specs.Compiling.{compiled, ComputesFormulas};
 
 use crate::fault::{FormulaFault, of_lexical, of_syntax, of_type};
 use crate::formula::Formula;
@@ -77,8 +79,10 @@ fn formula(
 
 /// Compiles a text to a formula. The error is the text's first fault, or out of memory. The whole text is lexed first, then it is
 /// parsed, then its statements get their types one by one.
+#[tactic(auto, using(crate::proofs::Computes::gives_computed))]
 pub fn compile(alloc: Global, text: &str) -> Result<Formula, Fail<FormulaFault>>
-    ensures { OrFault text.now (λ formula. (formula.text ≡ text.now) × IsFormula text.now (statements_of formula.statements.items)) result }
+    ensures formula { OrFault text.now (λ formula. (formula.text ≡ text.now) × IsFormula text.now (statements_of formula.statements.items)) result }
+    ensures computed { GivesAs (λ formula. statements_of formula.statements.items) result (compiled text.now) }
 {
     let tokens = tokens(alloc, text)?;
     let statements = statements(alloc, text, &tokens)?;
@@ -91,4 +95,9 @@ pub fn one_answer()
     ensures not_both { (text : List ℕ) (ss : List StatementTree) (fault : AFault) → IsFormula text ss → HasFault text fault → ⊥ }
     ensures one_formula { (text : List ℕ) (ss other : List StatementTree) → IsFormula text ss → IsFormula text other → ss ≡ other }
     ensures one_fault { (text : List ℕ) (fault other : AFault) → HasFault text fault → HasFault text other → fault ≡ other }
+{}
+
+/// What `compiled` computes of a text is its formula, or its first fault.
+pub fn compiled_is_the_formula()
+    ensures { ComputesFormulas }
 {}

@@ -9,7 +9,7 @@ mod scope;
 mod statement;
 mod typing;
 
-pub use compiler::{compile, one_answer};
+pub use compiler::{compile, compiled_is_the_formula, one_answer};
 pub use fault::{FormulaFault, TypeFault};
 pub use formula::Formula;
 pub use scope::part;
