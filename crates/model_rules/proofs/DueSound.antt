@@ -4,6 +4,7 @@ use Rattle.bt_base.proofs.Turns.{lex_lt}
 use Rattle.batch_model.specs.Placing.{place_first}
 use Rattle.batch_model.specs.JobRules.{enable_first, terminate_first, disable_first, release_first, end_first}
 use Rattle.batch_model.specs.WallTimes.{time_out_task_first, time_out_release_first, time_out_job_first}
+use Rattle.batch_model.specs.Scaling.{sample_first, scale_first}
 use Rattle.batch_model.specs.Dues.{settle_first, job_step, end_resize, remove_node, pool_step, drop_first, add_node, node_step, due_step}
 use Rattle.batch_model.specs.Laws.{HoldsWithinSlots, JobsEndAtRest, JobsReleaseOnce}
 use Rattle.batch_model.specs.Measure.{rank}
@@ -16,6 +17,8 @@ use Rattle.model_rules.proofs.JobsMoved.{enable_kept, terminate_kept, disable_ke
 use Rattle.model_rules.proofs.WallTimes.{time_out_task_kept, time_out_job_kept}
 use Rattle.model_rules.proofs.Releases.{time_out_release_kept, release_kept}
 use Rattle.model_rules.proofs.PoolResized.{end_resize_kept}
+use Rattle.model_rules.proofs.PoolsSampled.{sample_first_kept}
+use Rattle.model_rules.proofs.PoolsScaled.{scale_first_kept}
 use Rattle.model_rules.proofs.NodesLeft.{remove_node_kept}
 use Rattle.model_rules.proofs.NodeDropped.{drop_first_kept}
 use Rattle.model_rules.proofs.NodeAdded.{add_node_kept}
@@ -55,7 +58,8 @@ job_step_kept seats s h step e =
 -- the rules of pools
 pool_step_kept : (seats : ℕ) (s : State) → IsSound seats s → (step : DueStep) → pool_step s ≡ Some step → IsDueKept seats s step
 pool_step_kept seats s h step e =
-    first_gives (IsDueKept seats s) (end_resize s ∷ remove_node s ∷ []) (end_resize_kept seats s h, (remove_node_kept seats s h, tt)) step e
+    first_gives (IsDueKept seats s) (end_resize s ∷ scale_first s ∷ remove_node s ∷ [])
+    (end_resize_kept seats s h, (scale_first_kept seats s h, (remove_node_kept seats s h, tt))) step e
 
 -- the rules of nodes
 node_step_kept : (seats : ℕ) (s : State) → IsSound seats s → (step : DueStep) → node_step seats s ≡ Some step → IsDueKept seats s step
@@ -66,8 +70,8 @@ node_step_kept seats s h step e =
 kept_by_due : (seats : ℕ) (s : State) (step : DueStep) → IsSound seats s → due_step seats s ≡ Some step → IsDueKept seats s step
 kept_by_due seats s step h e =
     first_gives (IsDueKept seats s)
-    (job_step s ∷ pool_step s ∷ node_step seats s ∷ place_first s ∷ [])
-    (job_step_kept seats s h, (pool_step_kept seats s h, (node_step_kept seats s h, (place_first_kept seats s h, tt))))
+    (sample_first s ∷ job_step s ∷ pool_step s ∷ node_step seats s ∷ place_first s ∷ [])
+    (sample_first_kept seats s h, (job_step_kept seats s h, (pool_step_kept seats s h, (node_step_kept seats s h, (place_first_kept seats s h, tt)))))
     step e
 
 -- a due step keeps tables sound

@@ -3,7 +3,7 @@
 use Rattle.std.proofs.Common.{◌≡◌, ℕ, ◌+◌, ◌<◌, Bool, true, false, not, ◌&&◌, ◌||◌, List, Some, find, refl, cond, subst, arith}
 use Rattle.std.specs.List.{find}
 use Rattle.bt_base.proofs.SameIds.{same_equiv}
-use Rattle.bt_base.proofs.Turns.{lex_first}
+use Rattle.bt_base.proofs.Turns.{lex_first, lex_next}
 use Rattle.bt_rows.specs.Keys.{same_job, same_job_equiv}
 use Rattle.bt_rows.specs.Ranges.{is_reason}
 use Rattle.bt_rows.proofs.DistinctRows.{found_first}
@@ -106,9 +106,9 @@ module _ (seats : ℕ) (s : State) (h : IsSound seats s) where
       (record {
         sound = sound_job_put s (job_in JobActive made.0) seats h (job_valid is_to_enable made.0 made.2) refl (found_waits s is_to_enable made.0 made.2) refl;
         falls =
-            lex_first _ _ _ _
+            lex_next _ _ _ _ (omega arith) (lex_first _ _ _ _
             (fewer_steps is_to_enable made.0 (job_in JobActive made.0) made.2 refl
-            (let steps = enabling_steps made.0.state (find_test is_to_enable made.0 s.jobs made.2) in omega (arith, steps))) refl;
+            (let steps = enabling_steps made.0.state (find_test is_to_enable made.0 s.jobs made.2) in omega (arith, steps))) refl);
         places = tt;
         ends = tt;
         releases = tt;
@@ -124,9 +124,9 @@ module _ (seats : ℕ) (s : State) (h : IsSound seats s) where
         sound = sound_closed seats s Terminating all_complete made.0 h (job_valid (ends_with_tasks s) made.0 made.2) all_complete_reason refl
             (found_waits s (ends_with_tasks s) made.0 made.2);
         falls =
-            lex_first _ _ _ _
+            lex_next _ _ _ _ (omega arith) (lex_first _ _ _ _
             (fewer_steps (ends_with_tasks s) made.0 (job_for Terminating all_complete made.0) made.2 refl
-            (let steps = active_steps made.0.state (and_first _ _ (and_first _ _ passes)) in omega (arith, steps))) refl;
+            (let steps = active_steps made.0.state (and_first _ _ (and_first _ _ passes)) in omega (arith, steps))) refl);
         places = tt;
         ends = tt;
         releases = tt;
@@ -143,9 +143,9 @@ module _ (seats : ℕ) (s : State) (h : IsSound seats s) where
             sound_job_put s (job_in Disabled made.0) seats h (job_valid (is_to_disable s) made.0 made.2)
             (and_second (is_disabling made.0.state) (not (has_placed_task s made.0.id)) passes) (found_waits s (is_to_disable s) made.0 made.2) refl;
         falls =
-            lex_first _ _ _ _
+            lex_next _ _ _ _ (omega arith) (lex_first _ _ _ _
             (fewer_steps (is_to_disable s) made.0 (job_in Disabled made.0) made.2 refl
-            (let steps = disabling_steps made.0.state (and_first _ _ passes) in omega (arith, steps))) refl;
+            (let steps = disabling_steps made.0.state (and_first _ _ passes) in omega (arith, steps))) refl);
         places = tt;
         ends = tt;
         releases = tt;
@@ -177,7 +177,7 @@ module _ (seats : ℕ) (s : State) (h : IsSound seats s) where
           (found_waits s (has_job_ended s) job found)
           (and_second (is_closing job.state && not (has_placed_task s job.id)) (not (has_unended_run s job.id)) passes);
       falls =
-          lex_first _ _ _ _ (fewer_steps (has_job_ended s) job (job_in JobCompleted job) found refl (omega (arith, one_step))) refl;
+          lex_next _ _ _ _ (omega arith) (lex_first _ _ _ _ (fewer_steps (has_job_ended s) job (job_in JobCompleted job) found refl (omega (arith, one_step))) refl);
       places = tt;
       ends = at_rest;
       releases = tt;
@@ -188,9 +188,9 @@ module _ (seats : ℕ) (s : State) (h : IsSound seats s) where
     removed_kept = record {
       sound = sound_dropped job.id s seats h;
       falls =
-          lex_first _ _ _ _
+          lex_next _ _ _ _ (omega arith) (lex_first _ _ _ _
           (sum_dropped (λ row. not (is_job job.id row)) (λ (row : JobRow). steps_of_job row.state) (has_job_ended s) job s.jobs found
-          (dropped (is_job job.id job) (same_equiv.refl job.id)) (omega (arith, one_step))) refl;
+          (dropped (is_job job.id job) (same_equiv.refl job.id)) (omega (arith, one_step))) refl);
       places = tt;
       ends = at_rest;
       releases = tt;

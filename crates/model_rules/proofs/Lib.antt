@@ -13,5 +13,8 @@ pub mod NodeDropped
 pub mod place
 pub mod TaskPlaced
 pub mod NodesLeft
+pub mod OutcomesLimited
+pub mod PoolsSampled
+pub mod PoolsScaled
 pub mod DueSound
 pub mod OpeningSound

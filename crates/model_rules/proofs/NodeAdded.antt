@@ -436,8 +436,8 @@ node_falls : (s : State) (pool : PoolRow) (seat : ℕ) → AreDistinct same_pool
 node_falls s pool seat keys f = begun pool.start
   where
     begun : (start : Option StartTask) → lex_lt (rank (begin_start start (new_node s pool seat) (with_row s pool seat))) (rank s) ≡ true
-    begun None = lex_next _ _ _ _ (omega arith) (lex_first _ _ _ _ (fewer_to_add s pool seat keys f) refl)
-    begun (Some start) = lex_next _ _ _ _ (omega arith) (lex_first _ _ _ _ (fewer_to_add s pool seat keys f) refl)
+    begun None = lex_next _ _ _ _ (omega arith) (lex_next _ _ _ _ (omega arith) (lex_first _ _ _ _ (fewer_to_add s pool seat keys f) refl))
+    begun (Some start) = lex_next _ _ _ _ (omega arith) (lex_next _ _ _ _ (omega arith) (lex_first _ _ _ _ (fewer_to_add s pool seat keys f) refl))
 
 -- the rule
 

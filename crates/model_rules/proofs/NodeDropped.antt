@@ -263,10 +263,10 @@ module _ (s : State) (node : NodeRow) (found : find (is_empty_node s) s.nodes �
       resting = h.resting;
     };
     falls =
-        lex_next _ _ _ _ (omega arith)
+        lex_next _ _ _ _ (omega arith) (lex_next _ _ _ _ (omega arith)
         (lex_first _ _ _ _
         (fewer_steps h.consistent.keys.nodes
-        (each_found (λ (row : NodeRow). has_pool_row s row.pool) (is_empty_node s) node s.nodes found h.consistent.seated.pools_of_nodes)) refl);
+        (each_found (λ (row : NodeRow). has_pool_row s row.pool) (is_empty_node s) node s.nodes found h.consistent.seated.pools_of_nodes)) refl));
     places = tt;
     ends = tt;
     releases = tt;

@@ -80,10 +80,10 @@ module _ (s : State) (pool : PoolRow) (node : NodeRow) (chosen : best (leaves_be
 -- what is stopped on the node changes tasks, runs and preparations alone
 leave_falls : (option : Dealloc) (test : NodeRow → Bool) (s : State) → pools_left (change_nodes test (leaving_by option) s) < pools_left s
     → lex_lt (rank (leave option test s)) (rank s) ≡ true
-leave_falls ByRequeue test s fewer = lex_next _ _ _ _ (omega arith) (lex_first _ _ _ _ fewer refl)
-leave_falls ByTerminate test s fewer = lex_next _ _ _ _ (omega arith) (lex_first _ _ _ _ fewer refl)
-leave_falls TaskCompletion test s fewer = lex_next _ _ _ _ (omega arith) (lex_first _ _ _ _ fewer refl)
-leave_falls RetainedData test s fewer = lex_next _ _ _ _ (omega arith) (lex_first _ _ _ _ fewer refl)
+leave_falls ByRequeue test s fewer = lex_next _ _ _ _ (omega arith) (lex_next _ _ _ _ (omega arith) (lex_first _ _ _ _ fewer refl))
+leave_falls ByTerminate test s fewer = lex_next _ _ _ _ (omega arith) (lex_next _ _ _ _ (omega arith) (lex_first _ _ _ _ fewer refl))
+leave_falls TaskCompletion test s fewer = lex_next _ _ _ _ (omega arith) (lex_next _ _ _ _ (omega arith) (lex_first _ _ _ _ fewer refl))
+leave_falls RetainedData test s fewer = lex_next _ _ _ _ (omega arith) (lex_next _ _ _ _ (omega arith) (lex_first _ _ _ _ fewer refl))
 
 module _ (seats : ℕ) (s : State) (h : IsSound seats s) where
   -- the node that is chosen leaves

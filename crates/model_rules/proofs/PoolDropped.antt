@@ -1,5 +1,5 @@
 -- A pool that is being deleted and has no nodes is dropped with its samples and its start runs: the tables stay sound, and the rank falls.
-use Rattle.std.proofs.Common.{◌≡◌, ℕ, ◌≤◌, ◌<◌, Bool, true, false, not, ◌&&◌, ◌||◌, nat_eq, nat_lt, nat_le, List, [], ◌∷◌, Some, is_some, cond, length, count_by}
+use Rattle.std.proofs.Common.{◌≡◌, ℕ, ◌≤◌, ◌<◌, Bool, true, false, not, ◌&&◌, ◌||◌, nat_eq, nat_lt, nat_le, List, [], ◌∷◌, Some, is_some, cond, length, count_by, sum_by}
 use Rattle.std.proofs.Common.{filter, find, refl, sym, ◌∙◌, ap, arith}
 use Rattle.std.specs.List.{list_all, find, filter}
 use Rattle.std.specs.Option.{option_map_or, option_and_then}
@@ -17,10 +17,11 @@ use Rattle.batch_model.specs.Nodes.{is_usable, is_in_pool}
 use Rattle.batch_model.specs.Pools.{is_resizing, is_steady, has_node, waits_for_start}
 use Rattle.batch_model.specs.Jobs.{is_job_completed}
 use Rattle.batch_model.specs.JobRules.{is_unended_of, has_unended_run}
-use Rattle.batch_model.specs.Samples.{is_sample_of, samples_of, last_label, sample_limit}
+use Rattle.batch_model.specs.Samples.{label_of, is_sample_of, samples_of, last_label, sample_limit}
 use Rattle.batch_model.specs.Slots.{held_slots, holds_on}
 use Rattle.batch_model.specs.Dues.{is_gone, is_start_run_of, drop_pool, pool_dropped}
-use Rattle.batch_model.specs.Measure.{one_unless, steps_of_pool, pools_left, rank}
+use Rattle.batch_model.specs.Scaling.{is_to_sample, is_to_scale}
+use Rattle.batch_model.specs.Measure.{scaling_left, one_unless, steps_of_pool, pools_left, rank}
 use Rattle.batch_model.specs.Sound.{IsConsistent, IsWithinLimits, IsSound, StartsAreSound, PreparationsAreSound, CompletedJobsRest, has_node_row, has_node_while_unended}
 use Rattle.batch_model.specs.Sound.{belongs, can_be_settled, fits_nodes, is_of_pool, names_no_task, has_slots_for, has_no_end_yet, has_usable_start, awaits_no_start}
 use Rattle.batch_model.specs.Sound.{has_started, has_running_prep, prepare_the_same, is_prepared_run, has_known_release, is_at_rest}
@@ -33,11 +34,13 @@ use Rattle.model_lists.proofs.Tests.{and_first, and_second, not_true, asked, und
 use Rattle.model_lists.proofs.RowLists.{each_weaker, each_of_two, each_of_three, each_found, find_test, find_any, any_none}
 use Rattle.model_lists.proofs.KeptRows.{kept_pass, each_kept, any_kept, distinct_kept, any_still, any_still_where, find_still, sum_kept, sum_passing_kept}
 use Rattle.model_lists.proofs.KeptRows.{length_kept, each_swap, sum_dropped}
+use Rattle.model_lists.proofs.RowSums.{sum_agree_where}
 use Rattle.model_tables.proofs.NotBuilt.{is_built}
 use Rattle.model_tables.proofs.RunsMove.{slots_suffice}
 use Rattle.model_tables.proofs.StartsKept.{is_good_start, starts_on, few_still}
 use Rattle.model_tables.proofs.TasksStopped.{settled_alike}
 use Rattle.model_rules.proofs.JobDropped.{not_same}
+use Rattle.model_rules.proofs.NodeCounts.{one_if}
 use Rattle.model_rules.proofs.Rules.{IsDueKept}
 
 -- rows that pass, of which none is dropped
@@ -192,11 +195,11 @@ module _ (s : State) (pool : PoolRow) (test : PoolRow → Bool) (found : find te
     built = record { runs = each_kept keeps_run is_built s.runs h.built.runs };
   }
 
-  -- a kept sample's pool has the same samples
-  samples_still : (sample : SampleRow) (metric : Metric) → keeps_sample sample ≡ true → samples_of after sample.pool metric ≡ samples_of s sample.pool metric
-  samples_still sample metric k =
-      filter_still keeps_sample (is_sample_of sample.pool metric)
-      (λ (other : SampleRow) e. not_same other.pool sample.pool pool.id (and_first (same other.pool sample.pool) (same_metric other.metric metric) e) k) s.samples
+  -- another pool has the same samples
+  samples_still : (id : List ℕ) (metric : Metric) → not (same id pool.id) ≡ true → samples_of after id metric ≡ samples_of s id metric
+  samples_still id metric k =
+      filter_still keeps_sample (is_sample_of id metric)
+      (λ (other : SampleRow) e. not_same other.pool id pool.id (and_first (same other.pool id) (same_metric other.metric metric) e) k) s.samples
 
   -- the pool is being deleted, so that it does not scale
   no_scale : IsWithinLimits s → Each (λ (scale : ScaleRow). not (same scale.pool pool.id)) s.scales
@@ -256,10 +259,10 @@ module _ (s : State) (pool : PoolRow) (test : PoolRow → Bool) (found : find te
       covered_still : (sample : SampleRow) → keeps_sample sample ≡ true → is_covered s sample ≡ true → is_covered after sample ≡ true
       covered_still sample k h =
           ap (λ samples. same_metric sample.metric CpuPercent || option_map_or (nat_le sample.label) (last_label samples) false)
-          (samples_still sample ActiveTasks k) ∙ h
+          (samples_still sample.pool ActiveTasks k) ∙ h
 
       few_still_kept : (sample : SampleRow) → keeps_sample sample ≡ true → has_kept s sample ≡ true → has_kept after sample ≡ true
-      few_still_kept sample k h = ap (λ samples. nat_le (length samples) sample_limit) (samples_still sample sample.metric k) ∙ h
+      few_still_kept sample k h = ap (λ samples. nat_le (length samples) sample_limit) (samples_still sample.pool sample.metric k) ∙ h
 
   -- start tasks
   starts_dropped : Each (fits_nodes s) s.runs → StartsAreSound s → StartsAreSound after
@@ -312,6 +315,23 @@ module _ (s : State) (pool : PoolRow) (test : PoolRow → Bool) (found : find te
       not_both true b false e k = refl
       not_both false b c e k = refl
 
+  -- no more pools are to be sampled or scaled
+  no_more_scaling : scaling_left after ≤ scaling_left s
+  no_more_scaling =
+      let same_part : sum_by (λ row. one_if (is_to_sample after row)) after.pools ≡ sum_by (λ row. one_if (is_to_sample s row)) after.pools =
+      sum_agree_where keeps_pool (λ row. one_if (is_to_sample after row)) (λ row. one_if (is_to_sample s row)) sampled_still after.pools (kept_pass keeps_pool s.pools)
+      in
+      let sampled : sum_by (λ row. one_if (is_to_sample s row)) after.pools ≤ count_by (is_to_sample s) s.pools =
+      sum_kept keeps_pool (λ row. one_if (is_to_sample s row)) s.pools
+      in
+      let scaled : count_by (is_to_scale s) after.pools ≤ count_by (is_to_scale s) s.pools = sum_kept keeps_pool (λ row. one_if (is_to_scale s row)) s.pools in
+      omega (arith, same_part, sampled, scaled)
+    where
+      sampled_still : (row : PoolRow) → keeps_pool row ≡ true → one_if (is_to_sample after row) ≡ one_if (is_to_sample s row)
+      sampled_still row k =
+          ap (λ samples. one_if (not row.deleting && (scales s row.id && not (option_map_or (nat_le (label_of s.moment)) (last_label samples) false))))
+          (samples_still row.id ActiveTasks k)
+
   -- a pool less is to become steady
   drop_falls : IsWithinLimits s → lex_lt (rank after) (rank s) ≡ true
   drop_falls h =
@@ -323,7 +343,7 @@ module _ (s : State) (pool : PoolRow) (test : PoolRow → Bool) (found : find te
       let fewer : pools_left after < pools_left s =
       sum_dropped keeps_pool (steps_of_pool s) test pool s.pools found (rw (same_equiv.refl pool.id) refl) (omega (arith, one))
       in
-      lex_next _ _ _ _ (omega arith) (lex_first _ _ _ _ fewer refl)
+      lex_next _ _ _ _ no_more_scaling (lex_next _ _ _ _ (omega arith) (lex_first _ _ _ _ fewer refl))
 
   -- the pool is dropped
   pub pool_dropped_kept : (seats : ℕ) → IsSound seats s → IsDueKept seats s (pool_dropped s pool)

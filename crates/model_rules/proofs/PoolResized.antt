@@ -11,6 +11,7 @@ use Rattle.batch_model.specs.Rows.{put_pool}
 use Rattle.batch_model.specs.Pools.{is_resizing, is_stopping, is_steady}
 use Rattle.batch_model.specs.Dues.{is_gone, pool_dropped, has_reached, pool_steady, has_timed_out, pool_timed_out, is_to_stop, pool_stopped, ends_resize}
 use Rattle.batch_model.specs.Dues.{resize_ended, end_resize}
+use Rattle.batch_model.specs.Scaling.{is_to_sample, is_to_scale}
 use Rattle.batch_model.specs.Measure.{one_unless, steps_of_pool, rank}
 use Rattle.batch_model.specs.Sound.{IsSound}
 use Rattle.batch_model.specs.Steps.{DueStep}
@@ -20,6 +21,7 @@ use Rattle.model_lists.proofs.Tests.{and_first, and_second, or_first}
 use Rattle.model_lists.proofs.RowLists.{each_found, find_test}
 use Rattle.model_lists.proofs.KeyedLists.{sum_by-put_row}
 use Rattle.model_tables.proofs.PoolPut.{sound_pool_put}
+use Rattle.model_rules.proofs.NodeCounts.{one_if}
 use Rattle.model_rules.proofs.PoolDropped.{resizing_counts, pool_dropped_kept}
 use Rattle.model_rules.proofs.Rules.{IsDueKept, from_map}
 
@@ -39,7 +41,13 @@ module _ (seats : ℕ) (s : State) (h : IsSound seats s) (pool : PoolRow) (found
   rest_falls why counts =
       let first = found_first same_pool same_pool_equiv (ends_resize s) pool s.pools h.consistent.keys.pools found in
       let total = sum_by-put_row same_pool same_pool_equiv pool s.pools h.consistent.keys.pools first (steps_of_pool s) (at_rest why pool) (λ x. refl) in
-      lex_next _ _ _ _ (omega arith) (lex_first _ _ _ _ (omega (arith, total, counts)) refl)
+      let sampled =
+      sum_by-put_row same_pool same_pool_equiv pool s.pools h.consistent.keys.pools first (λ other. one_if (is_to_sample s other)) (at_rest why pool) (λ x. refl)
+      in
+      let scaled =
+      sum_by-put_row same_pool same_pool_equiv pool s.pools h.consistent.keys.pools first (λ other. one_if (is_to_scale s other)) (at_rest why pool) (λ x. refl)
+      in
+      lex_next _ _ _ _ (omega (arith, sampled, scaled)) (lex_next _ _ _ _ (omega arith) (lex_first _ _ _ _ (omega (arith, total, counts)) refl))
 
   -- a pool that is not being deleted is steady
   rest_kept : (end : ResizeEnd) (why : Option ResizeError) → not pool.deleting ≡ true → one_unless (is_steady pool.alloc) ≡ 1

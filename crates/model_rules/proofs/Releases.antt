@@ -118,7 +118,7 @@ module _ (seats : ℕ) (s : State) (h : IsSound seats s) where
           sound =
               subst (λ (runs : List RunRow). IsSound seats (record s { runs = runs })) (sym alike)
               (sound_runs_halted is_it s (λ row t. and_second (is_run run.number row) (is_none row.task) t) seats h);
-          falls = lex_next _ _ _ _ (omega arith) (lex_next _ _ _ _ (omega arith) (lex_first _ _ _ _ (omega (arith, less)) refl));
+          falls = lex_next _ _ _ _ (omega arith) (lex_next _ _ _ _ (omega arith) (lex_next _ _ _ _ (omega arith) (lex_first _ _ _ _ (omega (arith, less)) refl)));
           places = tt;
           ends = tt;
           releases = tt;
@@ -302,7 +302,7 @@ module _ (seats : ℕ) (s : State) (h : IsSound seats s) (left : has_number_left
       let none : count_by can_be_asked (s.runs ++ run ∷ []) ≡ count_by can_be_asked s.runs + 0 = count_append can_be_asked s.runs run in
       record {
         sound = sound_made;
-        falls = lex_next _ _ _ _ (omega arith) (lex_next _ _ _ _ (omega arith) (lex_first _ _ _ _ (omega (arith, fewer, none)) refl));
+        falls = lex_next _ _ _ _ (omega arith) (lex_next _ _ _ _ (omega arith) (lex_next _ _ _ _ (omega arith) (lex_first _ _ _ _ (omega (arith, fewer, none)) refl)));
         places = tt;
         ends = tt;
         releases = record { prep = prep; there = prep_there; completed = and_first _ prep.ran (and_first _ (is_unreleased prep.release) wants); first = is_first };

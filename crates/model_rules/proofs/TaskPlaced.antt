@@ -126,9 +126,9 @@ placed_falls seats s job node task state going test h f can =
     let others = sum_by-le-sum_by (steps_of_task (placed_with s node task state)) (steps_of_task s) s.tasks (steps_at_most s node task state) in
     let none : count_by can_be_asked (s.runs ++ work_run s node (placed task) TaskRun task.line task.slots state ∷ []) ≡ count_by can_be_asked s.runs + 0 =
     count_append can_be_asked s.runs (work_run s node (placed task) TaskRun task.line task.slots state) in
-    lex_next _ _ _ _ (omega arith)
+    lex_next _ _ _ _ (omega arith) (lex_next _ _ _ _ (omega arith)
     (lex_next _ _ _ _ (omega arith)
-    (lex_next _ _ _ _ (omega (arith, ends, one, timed, idle, idle_after, none)) (lex_first _ _ _ _ (omega (arith, steps, before, after, others)) refl)))
+    (lex_next _ _ _ _ (omega (arith, ends, one, timed, idle, idle_after, none)) (lex_first _ _ _ _ (omega (arith, steps, before, after, others)) refl))))
 
 -- on a node that is prepared
 

@@ -23,7 +23,7 @@ use Rattle.batch_model.specs.WellFormed.{is_closed_if_completed, is_task_in_rang
 use Rattle.batch_model.specs.WallTimes.{can_be_asked}
 use Rattle.batch_model.specs.Dues.{settle_first}
 use Rattle.batch_model.specs.Steps.{DueStep}
-use Rattle.batch_model.specs.Measure.{steps_of_task, can_time_out, jobs_left, pools_left, ends_left, tasks_left, rank}
+use Rattle.batch_model.specs.Measure.{scaling_left, steps_of_task, can_time_out, jobs_left, pools_left, ends_left, tasks_left, rank}
 use Rattle.batch_model.specs.Variants.{State, JobRow, TaskRow, TaskStage, Active, Placed, Completed, Closed, How, ByEnding, ByTermination, ByWall, Options, Ending}
 use Rattle.batch_model.specs.Variants.{NoCode, Want, WantRequeue, WantTerminate, WantWall, WantDelete, RunRow}
 use Rattle.model_lists.proofs.Tests.{passes_or_not, and_first, and_true, and_second, not_true}
@@ -136,7 +136,7 @@ module _ (seats : ℕ) (s : State) (h : IsSound seats s) (task : TaskRow) (found
       → IsDueKept seats s (settled task outcome (put_task (completed closing task) s))
   terminated_kept closing outcome now = record {
     sound = sound_completed closing now;
-    falls = lex_next _ _ _ _ (omega arith) (lex_next _ _ _ _ (omega arith) (lex_first _ _ _ _ (completed_ends closing) refl));
+    falls = lex_next _ _ _ _ (omega arith) (lex_next _ _ _ _ (omega arith) (lex_next _ _ _ _ (omega arith) (lex_first _ _ _ _ (completed_ends closing) refl)));
     places = tt;
     ends = tt;
     releases = tt;
@@ -180,12 +180,12 @@ module _ (seats : ℕ) (s : State) (h : IsSound seats s) (task : TaskRow) (found
       elim (passes_or_not (can_time_out task)) [
         | inl can ↦
             let counts : cond {A = ℕ} (can_time_out task) 1 0 ≡ 1 = rw can refl in
-            lex_next _ _ _ _ (omega arith) (lex_next _ _ _ _ (omega arith) (lex_first _ _ _ _ (omega (arith, ends, counted, timed, counts)) refl))
+            lex_next _ _ _ _ (omega arith) (lex_next _ _ _ _ (omega arith) (lex_next _ _ _ _ (omega arith) (lex_first _ _ _ _ (omega (arith, ends, counted, timed, counts)) refl)))
         | inr cannot ↦
             let counts : cond {A = ℕ} (can_time_out task) 1 0 ≡ 0 = rw cannot refl in
-            lex_next _ _ _ _ (omega arith)
+            lex_next _ _ _ _ (omega arith) (lex_next _ _ _ _ (omega arith)
             (lex_next _ _ _ _ (omega arith)
-            (lex_next _ _ _ _ (omega (arith, ends, counted, timed, counts)) (lex_first _ _ _ _ (omega (arith, steps, before)) refl)))
+            (lex_next _ _ _ _ (omega (arith, ends, counted, timed, counts)) (lex_first _ _ _ _ (omega (arith, steps, before)) refl))))
       ]
 
   -- with failures that are not above its attempt
@@ -217,7 +217,7 @@ module _ (seats : ℕ) (s : State) (h : IsSound seats s) (task : TaskRow) (found
       let asked = sum_kept (λ run. not (is_run_of_task task.job task.id run)) (λ (run : RunRow). cond {A = ℕ} (can_be_asked run) 1 0) s.runs in
       record {
         sound = sound_task_dropped task s seats h;
-        falls = lex_next _ _ _ _ (omega arith) (lex_next _ _ _ _ (omega arith) (lex_first _ _ _ _ (omega (arith, fewer, timed, asked)) refl));
+        falls = lex_next _ _ _ _ (omega arith) (lex_next _ _ _ _ (omega arith) (lex_next _ _ _ _ (omega arith) (lex_first _ _ _ _ (omega (arith, fewer, timed, asked)) refl)));
         places = tt;
         ends = tt;
         releases = tt;
@@ -240,7 +240,7 @@ module _ (seats : ℕ) (s : State) (h : IsSound seats s) (task : TaskRow) (found
       falls =
           acted_below seats (put_task (completed (closing_by cause succeeded options) task) s)
           (sound_completed (closing_by cause succeeded options) (is_not_after_itself s.moment)) (is_job task.job) job job_found
-          (job_is_loud seats s h task job found job_found) (jobs_left s) (pools_left s) (ends_left s) (tasks_left s) (omega arith) (omega arith)
+          (job_is_loud seats s h task job found job_found) (scaling_left s) (jobs_left s) (pools_left s) (ends_left s) (tasks_left s) (omega arith) (omega arith) (omega arith)
           (completed_ends (closing_by cause succeeded options)) options.job;
       places = tt;
       ends = tt;

@@ -121,7 +121,7 @@ module _ (seats : ℕ) (s : State) (h : IsSound seats s) where
         in
         record {
           sound = sound_one_stopped seats s task.job task.id WantWall h;
-          falls = lex_next _ _ _ _ (omega arith) (lex_next _ _ _ _ (omega arith) (lex_first _ _ _ _ (omega (arith, same_ends, less, no_more)) refl));
+          falls = lex_next _ _ _ _ (omega arith) (lex_next _ _ _ _ (omega arith) (lex_next _ _ _ _ (omega arith) (lex_first _ _ _ _ (omega (arith, same_ends, less, no_more)) refl)));
           places = tt;
           ends = tt;
           releases = tt;
@@ -145,8 +145,8 @@ module _ (seats : ℕ) (s : State) (h : IsSound seats s) where
         sound = sound_closed seats s Terminating wall_time_over made.0 h (job_valid seats s h (is_job_timed_out s) made.0 made.2) wall_time_reason refl
             (found_waits s (is_job_timed_out s) made.0 made.2);
         falls =
-            lex_first _ _ _ _
-            (fewer_steps seats s h (is_job_timed_out s) made.0 (job_for Terminating wall_time_over made.0) made.2 refl (open_steps made.0.state open_before)) refl;
+            lex_next _ _ _ _ (omega arith) (lex_first _ _ _ _
+            (fewer_steps seats s h (is_job_timed_out s) made.0 (job_for Terminating wall_time_over made.0) made.2 refl (open_steps made.0.state open_before)) refl);
         places = tt;
         ends = tt;
         releases = tt;

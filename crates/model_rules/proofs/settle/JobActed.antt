@@ -12,7 +12,7 @@ use Rattle.batch_model.specs.Jobs.{can_disable, is_past, is_quiet, job_in}
 use Rattle.batch_model.specs.Stops.{wanting, is_stopped, is_run_of_stopped, stop, disable, terminate, job_for}
 use Rattle.batch_model.specs.Settling.{is_over, task_failed, act, act_if_asked}
 use Rattle.batch_model.specs.WallTimes.{can_be_asked}
-use Rattle.batch_model.specs.Measure.{steps_of_job, can_time_out, jobs_left, pools_left, ends_left, rank}
+use Rattle.batch_model.specs.Measure.{scaling_left, steps_of_job, can_time_out, jobs_left, pools_left, ends_left, rank}
 use Rattle.batch_model.specs.Sound.{IsSound}
 use Rattle.batch_model.specs.WellFormed.{has_no_placed_if_quiet}
 use Rattle.batch_model.specs.Variants.{State, JobRow, JobState, JobActive, Disabling, Disabled, Enabling, Terminating, JobCompleted, Deleting, JobAction, NoAction}
@@ -111,14 +111,14 @@ module _ (seats : ℕ) (s : State) (h : IsSound seats s) (test : JobRow → Bool
 
   -- their rank
 
-  module _ (loud : is_quiet job.state ≡ false) (jobs pools ends tasks : ℕ) (jobs_below : jobs_left s ≤ jobs) (pools_below : pools_left s ≤ pools)
+  module _ (loud : is_quiet job.state ≡ false) (scaling jobs pools ends tasks : ℕ) (scaling_below : scaling_left s ≤ scaling) (jobs_below : jobs_left s ≤ jobs) (pools_below : pools_left s ≤ pools)
       (ends_below : ends_left s < ends) where
     -- below these numbers
     abbrev IsBelow : State → Type 0
-    IsBelow after = lex_lt (rank after) (jobs ∷ pools ∷ ends ∷ tasks ∷ []) ≡ true
+    IsBelow after = lex_lt (rank after) (scaling ∷ jobs ∷ pools ∷ ends ∷ tasks ∷ []) ≡ true
 
     unchanged_below : IsBelow s
-    unchanged_below = lex_next _ _ _ _ jobs_below (lex_next _ _ _ _ pools_below (lex_first _ _ _ _ ends_below refl))
+    unchanged_below = lex_next _ _ _ _ scaling_below (lex_next _ _ _ _ jobs_below (lex_next _ _ _ _ pools_below (lex_first _ _ _ _ ends_below refl)))
 
     disabled_below : (b : Bool) → can_disable job.state ≡ b → IsBelow (cond b (disable job Requeue s) s)
     disabled_below true can =
@@ -130,8 +130,9 @@ module _ (seats : ℕ) (s : State) (h : IsSound seats s) (test : JobRow → Bool
         (disabling_at_most job.state can loud) jobs_below
         in
         let ends_less : ends_left (disable job Requeue s) ≤ ends_left s = stop_ends_less (put_job (job_in Disabling job) s) (is_in_job job.id) in
-        lex_next _ _ _ _ jobs_less
-        (lex_next _ _ _ _ pools_below (lex_first _ _ _ _ (still_below (ends_left (disable job Requeue s)) (ends_left s) ends ends_less ends_below) refl))
+        lex_next _ _ _ _ scaling_below
+        (lex_next _ _ _ _ jobs_less
+        (lex_next _ _ _ _ pools_below (lex_first _ _ _ _ (still_below (ends_left (disable job Requeue s)) (ends_left s) ends ends_less ends_below) refl)))
     disabled_below false can = unchanged_below
 
     terminated_below : (b : Bool) → is_past job.state ≡ b → IsBelow (cond b s (terminate task_failed job s))
@@ -140,7 +141,7 @@ module _ (seats : ℕ) (s : State) (h : IsSound seats s) (test : JobRow → Bool
         let less : jobs_left (terminate task_failed job s) < jobs_left s =
         fewer_steps seats s h test job (job_for Terminating task_failed job) found refl (open_steps job.state (true_not going))
         in
-        lex_first _ _ _ _ (below_still (jobs_left (terminate task_failed job s)) (jobs_left s) jobs less jobs_below) refl
+        lex_next _ _ _ _ scaling_below (lex_first _ _ _ _ (below_still (jobs_left (terminate task_failed job s)) (jobs_left s) jobs less jobs_below) refl)
 
     act_below : (action : JobAction) → IsBelow (act action job s)
     act_below NoAction = unchanged_below
