@@ -1,16 +1,13 @@
 -- What is not built yet.
-use Rattle.std.specs.Prelude.{List, [], ◌∷◌, map, replicate, Some, None, codes, false}
-use Rattle.bt_rows.specs.declared.event.EventKind.{EventKind}
-use Rattle.bt_rows.specs.declared.event.EventKind.TheVariants.{AddPool, DisableAutoscale, EvaluateAutoscale, AddJob}
+use Rattle.std.specs.Prelude.{List, [], ◌∷◌, Some, None, codes, false}
+use Rattle.bt_rows.specs.declared.event.EventKind.TheVariants.{AddPool, AddJob}
 use Rattle.bt_rows.specs.declared.event.EventKind.TheVariants.{AddTask, AddTasks}
-use Rattle.bt_rows.specs.declared.reply.Reply.{Reply}
 use Rattle.bt_rows.specs.declared.reply.Element.TheVariants.{Added, NotAdded}
 use Rattle.bt_rows.specs.declared.reply.Reply.TheVariants.{Status, Refused, Elements}
 use Rattle.bt_rows.specs.declared.refusal.Refusal.TheVariants as refusal
 use Rattle.bt_rows.specs.declared.due.ResizeEnd.TheVariants.{Reached}
 use Rattle.bt_rows.specs.declared.due.Due.TheVariants.{PoolResized, NodeAdded, TaskPlaced}
-use Rattle.batch_model.specs.Variants.{empty_state, Steady, Usable, JobActive, Active, Placed, TaskRun, Queued}
-use Rattle.batch_model.specs.Events.{event_step}
+use Rattle.batch_model.specs.Variants.{Steady, Usable, JobActive, Active, Placed, TaskRun, Queued}
 use Rattle.model_scripts.specs.Scripts.{Call, at, Line, line, Sheet}
 use Rattle.model_scripts.specs.Bodies.{pool_body, job_body, task_body}
 
@@ -45,25 +42,3 @@ instance_tasks_rows = record {
   runs = (1, TaskRun, 1, codes "p", (Some (codes "j"), Some (codes "e"), 1), Queued, 0, None, None) ∷ [];
   moment = 0;
 }
-
--- a pool that scales automatically
-abbrev pub unheeded_pools : List Call
-unheeded_pools =
-    at 0 (AddPool (record (pool_body (codes "r") 1) { scale = Some (record { formula = codes "1"; interval = 900000 }) }))
-    ∷ []
-
-abbrev pub unheeded_pools_lines : List Line
-unheeded_pools_lines = line (Refused refusal.UnreadableBody) [] ∷ []
-
-abbrev pub unheeded_pools_rows : Sheet
-unheeded_pools_rows = record { pools = []; nodes = []; jobs = []; tasks = []; runs = []; moment = 0 }
-
--- events of formulas, which are not built yet
-abbrev pub unbuilt : List EventKind
-unbuilt = DisableAutoscale (codes "p") ∷ EvaluateAutoscale (codes "p") (codes "1") ∷ []
-
-abbrev pub replies_to_unbuilt : List Reply
-replies_to_unbuilt = map (λ event. (event_step 0 event empty_state).reply) unbuilt
-
-abbrev pub all_unreadable : List Reply
-all_unreadable = replicate 2 (Refused refusal.UnreadableBody)

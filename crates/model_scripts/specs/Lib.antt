@@ -12,6 +12,7 @@ pub mod OpeningScripts
 pub mod PlacingScripts
 pub mod PoolScripts
 pub mod ResizeScripts
+pub mod ScalingScripts
 pub mod Scripts
 pub mod SlotScripts
 pub mod StartScripts

@@ -12,15 +12,3 @@ pub fn tasks_with_instances_are_not_read_yet()
     ensures rows { rows_after row.instance_tasks ≡ row.instance_tasks_rows }
     ensures good { is_good row.instance_tasks ≡ true }
 {}
-
-/// A pool that scales automatically is not read yet.
-pub fn pools_that_scale_are_not_read_yet()
-    ensures lines { lines_of row.unheeded_pools ≡ row.unheeded_pools_lines }
-    ensures rows { rows_after row.unheeded_pools ≡ row.unheeded_pools_rows }
-    ensures good { is_good row.unheeded_pools ≡ true }
-{}
-
-/// Events that are not read yet.
-pub fn events_are_not_read_yet()
-    ensures { row.replies_to_unbuilt ≡ row.all_unreadable }
-{}

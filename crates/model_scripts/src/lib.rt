@@ -15,6 +15,7 @@ mod openings;
 mod placing;
 mod pools;
 mod resizes;
+mod scaling;
 mod slots;
 mod starts;
 mod ticks;
@@ -42,10 +43,7 @@ pub use endings::{any_other_ending_is_a_failure, the_limit_of_the_task_goes_befo
 pub use first_path::{
     a_task_ends_with_success, nothing_comes_of_no_calls, runs_are_taken_and_ended_once,
 };
-pub use later::{
-    events_are_not_read_yet, pools_that_scale_are_not_read_yet,
-    tasks_with_instances_are_not_read_yet,
-};
+pub use later::tasks_with_instances_are_not_read_yet;
 pub use leaving::{
     a_preparation_goes_on, a_queued_preparation_leaves, a_requeued_task_goes_on_another_node,
     a_taken_preparation_leaves, deleted_tasks_retain_nothing, earlier_attempts_are_retained,
@@ -68,6 +66,10 @@ pub use pools::{
 pub use resizes::{
     a_pool_grows, a_pool_grows_while_a_node_leaves, a_resize_is_stopped, a_resize_keeps_its_target,
     nodes_of_other_pools_stay, nodes_with_fewest_slots_leave_first, resizes_are_refused,
+};
+pub use scaling::{
+    a_fault_leaves_the_pool, a_pool_follows_the_processors, formulas_are_evaluated,
+    samples_are_handed_in, scaling_is_enabled_again,
 };
 pub use slots::{
     a_task_fits_no_smaller_node, a_wide_task_is_passed_over, fill_types_go_before_numbers,
