@@ -18,7 +18,7 @@ use Rattle.formula_eval.specs.declared.fault.EvalFault.{EvalFault}
 use Rattle.formula_eval.specs.declared.outcome.Targets.{Targets}
 use Rattle.formula_eval.specs.declared.outcome.Outcome.{Outcome}
 use Rattle.formula_eval.specs.Statements.{evaluated}
-use Rattle.formula_eval.specs.Results.{results_text}
+use Rattle.formula_eval.specs.Results.{error_text, results_text}
 
 -- the first `count` bytes are the longest prefix that is UTF-8
 pub record IsLongestText (bytes : List ℕ) (count : ℕ) : Type 0 where
@@ -26,9 +26,9 @@ pub record IsLongestText (bytes : List ℕ) (count : ℕ) : Type 0 where
   pub text : IsSome (utf8_text (take count bytes))
   pub longest : (more : ℕ) → count < more → more ≤ length bytes → utf8_text (take more bytes) ≡ None
 
--- `error`, a fault's name and its place
-unfoldable pub fault_line : List ℕ → ℕ → List ℕ
-fault_line name place = codes "error " ++ name ++ codes " " ++ decimal place ++ 10 ∷ []
+-- `error`, a fault's name and its place, and a line's end
+abbrev pub fault_line : List ℕ → ℕ → List ℕ
+fault_line name place = error_text name place ++ 10 ∷ []
 
 -- what is written of a fault, and its place
 pub record ShownFault : Type 0 where

@@ -1,5 +1,5 @@
 //! Evaluation of formulas: `specs/Evaluation.antt` says which value an expression has, `specs/Statements.antt` what a formula
-//! sets, `specs/Results.antt` how the results are written.
+//! sets, `specs/Results.antt` how the results and faults are written.
 #![tactic(auto)]
 
 mod calls;
@@ -17,4 +17,4 @@ mod values;
 pub use fault::EvalFault;
 pub use formula::evaluate;
 pub use outcome::{Outcome, Targets, Variable, Variables};
-pub use results::results_text;
+pub use results::{error_text, results_text};

@@ -1,6 +1,6 @@
-//! The text of results.
+//! The text of results, and that of a fault.
 ghost use Rattle.std.specs.Prelude.{◌≡◌, ◌++◌, IfOk, string_bytes};
-ghost use Rattle.formula_eval.specs.Results.{has_dollar, shown_name, variable_text, variables_text, settings_text, results_text};
+ghost use Rattle.formula_eval.specs.Results.{has_dollar, shown_name, variable_text, variables_text, settings_text, results_text, error_text};
 ghost use Rattle.bt_base.specs.DeallocOptions.{option_word};
 
 use crate::outcome::{Outcome, Variable};
@@ -68,5 +68,17 @@ pub fn results_text(alloc: Global, outcome: &Outcome) -> Result<Text, NoMemory>
     let targets = outcome.targets;
     let mut text = settings_text(alloc, targets.dedicated, targets.low, word)?;
     push_variables(alloc, &mut text, outcome.variables.as_slice())?;
+    Text::of_string(text)
+}
+
+/// `error`, a fault's name and its place, which counts the text's bytes from 0. Returns `NoMemory` if it is out of memory.
+#[tactic(auto, unfolding(crate::specs::Results::error_text))]
+pub fn error_text(alloc: Global, name: &str, place: usize) -> Result<Text, NoMemory>
+    ensures { IfOk result (λ text. text ≡ error_text name.now place) }
+{
+    let mut text = String::from_str(alloc, "error ")?;
+    text.push_str(name)?;
+    text.push(' ')?;
+    write!(text, "{place}")?;
     Text::of_string(text)
 }
