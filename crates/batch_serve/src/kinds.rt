@@ -6,7 +6,7 @@ ghost use Rattle.batch_serve.specs.Works.{LaneWorks, TimerWorks, DoorWorks, Work
 use crate::monitor::ServiceMonitor;
 use crate::work::Work;
 use crate::worker::{Door, Lane, Timer, WorkerKind};
-use batch_ask::Ask;
+use batch_desk::Ask;
 use batch_crew::{run_lane, run_timer};
 use batch_http::HttpService;
 use batch_keeper::Keeper;

@@ -3,7 +3,7 @@ use Rattle.std.proofs.Common.{◌≡◌, ℕ, Bool, false, List, [], ◌∷◌, 
 use Rattle.std.specs.List.{list_any}
 use Rattle.std.proofs.Math.Bool.{or-false}
 use Rattle.std.proofs.lemmas.List.Folds.{list_any-append}
-use Rattle.batch_ask.specs.Exchanges.{Exchange, Called, Looked, Leads}
+use Rattle.batch_desk.specs.Exchanges.{Exchange, Called, Looked, Leads}
 use Rattle.http_serving.specs.declared.end.End.{End}
 use Rattle.batch_http.specs.Connections.{GivesMoments}
 use Rattle.link_doors.specs.declared.accepted.Accepted.{Accepted}

@@ -2,7 +2,7 @@
 use Rattle.std.specs.Prelude.{◌≡◌, ◌≤◌, ◌++◌, ◌∷◌, [], ℕ, Bool, true, false, List, Option}
 use Rattle.std.specs.List.{list_any}
 use Rattle.bt_base.specs.Causes.{Rose}
-use Rattle.batch_ask.specs.Exchanges.{Exchange, Leads}
+use Rattle.batch_desk.specs.Exchanges.{Exchange, Leads}
 use Rattle.http_serving.specs.declared.end.End.{End}
 use Rattle.http_serving.specs.declared.end.End.TheVariants.{LinkFault, Memory}
 use Rattle.batch_http.specs.Services.{HttpService}

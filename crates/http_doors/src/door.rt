@@ -4,7 +4,7 @@ ghost use Rattle.bt_base.specs.Causes.{Rose};
 ghost use Rattle.http_doors.specs.declared.door.NoLink.TheVariants.{Ended as NoLinkEnded, Failed as NoLinkFailed};
 ghost use Rattle.http_doors.specs.Doors.{DoorState, is_memory, ServesOne, FindsNone, ServesAll};
 
-use batch_ask::Ask;
+use batch_desk::Ask;
 use batch_http::{HttpService, serve};
 use bt_clock::Clock;
 use http_serving::End;

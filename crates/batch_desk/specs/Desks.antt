@@ -13,7 +13,7 @@ use Rattle.batch_desk.specs.declared.entry.Entry.{Entry}
 use Rattle.batch_desk.specs.Kept.{Desk}
 use Rattle.batch_desk.specs.History.{done_entry, fault_entry}
 use Rattle.batch_desk.specs.Answers.{AnswersCall, HasSameOpening, IsInOrder}
-use Rattle.batch_ask.specs.Exchanges.{Exchange, Called, Looked, Leads}
+use Rattle.batch_desk.specs.Exchanges.{Exchange, Called, Looked, Leads}
 
 module _ {K : Type 0} (told : K → Option State) (faults : K → ℕ) where
   -- a call was answered so

@@ -7,8 +7,8 @@ use Rattle.batch_desk.specs.declared.answer.Answer.{Answer}
 use Rattle.batch_desk.specs.declared.answer.Answer.TheVariants.{Done, KeeperFault, JournalFull, Memory}
 use Rattle.batch_desk.specs.Kept.{Desk}
 use Rattle.batch_desk.specs.Answers.{AnswersCall, HasSameOpening, IsInOrder}
-use Rattle.batch_ask.specs.Exchanges.{Exchange, Called, Looked, Leads}
-use Rattle.batch_ask.specs.Desks.{IsExchange, call_entries, entries_of, LeavesDesk}
+use Rattle.batch_desk.specs.Exchanges.{Exchange, Called, Looked, Leads}
+use Rattle.batch_desk.specs.Desks.{IsExchange, call_entries, entries_of, LeavesDesk}
 
 module _ {K : Type 0} (told : K → Option State) (faults : K → ℕ) where
   -- a call adds its entries
