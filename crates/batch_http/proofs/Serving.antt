@@ -7,7 +7,7 @@ use Rattle.batch_desk.specs.Exchanges.{Exchange, Called, Looked, Leads}
 use Rattle.http_serving.specs.declared.end.End.{End}
 use Rattle.batch_http.specs.Connections.{GivesMoments}
 use Rattle.link_doors.specs.declared.accepted.Accepted.{Accepted}
-use Rattle.http_doors.specs.Doors.{DoorState, is_memory, FindsNone, ServesOne, AreServed, none, more, exchanges_of, HasServed, ServesAll}
+use Rattle.batch_http.specs.Doors.{DoorState, is_memory, FindsNone, ServesOne, AreServed, none, more, exchanges_of, HasServed, ServesAll}
 
 -- exchanges lead an asker on from where others have led it
 lead_on : {A : Type 0} (exchanged : A → Exchange → A → Type 0) (old middle new : A) (xs ys : List Exchange)

@@ -1,11 +1,15 @@
-//! A door.
+//! Doors: a door serves the links of a listener, one after the other, and hands each back. `serve_links` returns once the listener has
+//! ended or failed, and stands in a relation to the links that the listener gave and took back, to how each was served and how its
+//! connection ended, and to the exchanges of all of them (`specs/Doors.antt`). It may wait for peers, and that it returns is not proved.
+//! In which thread a door runs, and over which desk, is for its caller to say.
 ghost use Rattle.std.specs.Prelude.{◌≡◌, ◌≤◌, true, false, Err, MatchResult};
 ghost use Rattle.bt_base.specs.Causes.{Rose};
-ghost use Rattle.http_doors.specs.declared.door.NoLink.TheVariants.{Ended as NoLinkEnded, Failed as NoLinkFailed};
-ghost use Rattle.http_doors.specs.Doors.{DoorState, is_memory, ServesOne, FindsNone, ServesAll};
+ghost use Rattle.batch_http.specs.declared.doors.NoLink.TheVariants.{Ended as NoLinkEnded, Failed as NoLinkFailed};
+ghost use Rattle.batch_http.specs.Doors.{DoorState, is_memory, ServesOne, FindsNone, ServesAll};
 
+use crate::connection::serve;
+use crate::service::HttpService;
 use batch_desk::Ask;
-use batch_http::{HttpService, serve};
 use bt_clock::Clock;
 use http_serving::End;
 use link_doors::{Accepted, Listener};
@@ -65,10 +69,10 @@ fn serve_next<A: Ask, C: Clock, N: Listener>(
     }
 }
 
-/// Serves the links that the listener gives, one after the other, and hands each back: see `batch_http::serve`. It goes on with the
+/// Serves the links that the listener gives, one after the other, and hands each back: see `serve`. It goes on with the
 /// next link whatever the end of a connection was, and returns once the listener has ended, or failed in this call. The exchanges of
 /// all these links, joined in order, lead the service's asker from its state before the call to that after it. It allocates only what
-/// `batch_http::serve` does, and may wait for a peer forever.
+/// `serve` does, and may wait for a peer forever.
 pub fn serve_links<A: Ask, C: Clock, N: Listener, R: Wait>(
     rt: &R,
     alloc: Global,

@@ -1,6 +1,6 @@
 use Rattle.std.proofs.Common.{◌≡◌, ◌≤◌, false}
-use Rattle.http_doors.specs.Doors.{HasServed}
-use Rattle.http_doors.proofs.door.serve_links.Given as goal
+use Rattle.batch_http.specs.Doors.{HasServed}
+use Rattle.batch_http.proofs.doors.serve_links.Given as goal
 
 -- no link is out, and the links so far were served and handed back
 abbrev pub invariant-loop : goal.invariant-loop

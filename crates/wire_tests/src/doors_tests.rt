@@ -2,11 +2,10 @@
 ghost use Rattle.std.specs.Prelude.{◌≡◌, false};
 
 use batch_desk::Desk;
-use batch_http::HttpService;
+use batch_http::{DoorEnd, HttpService, serve_links};
 use batch_keeper::MemoryKeeper;
 use bt_clock::ListClock;
 use bt_rows::tables::Tables;
-use http_doors::{DoorEnd, serve_links};
 use http_link::SureLink;
 use link_doors::{Accepted, Listener, MemoryListener, SureListener};
 use std::alloc::{AllocError, Global};

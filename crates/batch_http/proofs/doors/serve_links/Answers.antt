@@ -1,6 +1,6 @@
 use Rattle.std.proofs.Common.{arith}
-use Rattle.http_doors.proofs.Serving.{nothing, one_more, all}
-use Rattle.http_doors.proofs.door.serve_links.Goals as goal
+use Rattle.batch_http.proofs.Serving.{nothing, one_more, all}
+use Rattle.batch_http.proofs.doors.serve_links.Goals as goal
 
 pub loop-init : goal.loop-init
 loop-init g c = record {
