@@ -106,7 +106,8 @@ pub enum CloseError {
     Fault(WriteFault),
     /// Memory ran out when the log was to be copied. Nothing is lost either.
     Memory,
-    /// So many writes are not in the file, the last ones, since it could not be written.
+    /// So many writes, the last ones, are not in the file, since it could not be written; or nobody can say whether they are, since the store
+    /// has shut itself.
     Unwritten(u64),
 }
 
@@ -120,14 +121,14 @@ impl From<Error> for CloseError {
 }
 
 impl fmt::Display for CloseError {
-    /// One line: the cause, what a user can do, and that nothing is lost.
+    /// One line: the cause, what a user can do, and what is lost, if anything is.
     fn fmt<W: fmt::Write>(&self, f: &mut fmt::Formatter<W>) -> fmt::Result {
         match self {
             CloseError::Fault(fault) => write!(f, "{fault}")?,
             CloseError::Memory => f.write_str("out of memory: give the program more memory")?,
             CloseError::Unwritten(count) => return write!(
                 f,
-                "it could not be written for a minute, or is shut; the last {count} saves are not in it: calls and steps of which nothing was shown yet"
+                "it could not be written for a minute, or is shut; the last {count} saves are not in it, or may not be if it is shut: calls and steps of which nothing was shown yet"
             ),
         }
         f.write_str(

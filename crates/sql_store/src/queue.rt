@@ -15,6 +15,9 @@ const FIRST_PAUSE_MS: u64 = 50;
 /// The longest pause between two attempts, in milliseconds.
 const LAST_PAUSE_MS: u64 = 5_000;
 
+/// How long one waits at most for the attempt of another one without looking again, in milliseconds.
+const LONGEST_WAIT_MS: u64 = 3_600_000;
+
 /// How many edits wait at most before a write has them written, so that a command that shows nothing for long does not keep them all in memory.
 const MAX_EDITS: usize = 4_096;
 
@@ -132,10 +135,8 @@ pub enum Step {
     Closed,
     /// To make this attempt.
     Make(Attempt),
-    /// To wait until another one has made its attempt.
-    Wait,
-    /// To wait so long, or until another one has made an attempt.
-    Pause(Duration),
+    /// To wait until another one has made an attempt, and for this time at most.
+    Wait(Duration),
 }
 
 /// Writes that are not in the file yet, in their order, and the file while nobody writes.
@@ -291,10 +292,10 @@ impl<M: StoreMonitor + Drop> Queue<M> {
             return Step::Closed;
         }
         if let Some(left) = self.pause(rt) {
-            return Step::Pause(left);
+            return Step::Wait(left);
         }
         let Some(file) = self.file.take() else {
-            return Step::Wait;
+            return Step::Wait(Duration::from_millis(LONGEST_WAIT_MS));
         };
         let (edits, last) = self.take_edits();
         Step::Make(Attempt { file, edits, last })

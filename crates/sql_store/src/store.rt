@@ -3,7 +3,7 @@ ghost use Rattle.std.specs.Prelude.{◌≡◌, ◌≤◌, ◌+◌, ◌-◌, ◌^
 ghost use Rattle.batch_keeper.specs.Told.{FailsWithCause};
 
 use crate::error::OpenError;
-use crate::fault::{CloseError, WriteError};
+use crate::fault::{CloseError, WriteError, WriteFault};
 use crate::health::StoreHealth;
 use crate::look::{Found, look};
 use crate::monitor::{StoreMonitor, Watch};
@@ -211,8 +211,8 @@ impl<R: Wait + Clock + Drop, M: StoreMonitor + Drop> SqlStore<R, M> {
     /// was written; the log stays beside it, with no rows. A store that is dropped leaves rows in the log, and then the file and its log
     /// belong together; writes that were not waited for are lost then.
     ///
-    /// `Unwritten` comes if writes could not be made in that time: they are lost, and nobody who waited for them was told that they are
-    /// in the file. Another error comes if the log cannot be copied, as on a full disk. Nothing is lost then: the log beside the file has
+    /// `Unwritten` comes if writes could not be made in that time, or if the store has shut itself: nobody who waited for them was told that they
+    /// are in the file, and they are lost, but that after a shut the file may have them. Another error comes if the log cannot be copied, as on a full disk. Nothing is lost then: the log beside the file has
     /// what was written, as if the store was dropped, and the next open finds it.
     pub fn close(self) -> Result<(), CloseError> {
         let _ = self.sync.wait(&self.rt, Some(LAST_WAIT_MS));
@@ -252,13 +252,19 @@ impl<R: Wait + Clock + Drop, M: StoreMonitor + Drop> SqlStore<R, M> {
         }
     }
 
+    // Why not all writes are in the file. If no attempt has failed, one takes too long.
+    fn unwritten_cause(&self) -> ReadError {
+        match self.sync.queue(&self.rt).fault() {
+            Some(WriteError::Fault(fault)) => ReadError::Fault(ReadFault::Unread(fault)),
+            Some(WriteError::Memory) => ReadError::Memory,
+            None => ReadError::Fault(ReadFault::Unread(WriteFault::CannotWrite)),
+        }
+    }
+
     // Reads the file once all writes are in it.
     fn read_file(&self, alloc: Global) -> Result<Stored, ReadError> {
         if self.sync.wait(&self.rt, Some(LAST_WAIT_MS)).is_err() {
-            return Err(match self.sync.queue(&self.rt).fault() {
-                Some(WriteError::Fault(fault)) => ReadError::Fault(ReadFault::Unread(fault)),
-                Some(WriteError::Memory) | None => ReadError::Memory,
-            });
+            return Err(self.unwritten_cause());
         }
         let mut file = self.sync.take_file(&self.rt);
         let read = read_all(alloc, &mut file.connection, &file.statements.reads);

@@ -14,9 +14,6 @@ struct Shared<M: StoreMonitor + Drop> {
     changed: Condvar,
 }
 
-/// How long one waits at most without looking again, in milliseconds.
-const LONGEST_WAIT_MS: u64 = 3_600_000;
-
 /// Why one waits no longer for writes that are not in the file.
 #[derive(Clone, Copy, Debug, PartialEq, Eq)]
 pub enum WaitFault {
@@ -104,8 +101,11 @@ impl<M: StoreMonitor + Drop> StoreSync<M> {
     }
 
     /// Waits until each write that has answered `Ok` up to now is in the file, so that no crash can lose it. With a limit, in milliseconds,
-    /// it waits no longer than that, but for an attempt of its own; 0 makes one attempt. `Shut` comes if the store has shut
-    /// itself, and `Closed` if it was closed meanwhile.
+    /// it waits no longer than that for others and between attempts; an attempt of its own takes as long as the disk. With 0 it makes an
+    /// attempt if one may be made at once, and does not wait.
+    ///
+    /// `Shut` comes if the store has shut itself, `Closed` if it was closed meanwhile, and `TimeOver` if the limit is over, or the clock cannot
+    /// be read.
     pub fn wait<R: Wait + Clock>(&self, rt: &R, limit_ms: Option<u64>) -> Result<(), WaitFault> {
         let mut queue = self.shared.queue.lock(rt);
         let number = queue.added();
@@ -126,21 +126,14 @@ impl<M: StoreMonitor + Drop> StoreSync<M> {
                     queue.end(rt, attempted);
                     self.shared.changed.notify_all();
                 }
-                Step::Wait => {
-                    let Some(left) = left_of(rt, limit, start) else {
-                        return Err(WaitFault::TimeOver);
-                    };
-                    let left = left.min(Duration::from_millis(LONGEST_WAIT_MS));
-                    queue = self.shared.changed.wait_timeout(rt, queue, left).0;
-                }
-                Step::Pause(pause) => {
+                Step::Wait(longest) => {
                     let Some(left) = left_of(rt, limit, start) else {
                         return Err(WaitFault::TimeOver);
                     };
                     queue = self
                         .shared
                         .changed
-                        .wait_timeout(rt, queue, pause.min(left))
+                        .wait_timeout(rt, queue, longest.min(left))
                         .0;
                 }
             }
