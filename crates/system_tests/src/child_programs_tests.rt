@@ -244,9 +244,8 @@ fn a_program_is_not_started_without_leave(rt: HostRuntime) -> Result<(), Fail> {
     let mut spawner = ProgramSpawner::new(rt, &service.table, &service.folders, Refusing)?;
     let echoes = words(alloc, &["echo", "told"])?;
     let ended = spawner.run(alloc, &task_run(alloc)?, 90, echoes.as_slice());
-    let has_output = service
-        .content(&rt, "runs/film/frame-7/90/stdout.txt")
-        .is_ok();
+    let output = format!(in alloc; "{}/film/frame-7/90/stdout.txt", service.folders.runs())?;
+    let has_output = fs::metadata(&rt, output.as_str()).is_ok();
     service.remove(&rt)?;
     assert_eq!(rt; ended, Ran::NotStarted);
     assert!(rt; !has_output);
