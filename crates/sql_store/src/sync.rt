@@ -1,7 +1,8 @@
 //! Waiting until writes are in the file.
 use crate::monitor::{StoreMonitor, Watch};
-use crate::queue::{OpenFile, Queue, Step};
+use crate::queue::{Queue, Step};
 use bt_base::NoMemory;
+use sql_file::SqlFile;
 use std::alloc::Global;
 use std::sync::{Arc, Condvar, Mutex, MutexGuard, Wait};
 use std::time::{Clock, Duration, Instant};
@@ -48,7 +49,7 @@ impl<M: StoreMonitor + Drop> StoreSync<M> {
     /// No writes for this file. The only error is out of memory.
     pub(crate) fn new(
         alloc: Global,
-        file: OpenFile,
+        file: SqlFile,
         watch: Watch<M>,
     ) -> Result<StoreSync<M>, NoMemory> {
         let shared = Shared {
@@ -73,7 +74,7 @@ impl<M: StoreMonitor + Drop> StoreSync<M> {
     }
 
     /// The file, once nobody writes.
-    pub(crate) fn take_file<R: Wait>(&self, rt: &R) -> OpenFile {
+    pub(crate) fn take_file<R: Wait>(&self, rt: &R) -> SqlFile {
         let mut queue = self.shared.queue.lock(rt);
         for _ in rt.forever() {
             if let Some(file) = queue.take_file() {
@@ -85,7 +86,7 @@ impl<M: StoreMonitor + Drop> StoreSync<M> {
     }
 
     /// Takes the file back.
-    pub(crate) fn put_file<R: Wait>(&self, rt: &R, file: OpenFile) {
+    pub(crate) fn put_file<R: Wait>(&self, rt: &R, file: SqlFile) {
         self.shared.queue.lock(rt).put_file(file);
         self.shared.changed.notify_all();
     }

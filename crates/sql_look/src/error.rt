@@ -1,11 +1,11 @@
 //! Why a file was not opened, and what calls answer after errors of SQL.
 ghost use Rattle.std.specs.Prelude.{◌≡◌, ◌↔◌};
-ghost use Rattle.sql_store.specs.Answers.{answer_after};
-ghost use Rattle.sql_store.specs.declared.error.OpenError.TheVariants.{Memory as OpenMemory};
+ghost use Rattle.sql_look.specs.Answers.{answer_after};
+ghost use Rattle.sql_look.specs.declared.error.OpenError.TheVariants.{Memory as OpenMemory};
 ghost use Rattle.sqlite.specs.declared.error.Error.TheVariants.{SqliteFailure};
 ghost use Rattle.sqlite.specs.declared.error.ErrorCode.TheVariants.{OutOfMemory};
 
-use crate::shown::Shown;
+use crate::shown_name::Shown;
 use batch_keeper::KeepError;
 use bt_base::{NoMemory, Text};
 use sqlite::{Error, ErrorCode};
@@ -83,7 +83,7 @@ impl From<NoMemory> for OpenError {
 
 impl OpenError {
     /// Why SQL did not open, read or change a file that is there.
-    pub(crate) fn of_sql(error: Error) -> OpenError
+    pub fn of_sql(error: Error) -> OpenError
         ensures { result ≡ OpenMemory ↔ error ≡ SqliteFailure OutOfMemory }
     {
         match error {

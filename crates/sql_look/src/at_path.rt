@@ -1,7 +1,7 @@
 //! A look at a file that changes nothing of it, before it is opened.
 use crate::error::{ForeignFile, OpenError};
 use crate::schema::{Content, content_of};
-use crate::statements::make_tables;
+use crate::tables::make_tables;
 use os::RangeLock;
 use sqlite::{Connection, Error, ErrorCode, FileStore, Files, Options};
 use sqlite_disk::{Disk, Memory};

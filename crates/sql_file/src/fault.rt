@@ -1,12 +1,11 @@
-//! Why a write or a close failed.
-use crate::error::answer_after;
+//! Why a write or a close of the file failed.
 use batch_keeper::KeepError;
 use bt_base::NoMemory;
+use sql_look::answer_after;
 use sqlite::{Error, ErrorCode};
 use std::fmt;
 
-/// Why writes failed. None of their edits is in the file then, but after `Shut`, when the file has all of them or none. They are kept, and those
-/// who wait for them try again, but after `Shut`; until that succeeds, further writes are refused.
+/// Why a write failed. None of its edits is in the file then, but after `Shut`, when the file has all of them or none.
 #[derive(Clone, Copy, Debug, PartialEq, Eq)]
 pub enum WriteFault {
     /// The disk has no room for the log or the file.
@@ -15,10 +14,10 @@ pub enum WriteFault {
     CannotWrite,
     /// Another process has the file.
     Busy,
-    /// The disk did not confirm a write: the store does nothing more, and answers each call with a fault until it is opened again. The
-    /// writes that were waited for are in the file.
+    /// The disk did not confirm a write: the file does nothing more, and answers each call with a fault until it is opened again. What was
+    /// written before is in it.
     Shut,
-    /// A row or a number is greater than a file can have: the write is refused, and the next one is not.
+    /// A row or a number is greater than a file can have.
     TooLarge,
     /// What was read back is not what was written.
     Damaged,
@@ -76,7 +75,7 @@ pub enum WriteError {
 
 impl WriteError {
     /// What the write answers.
-    pub(crate) fn answer(&self) -> KeepError {
+    pub fn answer(&self) -> KeepError {
         match self {
             WriteError::Fault(_) => KeepError::Failed,
             WriteError::Memory => KeepError::Memory,
@@ -96,43 +95,5 @@ impl From<Error> for WriteError {
             KeepError::Failed => WriteError::Fault(WriteFault::of_sql(error)),
             KeepError::Memory => WriteError::Memory,
         }
-    }
-}
-
-/// Why a store was not closed as it should be.
-#[derive(Clone, Copy, Debug, PartialEq, Eq)]
-pub enum CloseError {
-    /// The file or its disk failed when the log was to be copied. Nothing is lost: the log beside the file has what was written.
-    Fault(WriteFault),
-    /// Memory ran out when the log was to be copied. Nothing is lost either.
-    Memory,
-    /// So many writes, the last ones, are not in the file, since it could not be written; or nobody can say whether they are, since the store
-    /// has shut itself.
-    Unwritten(u64),
-}
-
-impl From<Error> for CloseError {
-    fn from(error: Error) -> CloseError {
-        match answer_after(error) {
-            KeepError::Failed => CloseError::Fault(WriteFault::of_sql(error)),
-            KeepError::Memory => CloseError::Memory,
-        }
-    }
-}
-
-impl fmt::Display for CloseError {
-    /// One line: the cause, what a user can do, and what is lost, if anything is.
-    fn fmt<W: fmt::Write>(&self, f: &mut fmt::Formatter<W>) -> fmt::Result {
-        match self {
-            CloseError::Fault(fault) => write!(f, "{fault}")?,
-            CloseError::Memory => f.write_str("out of memory: give the program more memory")?,
-            CloseError::Unwritten(count) => return write!(
-                f,
-                "it could not be written for a minute, or is shut; the last {count} saves are not in it, or may not be if it is shut: calls and steps of which nothing was shown yet"
-            ),
-        }
-        f.write_str(
-            "; nothing is lost: the log beside the file, whose name ends in -wal, has what was saved, and the next start finds it",
-        )
     }
 }

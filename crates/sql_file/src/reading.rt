@@ -1,13 +1,12 @@
 //! Reading of all that a file contains.
-use crate::error::answer_after;
 use crate::fault::WriteFault;
 use crate::meta::{PLACE, is_set, name_of};
-use crate::shown::Shown;
 use crate::statements::Reads;
 use batch_keeper::KeepError;
 use bt_base::{NoMemory, Text};
 use keeper_store::{Entry, Metas, Stored};
 use row_texts::RowKind;
+use sql_look::{Shown, answer_after};
 use sqlite::types::ValueRef;
 use sqlite::{Alter, Connection, Error, Row, Statement};
 use std::alloc::Global;

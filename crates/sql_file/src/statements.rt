@@ -1,9 +1,5 @@
-//! The tables of a file, and the statements on them.
+//! The statements on the tables of a file.
 use sqlite::{Alter, Connection, Error, Statement};
-
-/// The tables, made together. `kind` is the number of a kind of rows, `place` the order of adding, and `body` the text of a row.
-const TABLES: &str =
-    "BEGIN; CREATE TABLE IF NOT EXISTS batch_row(kind INTEGER NOT NULL, key TEXT NOT NULL, place INTEGER NOT NULL, body TEXT NOT NULL, PRIMARY KEY(kind, key)); CREATE TABLE IF NOT EXISTS batch_meta(name TEXT PRIMARY KEY, value INTEGER NOT NULL); COMMIT";
 
 /// All rows of each kind, in order of adding.
 const ROWS: &str = "SELECT kind, key, body FROM batch_row ORDER BY kind, place";
@@ -80,11 +76,6 @@ impl Drop for Statements {
             writes: _writes,
         } = self;
     }
-}
-
-/// Makes the tables that are not there. After an error the connection may be in a transaction, and has to be dropped.
-pub fn make_tables<S: Alter>(connection: &mut Connection<S>) -> Result<(), Error> {
-    connection.execute_batch(TABLES)
 }
 
 // it has no clause, so that the proofs of its callers do not carry those of the kit's call
