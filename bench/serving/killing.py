@@ -1,6 +1,7 @@
 """Kills of a service (signal 9) while clients add tasks and child programs run, and what its store, its log and its child programs tell."""
 import contextlib
 import http.client
+import itertools
 import json
 import os
 import re
@@ -74,10 +75,18 @@ class Differs(Exception):
     """Two tables that no calls of clients and lanes lead from one to the other."""
 
 
+def change_jobs(now, kept):
+    """Calls that remove jobs whose tasks have all ended, and add others."""
+    calls = [f"delete-job {job}" for job in now.jobs if job not in kept.jobs] + [f"add-job {job}" for job in kept.jobs if job not in now.jobs]
+    now.tasks = {key: row for key, row in now.tasks.items() if key[0] in kept.jobs}
+    now.runs = {run: row for run, row in now.runs.items() if row[2] in kept.jobs}
+    return calls
+
+
 def calls_between(now, kept):
-    """Calls that lead from some tables to later ones, if only tasks were added, and runs taken and ended. Each node has one slot, so a run
-    is placed on a node after the one before it there has ended, or once its task is added."""
-    calls, tasks = [], list(kept.tasks)
+    """Calls that lead from some tables to later ones, if only a job was removed and one added, then tasks were added, and runs taken and ended.
+    Each node has one slot, so a run is placed on a node after the one before it there has ended, or once its task is added."""
+    calls, tasks = change_jobs(now, kept), list(kept.tasks)
 
     def finish(run):
         if kept.runs[run][4] != "ended":
@@ -113,22 +122,26 @@ def calls_between(now, kept):
 def explained(history, kept):
     """How many of the logged calls, and how many others, lead to the tables of a store; a text if none do. The log is written a moment
     after the calls, so the last ones may be missing: they follow from the tables, and `replay` must then come to the same."""
-    logged, _ = history.logged()
-    moment = Tables(kept).moment
-    calls, why = [each for each in logged if each[0] <= moment], "no call has this moment"
+    (logged, _), moment, why = history.logged(), Tables(kept).moment, "no call has this moment"
+    # a call may have an earlier moment than the one before it, and is made at the later one
+    reached = list(itertools.accumulate((each[0] for each in logged), max))
+    count = sum(each <= moment for each in reached)
     while True:
+        calls = logged[:count]
         _, text = history.replayed(calls)
         try:
             more = [(moment, history.bodies.get(line, line)) for line in calls_between(Tables(text), Tables(kept)) or ["tick"] * (moment != Tables(text).moment)]
-            if text == kept or more and history.replayed(calls + more)[1] == kept:
-                return len(calls), len(more)
-            why = f"{len(calls)} calls and {more} lead to other tables"
+            text = history.replayed(calls + more)[1] if more else text
+            if text == kept:
+                return count, len(more)
+            lines = [pair for pair in zip(text.splitlines(), kept.splitlines()) if pair[0] != pair[1]]
+            why = f"{count} calls of the log and {len(more)} more lead to other tables: {lines[:3]}"
         except Differs as error:
             why = str(error)
         # a call of the same moment may be logged, and not be in the store
-        if not calls or calls[-1][0] != moment:
+        if count == 0 or reached[count - 1] != moment:
             return why
-        calls.pop()
+        count -= 1
 
 
 class Kill:
@@ -217,20 +230,23 @@ class Kill:
         count = sum(job == self.job for job, _ in self.tables.tasks)
         done, counts = service.settled(self.job), service.counts(self.job)
         checks.check(f"{self.what}: all {count} tasks end with success", done and counts["succeeded"] == count, counts)
-        begun, rows = self.begun(), Tables(self.exported(service)).runs
-        ended = {run for run, row in rows.items() if row[2] == self.job and row[4] == "ended"}
-        torn = {run for run, row in self.tables.runs.items() if row[2] == self.job and row[4] == "taken"}
-        numbers = [run for run, _ in begun]
-        wrong = sorted({run for run in numbers if run not in ended | torn or numbers.count(run) > 1} | {run for run in ended if run not in numbers})
-        again = len(torn & set(numbers))
-        checks.check(f"{self.what}: {again} programs that ran are run once more, and nothing else", again >= 2 and not wrong and len(ended) == count, wrong)
+        ended = {(run, row[3]) for run, row in self.tables.runs.items() if row[2] == self.job and row[4] == "ended"}
+        torn = {(run, row[3]) for run, row in self.tables.runs.items() if row[2] == self.job and row[4] == "taken"}
+        # the log is written a moment after the calls
+        came = wait_for(lambda: len(ended | self.ended_again()) == count, 10)
+        begun, ended = self.begun(), ended | self.ended_again()
+        wrong = sorted({each for each in begun if each not in ended | torn or begun.count(each) > 1} | {each for each in ended if each not in begun})
+        again = len(torn & set(begun))
+        checks.check(f"{self.what}: {again} programs that ran are run once more, and nothing else", came and again >= 2 and not wrong, (len(ended), wrong))
         service.ask("DELETE", f"/jobs/{self.job}")
         checks.check(f"{self.what}: the job is deleted", wait_for(lambda: service.ask("GET", f"/jobs/{self.job}")[0] == 404), self.job)
 
-    def exported(self, service):
-        """The tables of a store while a service has it: those of a copy."""
-        self.history.keep("copy.db")
-        return service and self.history.run("export", "--store", "copy.db")
+    def ended_again(self):
+        """The runs that have ended since the start, each with its task, by the log."""
+        calls, told = self.history.logged()
+        placed = dict(re.findall(rf"^\d+ U16 {self.job} (\S+) \d+ (\d+)$", "\n".join(told), re.M))
+        tasks, ended = {run: task for task, run in placed.items()}, [line.split(" ")[1] for _, line in calls if line.startswith("end ")]
+        return {(run, tasks[run]) for run in ended if run in tasks}
 
 
 def kills(checks, path, folder, count, chance):
