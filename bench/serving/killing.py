@@ -119,28 +119,50 @@ def calls_between(now, kept):
     return calls
 
 
+def texts_between(history, calls):
+    """The tables texts after the last of the calls and each of its due steps, which were saved one after the other."""
+    tables, (moment, line) = Tables(history.replayed(calls[:-1])[1]), calls[-1]
+    answer, *steps = [each.split(" ", 1)[1] for each in history.replayed(calls)[0] if each.startswith(f"{len(calls)} ")]
+    tables.call(moment, line, int(answer.split(" ")[0]) < 400)
+    texts = [tables.text()]
+    for step in steps:
+        tables.step(step)
+        texts.append(tables.text())
+    return texts
+
+
+def place_of(history, logged, kept):
+    """How many calls that are not in the log lead from those that are to the tables of a store, and whether due steps of the last one are left.
+    The last one of them may be any: the others are put before it. It raises `Differs` if none do."""
+    text, moment = history.replayed(logged)[1], Tables(kept).moment
+    lines = calls_between(Tables(text), Tables(kept)) or ["tick"] * (moment != Tables(text).moment)
+    more = [(moment, history.bodies.get(line, line)) for line in lines]
+    text = history.replayed(logged + more)[1] if more else text
+    if text == kept:
+        return len(more), False
+    for last in reversed([each for each in more if each[1].startswith(("add-task ", "end "))]):
+        if kept in texts_between(history, logged + [each for each in more if each is not last] + [last]):
+            return len(more), True
+    pairs = [pair for pair in zip(text.splitlines(), kept.splitlines()) if pair[0] != pair[1]]
+    raise Differs(f"{len(logged)} calls of the log and {len(more)} more lead to other tables: {pairs[:3]}")
+
+
 def explained(history, kept):
-    """How many of the logged calls, and how many others, lead to the tables of a store; a text if none do. The log is written a moment
-    after the calls, so the last ones may be missing: they follow from the tables, and `replay` must then come to the same."""
+    """How the history leads to the tables of a store, and whether it does. The log is written a moment after the calls, so the last ones may be
+    missing: they follow from the tables, and `replay` must then come to the same."""
     (logged, _), moment, why = history.logged(), Tables(kept).moment, "no call has this moment"
     # a call may have an earlier moment than the one before it, and is made at the later one
     reached = list(itertools.accumulate((each[0] for each in logged), max))
     count = sum(each <= moment for each in reached)
     while True:
-        calls = logged[:count]
-        _, text = history.replayed(calls)
         try:
-            more = [(moment, history.bodies.get(line, line)) for line in calls_between(Tables(text), Tables(kept)) or ["tick"] * (moment != Tables(text).moment)]
-            text = history.replayed(calls + more)[1] if more else text
-            if text == kept:
-                return count, len(more)
-            lines = [pair for pair in zip(text.splitlines(), kept.splitlines()) if pair[0] != pair[1]]
-            why = f"{count} calls of the log and {len(more)} more lead to other tables: {lines[:3]}"
+            more, is_cut = place_of(history, logged[:count], kept)
+            return f"{count} calls of it and {more} more{', with due steps left' if is_cut else ''}", True
         except Differs as error:
             why = str(error)
         # a call of the same moment may be logged, and not be in the store
         if count == 0 or reached[count - 1] != moment:
-            return why
+            return why, False
         count -= 1
 
 
@@ -199,8 +221,8 @@ class Kill:
     def kept(self, checks):
         """Tests what the store of the killed service has."""
         self.history.keep("dead.db")
-        self.text = self.history.run("export", "--store", "dead.db")
-        tables = self.tables = Tables(self.text)
+        text = self.history.run("export", "--store", "dead.db")
+        tables = self.tables = Tables(text)
         there = [task for job, task in tables.tasks if job == self.job]
         lost = [name for name in self.added if name not in there]
         more = [name for name in there if name not in self.added]
@@ -210,9 +232,8 @@ class Kill:
         lines, _ = self.history.replayed(calls)
         checks.check(f"{self.what}: the log of {len(calls)} calls is what `replay` writes for them", told == lines[:len(told)] and len(told) >= len(calls) > 2,
                      [pair for pair in zip(told, lines) if pair[0] != pair[1]][:3])
-        found = explained(self.history, self.text)
-        places = f"{found[0]} calls of it and {found[1]} more" if isinstance(found, tuple) else "a prefix of the history"
-        checks.check(f"{self.what}: the store has the tables after {places}", isinstance(found, tuple), found)
+        found, holds = explained(self.history, text)
+        checks.check(f"{self.what}: the store has the tables after {found if holds else 'a prefix of the history'}", holds, found)
         # a child program that was started may write a moment later
         time.sleep(0.2)
         self.taken(checks, self.begun())
