@@ -233,6 +233,33 @@ def served_by_next(checks, service, first, second):
     service.ask("DELETE", "/pools/first")
 
 
+def starts(checks, service):
+    """Nodes leave while their start tasks run, and wait for the end of these."""
+    folder, count = os.path.join(service.folder, "starts"), NODES // 2
+    os.mkdir(folder)
+    enter = "cd $AZ_BATCH_NODE_ROOT_DIR/starts; told=$AZ_BATCH_NODE_ID.txt"
+    start = {"commandLine": around().replace(ENTER, enter), "waitForSuccess": False}
+    service.ask("POST", "/pools", {"id": "starts", "targetDedicatedNodes": count, "startTask": start})
+
+    def told(node):
+        return re.fullmatch(r"begun (\d+) \S+\n(closed\n)?", text_of(folder, f"{node}.txt"))
+    nodes = list(service.nodes("starts"))
+    came = wait_for(lambda: all(told(node) for node in nodes), 60)
+    checks.check(f"starts: {count} start tasks run", came and len(nodes) == count, nodes)
+    since, numbers = time.monotonic(), {node: int(told(node)[1]) for node in nodes}
+    status, answer = service.ask("POST", "/pools/starts/resize", {"targetDedicatedNodes": 1})
+    states = list(service.nodes("starts").values())
+    checks.check("starts: the pool is resized to one node, and the others wait", status == 202 and states == ["idle"] + ["leavingpool"] * (count - 1), (answer, states))
+    came = wait_for(lambda: service.pool("starts")["allocationState"] == "steady", 60, 0.002)
+    there = [node for node in nodes[1:] if is_running(numbers[node]) or told(node)[2] is None]
+    checks.check(f"starts: it is steady after {milliseconds(since)}, when their start tasks were asked to stop and have ended", came and not there and
+                 time.monotonic() - since >= SLOW, there)
+    checks.check("starts: that of the node that stays goes on", is_running(numbers[nodes[0]]) and told(nodes[0])[2] is None, nodes[0])
+    service.ask("DELETE", "/pools/starts")
+    came = wait_for(lambda: service.pool("starts") is None, 60, 0.002)
+    checks.check("starts: the pool is deleted, and gone once the last start task has ended", came and not is_running(numbers[nodes[0]]), text_of(folder, f"{nodes[0]}.txt"))
+
+
 def stopped(checks, service):
     """A resize that cannot come to its end is stopped."""
     with service.client() as client:
@@ -284,6 +311,6 @@ def pools(checks, path, folder):
     for option in ("requeue", "terminate", "taskcompletion", "retaineddata"):
         with checks.part(option):
             shrunk(checks, service, option)
-    for part in (deleted, stopped, killed):
+    for part in (deleted, starts, stopped, killed):
         with checks.part(part.__name__):
             part(checks, service)
