@@ -11,7 +11,7 @@ import time
 
 from service import Service, finished, shell, text_of, wait_for
 
-RUNNING, FULL_SECONDS = 6, 20
+RUNNING, FULL_SECONDS, ROOM = 6, 20, 10
 
 
 def begun(path, folder, *words, nodes=RUNNING, slots=1, wrap=()):
@@ -126,7 +126,10 @@ def over_small(checks, service, folder, small):
     early = [each.status for each in adding]
     seconds = time.monotonic() - since
     share = (service.processor_seconds() - spent) / seconds * 100
-    checks.check(f"disk: while it is full, {early.count(500)} tasks are refused, and {early.count(None)} requests wait", set(early) <= {None, 500} and 500 in early, early)
+    # the log of pages may have room in blocks that it has already
+    late = early[early.count(201):]
+    checks.check(f"disk: while it is full, {early.count(500)} tasks are refused, and {early.count(None)} requests wait, after {early.count(201)} that found room",
+                 set(late) <= {None, 500} and 500 in late and early.count(201) <= ROOM, early)
     checks.check(f"disk: the service takes {share:.1f} % of a processor meanwhile, under 5 ({rest:.1f} % before)", share < 5)
     os.remove(os.path.join(small, "fill"))
     for each in adding:
@@ -225,21 +228,23 @@ def runs_of(folder, task):
     return sorted(os.listdir(place), key=int) if os.path.isdir(place) else []
 
 
-def kill(checks, path, folder):
-    """The service is killed while tasks run."""
+def kill(checks, path, folder, count=1):
+    """The service is killed while tasks run, so many times."""
     service = begun(path, folder, "--store", "night.db")
-    # it waits for the end of its input, the first time that it is run
     told = os.path.join(folder, "$AZ_BATCH_TASK_ID.txt")
-    add_tasks(service, shell(f"echo run >> {told}; test $(wc -l < {told}) = 2 || cat"), RUNNING)
-    came = wait_for(lambda: all(text_of(folder, f"t{n}.txt") for n in range(1, RUNNING + 1)), 30)
-    service.kill()
-    service = Service(path, folder, "--store", "night.db")
-    ended, counts = comes_to(service, 60, succeeded=RUNNING)
-    checks.check(f"kill: {RUNNING} tasks that ran are run again, and succeed", came and ended, counts)
-    numbers = {f"t{n}": runs_of(folder, f"t{n}") for n in range(1, RUNNING + 1)}
-    checks.check("kill: each has a folder for each of its two runs", all(len(each) == 2 for each in numbers.values()), numbers)
-    rows = text_of(folder, "night.db-runs", "runs.csv").splitlines()
-    checks.check(f"kill: runs.csv has a header, and a line for each run whose end was seen ({len(rows)} lines)", len(rows) == 1 + RUNNING, rows)
+    for number in range(1, count + 1):
+        what, names = f"kill {number}" if count > 1 else "kill", [f"t{number}-{n}" for n in range(1, RUNNING + 1)]
+        # it waits for the end of its input, the first time that it is run
+        add_tasks(service, shell(f"echo run >> {told}; test $(wc -l < {told}) = 2 || cat"), RUNNING, name=f"t{number}-")
+        came = wait_for(lambda: all(text_of(folder, f"{name}.txt") for name in names), 30)
+        service.kill()
+        service = Service(path, folder, "--store", "night.db")
+        ended, counts = comes_to(service, 60, succeeded=number * RUNNING)
+        checks.check(f"{what}: {RUNNING} tasks that ran are run again, and succeed", came and ended, counts)
+        numbers = {name: runs_of(folder, name) for name in names}
+        checks.check(f"{what}: each has a folder for each of its two runs", all(len(each) == 2 for each in numbers.values()), numbers)
+        rows = text_of(folder, "night.db-runs", "runs.csv").splitlines()
+        checks.check(f"{what}: runs.csv has a header, and a line for each run whose end was seen ({len(rows)} lines)", len(rows) == 1 + number * RUNNING, rows)
     service.kill()
 
 

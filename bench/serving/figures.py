@@ -1,4 +1,4 @@
-"""What is measured of a running service, and beside it."""
+"""What is measured of a running service, and beside it: starts, resizes, child programs and requests."""
 import os
 import statistics
 import subprocess
@@ -8,6 +8,7 @@ from service import Service, is_there, shell, text_of, wait_for
 
 NODES, COLLECTION, ROUNDS = 8, 100, 3
 SECONDS_AT_REST, STARTS, SECONDS_BETWEEN = 3, 20, 0.4
+LEFT, RESIZES = 2, 10
 CONNECTIONS = (1, 4, 16)
 
 
@@ -123,6 +124,90 @@ def starts(path, folder):
                 times.append(started_after(service, client, folder, f"{name}{number}"))
         print(f"{name}: from the request that adds a task to an idle service to its child program {statistics.median(times):.1f} ms, "
               f"{min(times):.1f} to {max(times):.1f}, of {STARTS}; at rest {rest(service):.1f} % of a processor, load {os.getloadavg()[0]:.1f}", flush=True)
+        service.kill()
+
+
+def shown_after(client, is_so, *ask):
+    """How long it is from before a request about the pool to a read that shows it so, in milliseconds."""
+    since = time.monotonic()
+    status, answer = client.ask(*ask)
+    if status not in (201, 202) or not wait_for(lambda: is_so(*client.ask("GET", "/pools/p")), pause=0.001):
+        raise RuntimeError(f"{ask}: {status} {answer}, and {client.ask('GET', '/pools/p')}")
+    return (time.monotonic() - since) * 1000
+
+
+def is_steady(_, pool):
+    return pool["allocationState"] == "steady"
+
+
+def is_gone(status, _):
+    return status == 404
+
+
+def load(client, name):
+    """Has a task `cat` run on each node."""
+    client.ask("POST", "/jobs/j/enable")
+    client.add("/jobs/j/addtaskcollection", {"value": [{"id": f"{name}-{n}", "commandLine": "cat"} for n in range(NODES)]})
+    if not wait_for(lambda: client.ask("GET", "/jobs/j/taskcounts")[1]["taskCounts"]["running"] == NODES, pause=0.01):
+        raise RuntimeError("the tasks do not run")
+    # the child program of a task that runs may not have begun yet
+    time.sleep(SECONDS_BETWEEN)
+
+
+def unload(client, name):
+    """Ends what is left of these tasks, and removes them."""
+    client.ask("POST", "/jobs/j/disable", {"disableTasks": "terminate"})
+    for n in range(NODES):
+        client.ask("DELETE", f"/jobs/j/tasks/{name}-{n}")
+    if not wait_for(lambda: client.ask("GET", "/jobs/j/taskcounts")[1]["taskCounts"] == dict.fromkeys(("active", "completed", "failed", "running", "succeeded"), 0)):
+        raise RuntimeError("the tasks are not removed")
+
+
+def resized(client, option):
+    """Times of a resize to two nodes by the option, and of one back to eight."""
+    down = shown_after(client, is_steady, "POST", "/pools/p/resize", {"targetDedicatedNodes": LEFT, "nodeDeallocationOption": option})
+    return down, shown_after(client, is_steady, "POST", "/pools/p/resize", {"targetDedicatedNodes": NODES})
+
+
+def by_requeue(client):
+    return resized(client, "requeue")
+
+
+def by_terminate(client):
+    return resized(client, "terminate")
+
+
+def by_deletion(client):
+    """Times of a deletion of the pool, and of its adding."""
+    return shown_after(client, is_gone, "DELETE", "/pools/p"), shown_after(client, is_steady, "POST", "/pools", {"id": "p", "targetDedicatedNodes": NODES})
+
+
+def range_of(times):
+    return f"{statistics.median(times):.1f} ms ({min(times):.1f} to {max(times):.1f})"
+
+
+def changed_times(service, name, change, is_loaded):
+    """Times of changes of the pool, each with a task on each node or with idle ones."""
+    times = []
+    for number in range(RESIZES):
+        with service.client() as client:
+            if is_loaded:
+                load(client, f"{name}-{number}")
+            times.append(change(client))
+            if is_loaded:
+                unload(client, f"{name}-{number}")
+    down, up = zip(*times)
+    return f"{range_of(down)}, and {NODES} nodes are there {range_of(up)} after they are asked for"
+
+
+def resizes(path, folder):
+    """Prints how long resizes and deletions of a pool take, from before the request to a read that shows its end."""
+    for name, words in (("memory", []), ("store", ["--store", "night.db"])):
+        service = begun(path, folder, f"resizes-{name}", *words)
+        for what, change, is_loaded in (("idle nodes", by_requeue, False), ("requeue", by_requeue, True), ("terminate", by_terminate, True), ("deletion", by_deletion, True)):
+            ending = f"pool with `cat` on each of {NODES} nodes is gone" if change is by_deletion else f"pool of {NODES} nodes is steady at {LEFT}"
+            print(f"{name}, {what}: a {ending} after {changed_times(service, what.replace(' ', '-'), change, is_loaded)}; of {RESIZES}, "
+                  f"load {os.getloadavg()[0]:.1f}", flush=True)
         service.kill()
 
 

@@ -119,6 +119,16 @@ class Service:
                 return rows
             after = f"&after={page['nextAfter']}"
 
+    def pool(self, pool):
+        """The pool; None if it is not there."""
+        status, row = self.ask("GET", f"/pools/{pool}")
+        return row if status == 200 else None
+
+    def nodes(self, pool):
+        """The states of the nodes of the pool, by their ids, in the order of their numbers."""
+        rows = self.ask("GET", f"/pools/{pool}/nodes")[1]["value"]
+        return {row["id"]: row["state"] for row in sorted(rows, key=lambda row: int(row["id"].removeprefix("node-")))}
+
     def settled(self, job, active=0):
         """Waits until no task of the job runs, and at most so many are active; whether that came."""
         def is_settled():
@@ -152,10 +162,34 @@ class Service:
         with open(f"/proc/{self.process.pid}/status", encoding="utf-8") as status:
             return int(re.search(rf"{name}:\s+(\d+) kB", status.read())[1])
 
+    def child_programs(self):
+        """The states of the processes that the service has started, by their numbers; `Z` is one that has ended and was not waited for."""
+        found = {}
+        for name in filter(str.isdigit, os.listdir("/proc")):
+            state, parent = process_of(int(name)) or ("", 0)
+            if parent == self.process.pid:
+                found[int(name)] = state
+        return found
+
     def processor_seconds(self):
         with open(f"/proc/{self.process.pid}/stat", encoding="utf-8") as stat:
             fields = stat.read().rsplit(")", 1)[1].split()
         return (int(fields[11]) + int(fields[12])) / os.sysconf("SC_CLK_TCK")
+
+
+def process_of(number):
+    """The state of a process, and the number of its parent; None if it is not there."""
+    try:
+        with open(f"/proc/{number}/stat", encoding="utf-8", errors="replace") as stat:
+            state, parent = stat.read().rsplit(")", 1)[1].split()[:2]
+    except (FileNotFoundError, ProcessLookupError):
+        return None
+    return state, int(parent)
+
+
+def is_running(number):
+    """Whether a process is there that has not ended."""
+    return (process_of(number) or "Z")[0] not in "ZX"
 
 
 def finished(path, folder, *words, seconds=60):

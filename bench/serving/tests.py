@@ -4,7 +4,6 @@ import http.client
 import os
 import re
 import subprocess
-import threading
 import time
 
 from service import PATIENCE, Service, at_root, is_there, quoted, shell, text_of, wait_for
@@ -205,68 +204,6 @@ def stops(checks, service):
     checks.check("the terminated job is completed", is_ended and job.get("terminateReason") == "UserTerminate", job)
     prepared, released = (text_of(service.folder, "stops", f"{each}.txt").split() for each in ("prepared", "released"))
     checks.check("its node was prepared and released once", len(prepared) == 1 and released == prepared, (prepared, released))
-
-
-def add_until_gone(service, prefix, added):
-    """Adds tasks until the service is gone, and notes those that were acknowledged."""
-    with contextlib.suppress(OSError, http.client.HTTPException), service.client() as client:
-        for n in range(1, 501):
-            name = f"{prefix}-{n}"
-            line = at_root("echo run >> kills/$AZ_BATCH_TASK_ID.txt")
-            if client.ask("POST", "/jobs/kills/tasks", {"id": name, "commandLine": line})[0] == 201:
-                added.append(name)
-
-
-def killed(service, number, count):
-    """Kills the service once so many tasks were added, while two tasks run and four clients add others. Returns the acknowledged tasks."""
-    added = [f"long-{number}-{n}" for n in (1, 2)]
-    told = "kills/$AZ_BATCH_TASK_ID.txt"
-    with service.client() as client:
-        for name in added:
-            # it waits for the end of its input, the first time that it is run
-            client.add("/jobs/kills/tasks", {"id": name, "commandLine": at_root(f"echo run >> {told}; test $(wc -l < {told}) = 2 || cat")})
-    begun = all([is_there(service.folder, "kills", f"{name}.txt") for name in added])
-    clients = [threading.Thread(target=add_until_gone, args=(service, f"{number}-{n}", added)) for n in range(4)]
-    for each in clients:
-        each.start()
-    begun = wait_for(lambda: len(added) >= count, pause=0.001) and begun
-    service.kill()
-    for each in clients:
-        each.join()
-    if not begun:
-        raise RuntimeError("the long tasks did not begin, or no others were added")
-    return added
-
-
-def runs_of(folder, task):
-    return text_of(folder, "kills", f"{task}.txt").count("run\n")
-
-
-def survived(checks, service, number, added, before):
-    """Tests what the next service does with the tasks of a kill."""
-    rows = {row["id"] for row in service.tasks("kills")} - before
-    lost = [name for name in added if name not in rows]
-    checks.check(f"kill {number}: all {len(added)} acknowledged tasks are there, and {len(rows) - len(added)} others", not lost and len(rows) <= len(added) + 4,
-                 (lost, len(rows)))
-    done, counts = service.settled("kills"), service.counts("kills")
-    checks.check(f"kill {number}: all tasks end with success", done and counts["succeeded"] == len(before) + len(rows), counts)
-    again = {name: runs_of(service.folder, name) for name in sorted(rows) if runs_of(service.folder, name) != 1}
-    is_so = all(f"long-{number}-{n}" in again for n in (1, 2)) and len(again) <= 4 and set(again.values()) == {2}
-    checks.check(f"kill {number}: what ran was run once more, and nothing else ({len(again)} tasks)", is_so, again)
-    return before | rows
-
-
-def kills(checks, service, count, chance):
-    """Kills the service and starts it again, so many times."""
-    os.mkdir(os.path.join(service.folder, "kills"))
-    with service.client() as client:
-        client.add("/jobs", {"id": "kills", "poolInfo": {"poolId": "p"}})
-    before = set()
-    for number in range(1, count + 1):
-        added = killed(service, number, 2 + chance.randint(1, 100))
-        service = Service(service.path, service.folder, "--store", "night.db", port=service.port)
-        before = survived(checks, service, number, added, before)
-    service.kill()
 
 
 def last(checks, path, folder):

@@ -5,8 +5,8 @@ use Rattle.std.specs.List.{flat_map, list_any}
 use Rattle.bt_base.specs.declared.memory.NoMemory.{NoMemory}
 use Rattle.bt_rows.specs.declared.event.EventKind.{EventKind}
 use Rattle.bt_rows.specs.declared.reply.Reply.{Reply}
-use Rattle.batch_ask.specs.Exchanges.{Exchange, Called, Looked}
-use Rattle.batch_ask.specs.Desks.{entries_of, call_entries}
+use Rattle.batch_desk.specs.Exchanges.{Exchange, Called, Looked}
+use Rattle.batch_desk.specs.Desks.{entries_of, call_entries}
 use Rattle.batch_desk.specs.declared.answer.Answer.{Answer}
 use Rattle.batch_desk.specs.declared.answer.Answer.TheVariants.{Done, KeeperFault, JournalFull, Memory}
 use Rattle.batch_desk.specs.declared.entry.Stop.TheVariants.{Rest, KeeperFault as FaultStop, Memory as MemoryStop}

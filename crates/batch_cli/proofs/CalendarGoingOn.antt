@@ -1,6 +1,6 @@
 -- A calendar over a desk goes on by one line more.
 use Rattle.std.proofs.Common.{◌≡◌, ◌≤◌, ◌+◌, ◌-◌, ◌^◌, min, ℕ, zero, suc, Bool, true, false, ◌||◌, List, [], ◌∷◌, ◌++◌, Option, Result, Ok, Err}
-use Rattle.std.proofs.Common.{length, refl, ap, ◌∙◌, sym, subst, arith, map, take, append_assoc, ◌<◌, nat_lt, if◌then◌else◌, OnOk, OnErr, IfOk}
+use Rattle.std.proofs.Common.{rules, length, refl, ap, ◌∙◌, sym, subst, arith, map, take, append_assoc, ◌<◌, nat_lt, if◌then◌else◌, OnOk, OnErr, IfOk}
 use Rattle.std.specs.Str.Lines.{lines}
 use Rattle.std.proofs.lemmas.Bool.Decides.{nat_tests}
 use Rattle.std.proofs.lemmas.List.{append-nil, length-append, length-map, length_push, map-append}
@@ -16,7 +16,8 @@ use Rattle.batch_desk.specs.declared.entry.Entry.{Entry}
 use Rattle.batch_desk.specs.Kept.{Desk}
 use Rattle.batch_desk.specs.History.{asked_of, fault_count}
 use Rattle.batch_desk.specs.Answers.{HasSameOpening, Begins}
-use Rattle.batch_cli.specs.Advance.{room_of}
+use Rattle.bt_base.specs.Causes.{Rose}
+use Rattle.batch_cli.specs.Advance.{room_of, RoseBy}
 use Rattle.batch_cli.specs.Shown.{memory_stops}
 use Rattle.batch_cli.specs.Written.{GainsBetween}
 use Rattle.batch_cli.specs.CalendarShown.{Telling, Remaining, line_told, lines_told, texts_of, asks_of}
@@ -455,3 +456,11 @@ writes_some true is_full is_refused h = h
 writes_some false true is_refused h = h
 writes_some false false true h = h
 writes_some false false false h = h
+
+-- the keeper counted the faults of a script whose end tells of them
+pub fault_rose : (has_faults is_full is_refused : Bool) (by before now : ℕ) (status : Status) → has_faults ≡ nat_lt 0 by → RoseBy by before now →
+    status ≡ status_by has_faults is_full is_refused → status ≡ statuses.KeeperFault → Rose before now
+fault_rose true is_full is_refused by before now status e rose s f = let some : 0 < by = grind (arith, nat_tests) in omega (arith, some, rose)
+fault_rose false true is_refused by before now status e rose s f = search (rules, sym s ∙ f)
+fault_rose false false true by before now status e rose s f = search (rules, sym s ∙ f)
+fault_rose false false false by before now status e rose s f = search (rules, sym s ∙ f)

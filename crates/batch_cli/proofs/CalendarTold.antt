@@ -10,8 +10,8 @@ use Rattle.bt_rows.specs.declared.reply.Reply.{Reply}
 use Rattle.batch_model.specs.Variants.{State}
 use Rattle.table_reads.specs.declared.request.Read.{Read}
 use Rattle.table_reads.specs.Reads.{read_reply}
-use Rattle.batch_ask.specs.Exchanges.{Exchange, Called, Looked, Leads}
-use Rattle.batch_ask.specs.Desks.{IsExchange, IsCall, call_entries, entries_of}
+use Rattle.batch_desk.specs.Exchanges.{Exchange, Called, Looked, Leads}
+use Rattle.batch_desk.specs.Desks.{IsExchange, IsCall, call_entries, entries_of}
 use Rattle.batch_desk.specs.declared.answer.Answer.{Answer}
 use Rattle.batch_desk.specs.declared.answer.Answer.TheVariants.{Done, KeeperFault, JournalFull, Memory}
 use Rattle.batch_desk.specs.declared.entry.Entry.{Entry}

@@ -45,7 +45,7 @@ fn advice(status: Status) -> &'static str {
         Status::SinkFault =>
             "standard output could not be written; the output ends early: check its target and run again",
         Status::KeeperFault =>
-            "the tables could not be loaded or saved: do again what is answered `fault`, or all if nothing is written",
+            "the tables could not be loaded or saved: do again what is answered `fault`, and what the output does not have",
         Status::UnreadableLines =>
             "some lines are not valid requests; the others were done: see the answers with status 400",
         Status::ScriptTooLong =>

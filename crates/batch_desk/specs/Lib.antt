@@ -1,6 +1,8 @@
 pub mod Answers
 pub mod Calls
+pub mod Desks
 pub mod Entries
+pub mod Exchanges
 pub mod History
 pub mod Kept
 pub mod Laws

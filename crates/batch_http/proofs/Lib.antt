@@ -1,2 +1,3 @@
 mod Leading
 mod Losing
+pub mod Serving

@@ -4,7 +4,7 @@ use Rattle.bt_base.specs.declared.memory.NoMemory.{NoMemory}
 use Rattle.bt_rows.specs.declared.event.EventKind.{EventKind}
 use Rattle.bt_rows.specs.declared.reply.Reply.{Reply}
 use Rattle.batch_desk.specs.declared.answer.Answer.{Answer}
-use Rattle.batch_ask.specs.Exchanges.{Exchange, Called, Looked, Leads}
+use Rattle.batch_desk.specs.Exchanges.{Exchange, Called, Looked, Leads}
 use Rattle.http_serving.specs.declared.end.End.{End}
 use Rattle.http_serving.specs.declared.response.Response.{Response}
 use Rattle.http_serving.specs.Connection.{Exchange as Message, request_of, Served}

@@ -1,3 +1,4 @@
+pub mod Connections
+pub mod Doors
 pub mod Responses
 pub mod Services
-pub mod Connections

@@ -5,7 +5,7 @@ ghost use Rattle.http_serving.specs.declared.response.Response.{Response};
 ghost use Rattle.batch_http.specs.Services.{IsCall, IsLook, Answers};
 
 use crate::response::{answer_response, look_response};
-use batch_ask::Ask;
+use batch_desk::Ask;
 use bt_base::NoMemory;
 use bt_clock::Clock;
 use bt_rows::event::Event;

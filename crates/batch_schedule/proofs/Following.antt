@@ -3,7 +3,7 @@ use Rattle.std.proofs.Common.{◌≡◌, ℕ, Bool, true, false, not, List, [], 
 use Rattle.bt_rows.specs.declared.event.EventKind.{EventKind}
 use Rattle.batch_desk.specs.declared.answer.Answer.{Answer}
 use Rattle.batch_desk.specs.declared.answer.Answer.TheVariants as answers
-use Rattle.batch_ask.specs.Exchanges.{Exchange, Called}
+use Rattle.batch_desk.specs.Exchanges.{Exchange, Called}
 use Rattle.schedule_rows.specs.Fires.{has_memory}
 use Rattle.schedule_rows.specs.Rows.{Schedule}
 use Rattle.schedule_rows.specs.Turns.{turns}

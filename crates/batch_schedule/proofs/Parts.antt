@@ -1,7 +1,7 @@
 -- The parts of a schedule's turn, by the outcomes of its calls and its read.
 use Rattle.std.proofs.Common.{◌≡◌, ℕ, Bool, true, false, nat_eq, List, inl, inr, Some, None, Ok, refl, sym, subst, if◌then◌else◌}
 use Rattle.bt_base.specs.declared.memory.NoMemory.{NoMemory}
-use Rattle.batch_ask.specs.Exchanges.{Exchange}
+use Rattle.batch_desk.specs.Exchanges.{Exchange}
 use Rattle.schedule_rows.specs.Interactions.{Looks}
 use Rattle.schedule_rows.specs.Jobs.{add_job_asked, add_tasks_asked, patch_asked, job_read, has_tasks}
 use Rattle.schedule_rows.specs.Occurrences.{firing_at}

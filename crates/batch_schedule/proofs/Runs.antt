@@ -8,7 +8,7 @@ use Rattle.bt_rows.specs.declared.reply.Reply.{Reply}
 use Rattle.table_reads.specs.declared.request.Read.{Read}
 use Rattle.batch_desk.specs.declared.answer.Answer.{Answer}
 use Rattle.batch_desk.specs.declared.answer.Answer.TheVariants as answers
-use Rattle.batch_ask.specs.Exchanges.{Exchange, Called, Looked}
+use Rattle.batch_desk.specs.Exchanges.{Exchange, Called, Looked}
 use Rattle.schedule_rows.specs.Interactions.{Interaction, Asks, Looks, Reaches, StandsAt}
 use Rattle.schedule_rows.specs.Fires.{fire_of, exchange_fires, fires_of, has_memory, is_answered, StopsWithoutMemory}
 use Rattle.schedule_rows.specs.Rows.{Schedule}

@@ -3,7 +3,7 @@ use Rattle.std.proofs.Common.{◌≡◌, ℕ, suc, ◌+◌, ◌<◌, ◌≤◌, 
 use Rattle.std.proofs.Common.{List, [], ◌∷◌, ◌++◌, inr, Option, Some, None, refl, sym, subst, ap, ◌∙◌, append_assoc, append-nil, if◌then◌else◌}
 use Rattle.std.proofs.lemmas.Grind.{flat_map-append}
 use Rattle.std.proofs.lemmas.List.{take_more_set, take_all, drop_all, drop-set-lt, set_split}
-use Rattle.batch_ask.specs.Exchanges.{Exchange, Leads}
+use Rattle.batch_desk.specs.Exchanges.{Exchange, Leads}
 use Rattle.schedule_rows.specs.Interactions.{Interaction, Looks, Reaches, StandsAt}
 use Rattle.schedule_rows.specs.Fires.{exchange_fires, fires_of, AllAnswered, StopsWithoutMemory}
 use Rattle.schedule_rows.specs.Jobs.{job_read}

@@ -3,7 +3,7 @@ use Rattle.std.specs.Prelude.{◌≡◌, ℕ, max, Bool, true, false, List, [], 
 use Rattle.bt_rows.specs.declared.event.EventKind.{EventKind}
 use Rattle.batch_desk.specs.declared.answer.Answer.{Answer}
 use Rattle.batch_desk.specs.declared.answer.Answer.TheVariants as answers
-use Rattle.batch_ask.specs.Exchanges.{Exchange, Called, Leads}
+use Rattle.batch_desk.specs.Exchanges.{Exchange, Called, Leads}
 use Rattle.schedule_rows.specs.Interactions.{Interaction, IsWhole, IsBegun}
 use Rattle.schedule_rows.specs.Fires.{fires_of, AllAnswered, StopsWithoutMemory}
 use Rattle.schedule_rows.specs.OwnEvents.{own_refusal, after_own, own_status}

@@ -5,7 +5,7 @@ use Rattle.bt_rows.specs.declared.event.EventKind.{EventKind}
 use Rattle.bt_rows.specs.declared.reply.Reply.{Reply}
 use Rattle.table_reads.specs.declared.request.Read.{Read}
 use Rattle.batch_desk.specs.declared.answer.Answer.{Answer}
-use Rattle.batch_ask.specs.Exchanges.{Exchange, Called, Looked, Leads}
+use Rattle.batch_desk.specs.Exchanges.{Exchange, Called, Looked, Leads}
 use Rattle.schedule_rows.specs.Interactions.{Interaction, Ends, Reaches, StandsAt, IsBegun}
 use Rattle.schedule_rows.specs.Fires.{fire_of, fires_of, AllAnswered, StopsWithoutMemory}
 use Rattle.schedule_rows.specs.Rows.{Schedule}

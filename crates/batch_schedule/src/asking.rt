@@ -5,7 +5,7 @@ ghost use Rattle.schedule_rows.specs.Jobs.{add_job_asked, add_tasks_asked, patch
 ghost use Rattle.schedule_rows.specs.Turns.{at_stage, fired_for, patches, adds_tasks, adds_job, adds_job_if_free, fires as fires_part};
 ghost use Rattle.batch_schedule.specs.Runs.{MakesCall, ReadShows, ReadFails, RunsPart};
 
-use batch_ask::Ask;
+use batch_desk::Ask;
 use bt_base::{Moment, NoMemory};
 use schedule_rows::{
     CallOutcome, Fire, FireCall, LAST_JOB_NUMBER, ScheduleRow, Stage, is_free, outcome_of,

@@ -1,6 +1,6 @@
 //! The calendar: schedules over an asker.
 ghost use Rattle.std.specs.Prelude.{◌≡◌, max, [], not};
-ghost use Rattle.batch_ask.specs.Exchanges.{Looked};
+ghost use Rattle.batch_desk.specs.Exchanges.{Looked};
 ghost use Rattle.schedule_rows.specs.declared.event.CalEvent.TheVariants.{Inner};
 ghost use Rattle.batch_schedule.specs.Answers.{AnswersEvent, AnswersCal, IsOwn, TurnsFollow};
 ghost use Rattle.batch_schedule.specs.Own.{DoesOwn, is_memory};
@@ -8,8 +8,7 @@ ghost use Rattle.schedule_rows.specs.Fires.{has_memory};
 
 use crate::own::{add, delete, disable, enable};
 use crate::turn::run_turns;
-use batch_ask::Ask;
-use batch_desk::Answer;
+use batch_desk::{Answer, Ask};
 use bt_base::{List, Moment, NoMemory};
 use bt_rows::event::Event;
 use bt_rows::reply::Reply;

@@ -4,7 +4,7 @@ ghost use Rattle.schedule_rows.specs.Turns.{retries_stage, retries_and_fires, tu
 ghost use Rattle.batch_schedule.specs.Runs.{RunsPart, RunsTurn, RunsTurns};
 
 use crate::asking::{ask_patch, ask_tasks, fire};
-use batch_ask::Ask;
+use batch_desk::Ask;
 use bt_base::Moment;
 use schedule_rows::{Fire, ScheduleRow, Stage};
 use std::alloc::Global;

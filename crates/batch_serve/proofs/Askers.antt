@@ -1,6 +1,6 @@
 -- The asker of a door over its exchanges.
 use Rattle.std.proofs.Common.{◌≡◌, List, [], ◌∷◌, refl, ap, subst, ◌∙◌}
-use Rattle.batch_ask.specs.Exchanges.{Exchange, Called, Looked, Leads}
+use Rattle.batch_desk.specs.Exchanges.{Exchange, Called, Looked, Leads}
 use Rattle.batch_http.specs.Services.{HttpService}
 use Rattle.counted_lock.specs.Passes.{LockIdentity}
 use Rattle.shared_desk.specs.Openings.{Opening}

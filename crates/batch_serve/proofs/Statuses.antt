@@ -12,7 +12,7 @@ use Rattle.batch_desk.specs.declared.entry.Entry.{Entry}
 use Rattle.batch_desk.specs.declared.journal.Journal.{Journal}
 use Rattle.counted_lock.specs.declared.views.Stamped.{Stamped}
 use Rattle.counted_lock.specs.Passes.{LockIdentity}
-use Rattle.http_doors.specs.declared.door.DoorEnd.{DoorEnd}
+use Rattle.batch_http.specs.declared.doors.DoorEnd.{DoorEnd}
 use Rattle.shared_desk.specs.Openings.{Opening}
 use Rattle.shared_desk.specs.Sharing.{Caller, calls_of}
 use Rattle.batch_crew.specs.declared.cut.LaneEnd.{LaneEnd}

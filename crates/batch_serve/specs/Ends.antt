@@ -4,7 +4,7 @@ use Rattle.std.specs.Option.{option_map_or}
 use Rattle.std.specs.List.{list_any}
 use Rattle.batch_crew.specs.declared.cut.LaneEnd.{LaneEnd}
 use Rattle.batch_crew.specs.declared.cut.LaneEnd.TheVariants as end
-use Rattle.http_doors.specs.declared.door.DoorEnd.{DoorEnd}
+use Rattle.batch_http.specs.declared.doors.DoorEnd.{DoorEnd}
 use Rattle.batch_serve.specs.declared.status.ServeStatus.{ServeStatus}
 use Rattle.batch_serve.specs.declared.status.ServeStatus.TheVariants.{Done, Memory, Usage, ListenFault, SinkFault, KeeperFault, JournalFull}
 use Rattle.batch_serve.specs.declared.worker.Worker.{Worker}

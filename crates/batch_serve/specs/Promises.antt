@@ -2,7 +2,7 @@
 use Rattle.std.specs.Prelude.{◌≡◌, Bool, true, false, All, List, Option, Some}
 use Rattle.batch_desk.specs.declared.entry.Entry.{Entry}
 use Rattle.batch_desk.specs.declared.journal.Journal.{Journal}
-use Rattle.http_doors.specs.declared.door.DoorEnd.{DoorEnd}
+use Rattle.batch_http.specs.declared.doors.DoorEnd.{DoorEnd}
 use Rattle.batch_crew.specs.declared.cut.LaneEnd.{LaneEnd}
 use Rattle.batch_crew.specs.declared.cut.LaneEnd.TheVariants.{Ended}
 use Rattle.batch_crew.specs.Journals.{RunsStand, TicksFirst}

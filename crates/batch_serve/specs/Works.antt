@@ -7,8 +7,8 @@ use Rattle.child_runs.specs.declared.stopper.Stopper.{Ghosts as StopperMembers}
 use Rattle.counted_lock.specs.Passes.{LockIdentity}
 use Rattle.http_link.specs.declared.link.Link.{Ghosts as LinkMembers}
 use Rattle.link_doors.specs.declared.listener.Listener.{Ghosts as ListenerMembers}
-use Rattle.http_doors.specs.declared.door.DoorEnd.{DoorEnd}
-use Rattle.http_doors.specs.Doors.{DoorState, ServesAll}
+use Rattle.batch_http.specs.declared.doors.DoorEnd.{DoorEnd}
+use Rattle.batch_http.specs.Doors.{DoorState, ServesAll}
 use Rattle.shared_desk.specs.Openings.{Opening}
 use Rattle.shared_desk.specs.Sharing.{Caller}
 use Rattle.shared_desk.specs.Askers.{AskerState, IsSharedExchange}

@@ -6,13 +6,12 @@ ghost use Rattle.batch_serve.specs.Works.{LaneWorks, TimerWorks, DoorWorks, Work
 use crate::monitor::ServiceMonitor;
 use crate::work::Work;
 use crate::worker::{Door, Lane, Timer, WorkerKind};
-use batch_ask::Ask;
 use batch_crew::{run_lane, run_timer};
-use batch_http::HttpService;
+use batch_desk::Ask;
+use batch_http::{HttpService, serve_links};
 use batch_keeper::Keeper;
 use bt_clock::Clock;
 use child_runs::{Spawner, Stopper};
-use http_doors::serve_links;
 use link_doors::Listener;
 use shared_desk::{Pass, SharedDesk};
 use std::alloc::Global;

@@ -14,7 +14,7 @@ fn advice(status: ServeStatus) -> &'static str {
         ServeStatus::SinkFault =>
             "standard output could not be written; the service did not begin: check its target and start it again",
         ServeStatus::KeeperFault =>
-            "the tables could not be loaded or saved; the service did not begin: check the store and start it again",
+            "the tables could not be loaded or saved; the service did not begin, or its last saves were not made: check the store and start it again",
         ServeStatus::JournalFull =>
             "the journal is full; the service ended, or a part of it: start it again, or give a greater --journal",
     }

@@ -1,6 +1,6 @@
 //! What hears how a service goes (this project's own).
 use batch_crew::LaneEnd;
-use http_doors::DoorEnd;
+use batch_http::DoorEnd;
 use shared_desk::{CallMonitor, NoMonitor};
 
 /// What hears of the calls of a service, and how each of its workers ended. It changes nothing: contracts say nothing of it, as of what is

@@ -3,7 +3,7 @@ ghost use Rattle.std.specs.Prelude.{◌≡◌, None, Some};
 ghost use Rattle.batch_serve.specs.declared.worker.WorkerKind.TheVariants.{Lane as LaneKind, Timer as TimerKind, Door as DoorKind};
 
 use batch_crew::LaneEnd;
-use http_doors::DoorEnd;
+use batch_http::DoorEnd;
 use link_doors::Listener;
 use shared_desk::Pass;
 

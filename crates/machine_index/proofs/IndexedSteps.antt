@@ -20,6 +20,7 @@ use Rattle.task_index.specs.Timed.{AreTimed}
 use Rattle.run_index.specs.Queued.{AreQueued}
 use Rattle.run_index.specs.Asked.{AreAsked}
 use Rattle.task_index.specs.Numbered.{HasNumbered}
+use Rattle.run_index.specs.Nodes.{HasNodeRuns}
 use Rattle.task_index.proofs.OverRanks.{over_step}
 use Rattle.task_index.proofs.ActiveItems.{items_length}
 use Rattle.run_index.proofs.FreePlaces.{free_set, free_past, free_push, free_put, free_clear}
@@ -31,11 +32,11 @@ use Rattle.task_index.proofs.TimedRanks.{timed_length}
 
 -- of the tasks and the runs that are these
 pub indexed_at : (tasks others : List (Option TaskRow)) (slots placed : List (Option RunRow)) (view : ChainsView) (groups : GroupsView)
-    (ranks : Ranks) (sums : SumsView) (times numbers stops : Ranks) (chains : ChainsView)
+    (ranks : Ranks) (sums : SumsView) (times numbers stops : Ranks) (chains nodes : ChainsView)
     → others ≡ tasks → placed ≡ slots → HasRuns view slots → AreItemsOf tasks groups.items → AreOver (rows slots) tasks ranks.items
     → HasHeld sums (rows tasks) slots → AreTimed tasks times.items → AreQueued slots numbers.items → AreAsked slots stops.items → HasNumbered chains tasks
-    → IsIndexed others placed view groups ranks sums times numbers stops chains
-indexed_at tasks others slots placed view groups ranks sums times numbers stops chains e f runs active over held timed queued asked numbered = record {
+    → HasNodeRuns nodes slots → IsIndexed others placed view groups ranks sums times numbers stops chains nodes
+indexed_at tasks others slots placed view groups ranks sums times numbers stops chains nodes e f runs active over held timed queued asked numbered on_nodes = record {
   runs = rw f runs;
   active = rw e active;
   over = rw (e, f) over;
@@ -44,6 +45,7 @@ indexed_at tasks others slots placed view groups ranks sums times numbers stops 
   queued = rw f queued;
   asked = rw f asked;
   numbered = rw e numbered;
+  on_nodes = rw f on_nodes;
 }
 
 module _ {R : Type 0} where
@@ -97,15 +99,16 @@ over_after was is slots placed tasks others runs p q ranks first second apart st
 
 -- with other room
 pub indexed_kept : (tasks others : List (Option TaskRow)) (slots placed : List (Option RunRow)) (view changed : ChainsView)
-    (groups grouped : GroupsView) (ranks ranked : Ranks) (sums summed : SumsView) (times timed : Ranks) (numbers numbered : Ranks) (stops stopped : Ranks) (chains chained : ChainsView)
+    (groups grouped : GroupsView) (ranks ranked : Ranks) (sums summed : SumsView) (times timed : Ranks) (numbers numbered : Ranks) (stops stopped : Ranks) (chains chained : ChainsView) (nodes others_on : ChainsView)
     → others ≡ tasks → placed ≡ slots → (HasRuns view slots → HasRuns changed slots) → grouped.items ≡ groups.items → ranked.items ≡ ranks.items
     → (HasHeld sums (rows tasks) slots → HasHeld summed (rows tasks) slots) → timed.items ≡ times.items → numbered.items ≡ numbers.items → stopped.items ≡ stops.items
-    → (HasNumbered chains tasks → HasNumbered chained tasks)
-    → IsIndexed tasks slots view groups ranks sums times numbers stops chains → IsIndexed others placed changed grouped ranked summed timed numbered stopped chained
-indexed_kept tasks others slots placed view changed groups grouped ranks ranked sums summed times timed numbers numbered stops stopped chains chained e f runs active over
-    held later queued asked known indexed =
-    indexed_at tasks others slots placed changed grouped ranked summed timed numbered stopped chained e f (runs indexed.runs) (rw active indexed.active)
+    → (HasNumbered chains tasks → HasNumbered chained tasks) → (HasNodeRuns nodes slots → HasNodeRuns others_on slots)
+    → IsIndexed tasks slots view groups ranks sums times numbers stops chains nodes → IsIndexed others placed changed grouped ranked summed timed numbered stopped chained others_on
+indexed_kept tasks others slots placed view changed groups grouped ranks ranked sums summed times timed numbers numbered stops stopped chains chained nodes others_on e f runs active over
+    held later queued asked known follows indexed =
+    indexed_at tasks others slots placed changed grouped ranked summed timed numbered stopped chained others_on e f (runs indexed.runs) (rw active indexed.active)
     (rw over indexed.over) (held indexed.held) (rw later indexed.timed) (rw queued indexed.queued) (rw asked indexed.asked) (known indexed.numbered)
+    (follows indexed.on_nodes)
 
 -- a place that was found is one of the parts'
 pub within_active : (test : TaskRow → Bool) (place : Option ℕ) (tasks : List (Option TaskRow)) (groups : GroupsView) → place ≡ place_of test tasks → AreItemsOf tasks groups.items

@@ -13,6 +13,7 @@ use Rattle.task_index.specs.Timed.{AreTimed}
 use Rattle.run_index.specs.Queued.{AreQueued}
 use Rattle.run_index.specs.Asked.{AreAsked}
 use Rattle.task_index.specs.Numbered.{HasNumbered}
+use Rattle.run_index.specs.Nodes.{HasNodeRuns}
 
 -- what contracts see of the tables: the state, and how many changes can be made without allocating
 pub record IndexedView : Type 0 where
@@ -21,7 +22,7 @@ pub record IndexedView : Type 0 where
 
 -- each part is that of these tasks and runs
 pub record IsIndexed (tasks : List (Option TaskRow)) (slots : List (Option RunRow)) (view : ChainsView) (groups : GroupsView)
-    (ranks : Ranks) (sums : SumsView) (times numbers stops : Ranks) (chains : ChainsView) : Type 0 where
+    (ranks : Ranks) (sums : SumsView) (times numbers stops : Ranks) (chains nodes : ChainsView) : Type 0 where
   pub runs : HasRuns view slots
   pub active : AreItemsOf tasks groups.items
   pub over : AreOver (rows slots) tasks ranks.items
@@ -30,9 +31,10 @@ pub record IsIndexed (tasks : List (Option TaskRow)) (slots : List (Option RunRo
   pub queued : AreQueued slots numbers.items
   pub asked : AreAsked slots stops.items
   pub numbered : HasNumbered chains tasks
+  pub on_nodes : HasNodeRuns nodes slots
 
 -- the tables and each part have room for so many changes
-pub record HasRoom (room tables runs active over held timed queued asked numbered : ℕ) : Type 0 where
+pub record HasRoom (room tables runs active over held timed queued asked numbered nodes : ℕ) : Type 0 where
   pub of_tables : room ≤ tables
   pub of_runs : room ≤ runs
   pub of_active : room ≤ active
@@ -42,3 +44,4 @@ pub record HasRoom (room tables runs active over held timed queued asked numbere
   pub of_queued : room ≤ queued
   pub of_asked : room ≤ asked
   pub of_numbered : room ≤ numbered
+  pub of_nodes : room ≤ nodes

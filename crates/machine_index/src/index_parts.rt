@@ -6,12 +6,13 @@ ghost use Rattle.run_index.specs.Attempts.{HasRuns};
 ghost use Rattle.run_index.specs.Held.{HasHeld};
 ghost use Rattle.task_index.specs.Numbered.{HasNumbered};
 ghost use Rattle.task_index.specs.Over.{AreOver};
+ghost use Rattle.run_index.specs.Nodes.{HasNodeRuns};
 ghost use Rattle.run_index.specs.Queued.{AreQueued};
 ghost use Rattle.task_index.specs.Timed.{AreTimed};
 
 use bt_base::NoMemory;
 use bt_rows::tables::Tables;
-use run_index::{AskedRuns, HeldSlots, QueuedRuns, RunsOfAttempts};
+use run_index::{AskedRuns, HeldSlots, QueuedRuns, RunsOfAttempts, RunsOfNodes};
 use std::alloc::Global;
 use task_index::{ActiveTasks, NumberedTasks, PlacedTasks, TimedTasks};
 
@@ -26,6 +27,8 @@ pub struct RunParts {
     pub queued: QueuedRuns,
     /// The taken runs that are asked to stop.
     pub asked: AskedRuns,
+    /// The places of the runs on each node.
+    pub nodes: RunsOfNodes,
 }
 
 /// What is kept of the tasks.
@@ -48,16 +51,19 @@ impl RunParts {
         ensures held { IfOk result (λ parts. HasHeld parts.held tables.now.state.tasks tables.now.run_slots) }
         ensures queued { IfOk result (λ parts. AreQueued tables.now.run_slots parts.queued.items) }
         ensures asked { IfOk result (λ parts. AreAsked tables.now.run_slots parts.asked.items) }
+        ensures nodes { IfOk result (λ parts. HasNodeRuns parts.nodes tables.now.run_slots) }
     {
         let runs = RunsOfAttempts::of_tables(alloc, tables)?;
         let held = HeldSlots::of_tables(alloc, tables)?;
         let queued = QueuedRuns::of_tables(alloc, tables)?;
         let asked = AskedRuns::of_tables(alloc, tables)?;
+        let nodes = RunsOfNodes::of_tables(alloc, tables)?;
         Ok(RunParts {
             runs,
             held,
             queued,
             asked,
+            nodes,
         })
     }
 }

@@ -11,6 +11,7 @@ ghost use Rattle.batch_model.specs.Slots.{held_slots};
 ghost use Rattle.batch_model.specs.Tasks.{is_busy, main_run};
 ghost use Rattle.batch_model.specs.Variants.{TaskRow, RunRow};
 ghost use Rattle.run_index.specs.Named.{place_of_run};
+ghost use Rattle.run_index.specs.Nodes.{AreOnNode};
 ghost use Rattle.task_index.specs.Over.{AreOver};
 ghost use Rattle.task_index.specs.Active.{AreItemsOf, is_active_within};
 ghost use Rattle.machine_index.specs.Indexed.{IsIndexed};
@@ -23,7 +24,9 @@ use bt_base::{Id, List, Moment, NoMemory, Shared};
 use bt_rows::run::RunRow;
 use bt_rows::tables::{Change, Tables};
 use bt_rows::task::{TaskKey, TaskRow};
-use run_index::{AskedRuns, HeldSlots, QueuedRuns, RunsOfAttempts, place_of_run};
+use run_index::{
+    AskedRuns, HeldSlots, NodeRuns, QueuedRuns, RunsOfAttempts, RunsOfNodes, place_of_run,
+};
 use std::alloc::Global;
 use std::marker::Model;
 use std::mem;
@@ -42,6 +45,7 @@ pub struct IndexedTables {
     queued: QueuedRuns,
     asked: AskedRuns,
     numbered: NumberedTasks,
+    nodes: RunsOfNodes,
     room: usize,
 }
 
@@ -57,6 +61,7 @@ impl Drop for IndexedTables {
             queued: _queued,
             asked: _asked,
             numbered: _numbered,
+            nodes: _nodes,
             room: _room,
         } = self;
     }
@@ -69,7 +74,7 @@ impl Model for IndexedTables {
 
     ghost view = { λ i. record { state = i.tables.state; room = i.room } };
 
-    ghost invariant = { λ i. IsIndexed i.tables.task_slots i.tables.run_slots i.runs i.active i.over i.held i.timed i.queued i.asked i.numbered × HasRoom i.room i.tables.room i.runs.room i.active.room i.over.room i.held.room i.timed.room i.queued.room i.asked.room i.numbered.room };
+    ghost invariant = { λ i. IsIndexed i.tables.task_slots i.tables.run_slots i.runs i.active i.over i.held i.timed i.queued i.asked i.numbered i.nodes × HasRoom i.room i.tables.room i.runs.room i.active.room i.over.room i.held.room i.timed.room i.queued.room i.asked.room i.numbered.room i.nodes.room };
 }
 
 /// The place of the task that the run at this place names.
@@ -136,7 +141,7 @@ fn is_sparse(tables: &Tables) -> bool {
 
 /// What is kept beside these tables. The only error is out of memory.
 fn parts_of(alloc: Global, tables: &Tables) -> Result<(RunParts, TaskParts), NoMemory>
-    ensures { IfOk result (λ parts. IsIndexed tables.now.task_slots tables.now.run_slots parts.0.runs parts.1.active parts.1.over parts.0.held parts.1.timed parts.0.queued parts.0.asked parts.1.numbered) }
+    ensures { IfOk result (λ parts. IsIndexed tables.now.task_slots tables.now.run_slots parts.0.runs parts.1.active parts.1.over parts.0.held parts.1.timed parts.0.queued parts.0.asked parts.1.numbered parts.0.nodes) }
 {
     tables.places_known();
     let runs = RunParts::of_tables(alloc, tables)?;
@@ -147,7 +152,7 @@ fn parts_of(alloc: Global, tables: &Tables) -> Result<(RunParts, TaskParts), NoM
 impl IndexedTables {
     /// These tables with what is kept of them, and without room.
     fn of_parts(tables: Tables, runs: RunParts, tasks: TaskParts) -> IndexedTables
-        requires { IsIndexed tables.task_slots tables.run_slots runs.runs tasks.active tasks.over runs.held tasks.timed runs.queued runs.asked tasks.numbered }
+        requires { IsIndexed tables.task_slots tables.run_slots runs.runs tasks.active tasks.over runs.held tasks.timed runs.queued runs.asked tasks.numbered runs.nodes }
         ensures { result.state ≡ tables.state }
     {
         let RunParts {
@@ -155,6 +160,7 @@ impl IndexedTables {
             held,
             queued,
             asked,
+            nodes,
         } = runs;
         let TaskParts {
             active,
@@ -172,6 +178,7 @@ impl IndexedTables {
             queued,
             asked,
             numbered,
+            nodes,
             room: 0,
         }
     }
@@ -234,6 +241,7 @@ impl IndexedTables {
         self.queued.reserve(additional)?;
         self.asked.reserve(additional)?;
         self.numbered.reserve(additional)?;
+        self.nodes.reserve(additional)?;
         self.room = additional;
         Ok(())
     }
@@ -294,6 +302,7 @@ impl IndexedTables {
         self.runs.add(row, place);
         self.queued.put(before, row);
         self.asked.put(before, row);
+        self.nodes.put(&self.tables, row, place);
         self.tables.apply_one(Change::PutRun(run));
         self.tables.places_known();
         self.tables.keys_known();
@@ -405,6 +414,14 @@ impl IndexedTables {
         ensures { IfOk result (λ numbers. numbers ≡ asked_runs self.now.state) }
     {
         self.asked.numbers(alloc, &self.tables)
+    }
+
+    /// The runs on the node, and perhaps others: those at the places of the node's runs, the one that was put first last. It does not
+    /// allocate.
+    pub fn runs_on(&self, node: u64) -> NodeRuns<'_>
+        ensures { AreOnNode node result self.now.state.runs }
+    {
+        self.nodes.on_node(&self.tables, node)
     }
 
     /// Whether a task of the job whose id is this number is completed, and lets the tasks that depend on it go on. It looks at the tasks

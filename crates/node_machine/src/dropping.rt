@@ -28,11 +28,11 @@ use std::alloc::Global;
 use table_scans::{has_passed, is_unended};
 
 /// Whether a run on the node has not ended.
-fn has_unended(tables: &Tables, node: u64) -> bool
-    ensures { result ≡ list_any (is_unended_on node) tables.now.state.runs }
+fn has_unended(indexed: &IndexedTables, node: u64) -> bool
+    ensures { result ≡ list_any (is_unended_on node) indexed.now.state.runs }
 {
-    tables
-        .runs()
+    indexed
+        .runs_on(node)
         .any(|run| run.node == node && is_unended(run.state))
 }
 
@@ -40,7 +40,7 @@ fn has_unended(tables: &Tables, node: u64) -> bool
 fn is_at_rest(indexed: &IndexedTables, node: u64) -> bool
     ensures { result ≡ (not (list_any (is_unended_on node) indexed.now.state.runs) && nat_eq (held_slots indexed.now.state node) 0) }
 {
-    !has_unended(indexed.tables(), node) && indexed.held(node) == 0
+    !has_unended(indexed, node) && indexed.held(node) == 0
 }
 
 /// Whether the task's retention time is not over since `at`, in milliseconds since 1970.
@@ -83,12 +83,13 @@ fn is_retained(tables: &Tables, run: &RunRow) -> bool
 }
 
 /// Whether a run on the node is retained by its task.
-fn has_retained(tables: &Tables, node: u64) -> bool
-    requires { KeysAreDistinct tables.now.state }
-    ensures { result ≡ has_retained tables.now.state node }
+fn has_retained(indexed: &IndexedTables, node: u64) -> bool
+    requires { KeysAreDistinct indexed.now.state }
+    ensures { result ≡ has_retained indexed.now.state node }
 {
-    tables
-        .runs()
+    let tables = indexed.tables();
+    indexed
+        .runs_on(node)
         .any(|run| run.node == node && is_retained(tables, run))
 }
 
@@ -99,14 +100,14 @@ fn keeps_data(option: Dealloc) -> bool
     option == Dealloc::RetainedData
 }
 
-/// Whether the node is to be dropped. Only a leaving node costs a look at the runs.
+/// Whether the node is to be dropped. Only a leaving node costs a look at the runs on it.
 fn is_empty_node(indexed: &IndexedTables, node: &NodeRow) -> bool
     requires { KeysAreDistinct indexed.now.state }
     ensures { result ≡ is_empty_node indexed.now.state node.now }
 {
     match node.stage {
         NodeStage::Leaving(option) => is_at_rest(indexed, node.number)
-            && !(keeps_data(option) && has_retained(indexed.tables(), node.number)),
+            && !(keeps_data(option) && has_retained(indexed, node.number)),
         NodeStage::Starting | NodeStage::Usable | NodeStage::StartFailed => false,
     }
 }

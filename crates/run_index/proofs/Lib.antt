@@ -12,3 +12,4 @@ pub mod NextPlaces
 pub mod QueuedRanks
 pub mod TextPlaces
 pub mod NamedPlaces
+pub mod NodePlaces

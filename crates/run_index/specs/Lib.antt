@@ -1,6 +1,7 @@
 pub mod Texts
 pub mod Attempts
 pub mod Held
+pub mod Nodes
 pub mod Queued
 pub mod Seats
 pub mod Lowest

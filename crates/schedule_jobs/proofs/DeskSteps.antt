@@ -31,8 +31,8 @@ use Rattle.batch_desk.specs.declared.answer.Answer.{Answer}
 use Rattle.batch_desk.specs.declared.answer.Answer.TheVariants.{Done, KeeperFault, JournalFull, Memory}
 use Rattle.batch_desk.specs.declared.entry.Stop.{Stop}
 use Rattle.batch_desk.proofs.KeptThrough.{legal_after, sound_after_all}
-use Rattle.batch_ask.specs.Desks.{IsCall, IsLook, IsExchange}
-use Rattle.batch_ask.specs.Exchanges.{Exchange, Called, Looked, Leads}
+use Rattle.batch_desk.specs.Desks.{IsCall, IsLook, IsExchange}
+use Rattle.batch_desk.specs.Exchanges.{Exchange, Called, Looked, Leads}
 use Rattle.schedule_rows.specs.Turns.{is_made, reply_outcome, is_free, shows_free, is_completed_job}
 use Rattle.schedule_laws.specs.Laws.{job_of as asked_job, made_by, jobs_made}
 use Rattle.job_laws.specs.OverJobs.{has_over_state, is_over_state, is_job_over, adds_job}

@@ -8,8 +8,8 @@ use Rattle.bt_base.specs.Ids.{same}
 use Rattle.batch_model.specs.Variants.{State}
 use Rattle.batch_desk.specs.Answers.{IsInOrder}
 use Rattle.batch_desk.specs.Kept.{Desk}
-use Rattle.batch_ask.specs.Desks.{IsExchange}
-use Rattle.batch_ask.specs.Exchanges.{Exchange, Looked, Leads}
+use Rattle.batch_desk.specs.Desks.{IsExchange}
+use Rattle.batch_desk.specs.Exchanges.{Exchange, Looked, Leads}
 use Rattle.schedule_rows.specs.Jobs.{job_id, job_read}
 use Rattle.schedule_rows.specs.Rows.{Schedule}
 use Rattle.schedule_laws.specs.Laws.{made_by, jobs_made, MakesNone, WasFree, MakesOne}

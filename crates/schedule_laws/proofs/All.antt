@@ -1,6 +1,6 @@
 -- The turns of all schedules.
 use Rattle.std.proofs.Common.{◌≡◌, ℕ, List, [], ◌∷◌, ◌++◌, refl, sym, subst, ◌∙◌, append_assoc, append-nil}
-use Rattle.batch_ask.specs.Exchanges.{Exchange}
+use Rattle.batch_desk.specs.Exchanges.{Exchange}
 use Rattle.schedule_rows.specs.Interactions.{Ends, Reaches}
 use Rattle.schedule_rows.specs.Rows.{Schedule}
 use Rattle.schedule_rows.specs.Turns.{turns}

@@ -2,7 +2,7 @@
 use Rattle.std.proofs.Common.{ℕ, List, [], ◌∷◌, ◌++◌, Ok, refl}
 use Rattle.bt_rows.specs.declared.reply.Reply.TheVariants as replies
 use Rattle.batch_desk.specs.declared.answer.Answer.TheVariants as answers
-use Rattle.batch_ask.specs.Exchanges.{Exchange, Called, Looked}
+use Rattle.batch_desk.specs.Exchanges.{Exchange, Called, Looked}
 use Rattle.schedule_rows.specs.Interactions.{Interaction, Ends, Passes, Asks, Looks, Reaches}
 use Rattle.schedule_rows.specs.Rows.{Schedule}
 use Rattle.schedule_rows.specs.Turns.{turns}

@@ -2,7 +2,7 @@
 use Rattle.std.proofs.Common.{◌≡◌, ℕ, ◌+◌, Bool, true, false, List, [], ◌∷◌, ◌++◌, ◌⊎◌, inl, inr, refl, sym, ap, ◌∙◌, if◌then◌else◌}
 use Rattle.bt_rows.specs.declared.event.EventKind.{EventKind}
 use Rattle.batch_desk.specs.declared.answer.Answer.{Answer}
-use Rattle.batch_ask.specs.Exchanges.{Exchange, Called, Looked}
+use Rattle.batch_desk.specs.Exchanges.{Exchange, Called, Looked}
 use Rattle.schedule_rows.specs.Interactions.{Interaction, Ends, Asks, Reaches}
 use Rattle.schedule_rows.specs.Jobs.{job_id, add_job_asked, add_tasks_asked, patch_asked, has_tasks}
 use Rattle.schedule_rows.specs.Rows.{Schedule}

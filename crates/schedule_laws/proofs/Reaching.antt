@@ -1,6 +1,6 @@
 -- Interactions that are run in parts.
 use Rattle.std.proofs.Common.{List, [], ◌∷◌, ◌++◌, inl, inr, refl, subst}
-use Rattle.batch_ask.specs.Exchanges.{Exchange, Called, Looked}
+use Rattle.batch_desk.specs.Exchanges.{Exchange, Called, Looked}
 use Rattle.schedule_rows.specs.Interactions.{Interaction, Ends, Passes, Asks, Looks, Reaches}
 use Rattle.schedule_rows.specs.Rows.{Schedule}
 

@@ -6,7 +6,7 @@ use Rattle.bt_rows.specs.declared.event.EventKind.{EventKind}
 use Rattle.bt_rows.specs.declared.reply.Reply.{Reply}
 use Rattle.table_reads.specs.declared.request.Read.{Read}
 use Rattle.batch_desk.specs.declared.answer.Answer.{Answer}
-use Rattle.batch_ask.specs.Exchanges.{Exchange, Called, Looked}
+use Rattle.batch_desk.specs.Exchanges.{Exchange, Called, Looked}
 use Rattle.schedule_rows.specs.Interactions.{Interaction, Ends, Passes, Asks, Looks, Reaches}
 use Rattle.schedule_rows.specs.Jobs.{add_job_asked, add_tasks_asked, patch_asked, job_read, has_tasks}
 use Rattle.schedule_rows.specs.Occurrences.{firing_at, completed_at}

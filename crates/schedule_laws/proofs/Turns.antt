@@ -6,7 +6,7 @@ use Rattle.std.proofs.lemmas.Grind.{flat_map-append}
 use Rattle.bt_base.specs.declared.memory.NoMemory.{NoMemory}
 use Rattle.bt_rows.specs.declared.reply.Reply.{Reply}
 use Rattle.table_reads.specs.declared.request.Read.{Read}
-use Rattle.batch_ask.specs.Exchanges.{Exchange, Called, Looked}
+use Rattle.batch_desk.specs.Exchanges.{Exchange, Called, Looked}
 use Rattle.schedule_rows.specs.Interactions.{Interaction, Ends, Passes, Looks, Reaches}
 use Rattle.schedule_rows.specs.Jobs.{job_id, job_read}
 use Rattle.schedule_rows.specs.Occurrences.{due_at, is_new, is_in_window, is_before_end, due_to_fire, firing_at, is_active, is_idle, has_numbers}

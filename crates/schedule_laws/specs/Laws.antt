@@ -7,7 +7,7 @@ use Rattle.bt_rows.specs.declared.event.EventKind.TheVariants.{AddJob}
 use Rattle.bt_rows.specs.declared.reply.Reply.{Reply}
 use Rattle.table_reads.specs.declared.request.Read.{Read}
 use Rattle.batch_desk.specs.declared.answer.Answer.{Answer}
-use Rattle.batch_ask.specs.Exchanges.{Exchange, Called, Looked}
+use Rattle.batch_desk.specs.Exchanges.{Exchange, Called, Looked}
 use Rattle.schedule_rows.specs.declared.limits.TheConstants.{LAST_JOB_NUMBER}
 use Rattle.schedule_rows.specs.declared.stage.Stage.TheVariants.{Idle}
 use Rattle.schedule_rows.specs.Interactions.{Interaction, Ends, Reaches, IsBegun}

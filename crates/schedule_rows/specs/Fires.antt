@@ -5,7 +5,7 @@ use Rattle.bt_rows.specs.declared.event.EventKind.{EventKind}
 use Rattle.bt_rows.specs.declared.event.EventKind.TheVariants.{AddJob, AddTasks, PatchJob}
 use Rattle.batch_desk.specs.declared.answer.Answer.{Answer}
 use Rattle.batch_desk.specs.declared.answer.Answer.TheVariants as answers
-use Rattle.batch_ask.specs.Exchanges.{Exchange, Called, Looked}
+use Rattle.batch_desk.specs.Exchanges.{Exchange, Called, Looked}
 use Rattle.schedule_rows.specs.declared.fire.Fire.{Fire}
 use Rattle.schedule_rows.specs.declared.fire.FireWord.TheVariants as words
 

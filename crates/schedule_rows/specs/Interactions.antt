@@ -5,7 +5,7 @@ use Rattle.bt_rows.specs.declared.event.EventKind.{EventKind}
 use Rattle.bt_rows.specs.declared.reply.Reply.{Reply}
 use Rattle.table_reads.specs.declared.request.Read.{Read}
 use Rattle.batch_desk.specs.declared.answer.Answer.{Answer}
-use Rattle.batch_ask.specs.Exchanges.{Exchange, Called, Looked}
+use Rattle.batch_desk.specs.Exchanges.{Exchange, Called, Looked}
 use Rattle.schedule_rows.specs.Rows.{Schedule}
 
 -- an interaction ends with the rows, passes a point at which nothing is asked, or asks for a call or a read and continues by the answer

@@ -26,13 +26,18 @@ fn words_of(alloc: Global, words: &[&str]) -> Result<Vec<Word>, AllocError> {
     Ok(all)
 }
 
-/// A run: the words, the bytes of the source, and the numbers of the calls of source, sink and keeper that fail.
+/// A run, and which calls of its objects fail.
 #[derive(Clone, Copy)]
 pub struct Run<'a> {
+    /// The words of the command line.
     pub words: &'a [&'a str],
+    /// The bytes of the source.
     pub input: &'a [u8],
+    /// The numbers of the calls of the source that fail.
     pub source_fails: &'a [u64],
+    /// The numbers of the calls of the sink that fail.
     pub sink_fails: &'a [u64],
+    /// The numbers of the calls of the keeper that fail.
     pub keeper_fails: &'a [u64],
 }
 
@@ -134,10 +139,13 @@ fn with_faults(alloc: Global, mut keeper: MemoryKeeper, fails: Vec<u64>) -> Opti
     Some(MemoryKeeper::new(tables?, fails))
 }
 
-/// What a run gave: its status, its output, and the text of the tables that its keeper keeps after it.
+/// What a run gave, and what its keeper keeps after it.
 pub struct Outcome {
+    /// The status.
     pub status: Status,
+    /// What the sink took.
     pub output: Vec<u8>,
+    /// The text of the tables that the keeper keeps.
     pub kept: Text,
 }
 

@@ -29,11 +29,10 @@ struct TakenRun {
 pub struct QueueNotes {
     lowest: Vec<Option<u64>>,
     taken: Vec<TakenRun>,
+    /// The call; `Other` once it was answered that it was not made, since it has then changed nothing.
     call: LaneCall,
     /// Whether the call may have queued a run.
     may_queue: bool,
-    /// Whether the call was made.
-    is_done: bool,
 }
 
 impl QueueNotes {
@@ -48,7 +47,6 @@ impl QueueNotes {
             taken: Vec::new(alloc),
             call: LaneCall::Other,
             may_queue: false,
-            is_done: false,
         })
     }
 
@@ -65,12 +63,11 @@ impl QueueNotes {
     pub fn answer(&mut self, answer: &Answer) {
         match answer {
             Answer::Done { dues, .. } => {
-                self.is_done = true;
                 self.may_queue = !dues.as_slice().is_empty()
                     || matches!(self.call, LaneCall::End(_));
             }
             Answer::KeeperFault | Answer::JournalFull | Answer::Memory => {
-                self.is_done = false;
+                self.call = LaneCall::Other;
                 self.may_queue = false;
             }
         }
@@ -116,7 +113,7 @@ impl QueueNotes {
 
     /// Forgets the call, and the run whose end it told.
     pub fn finish(&mut self) {
-        if let (LaneCall::End(number), true) = (self.call, self.is_done) {
+        if let LaneCall::End(number) = self.call {
             self.taken.retain(|run| run.number != number);
         }
         self.call = LaneCall::Other;

@@ -6,7 +6,7 @@ use std::io;
 use std::io::Eprint;
 use std::sync::Wait;
 use std::time::Clock;
-use tcp_links::{AcceptCause, AcceptMonitor};
+use tcp_links::{AcceptCause, TcpMonitor};
 
 /// How long a link waits at most until what it shows is saved, in milliseconds: as long as an answer may take.
 const ANSWER_MS: u64 = 60_000;
@@ -65,7 +65,7 @@ impl<R: Wait + Clock + Eprint + Copy + Drop> ServiceReports<R> {
     }
 }
 
-impl<R: Wait + Clock + Eprint + Copy + Drop> AcceptMonitor for ServiceReports<R> {
+impl<R: Wait + Clock + Eprint + Copy + Drop> TcpMonitor for ServiceReports<R> {
     fn before_write(&self, piece: &[u8]) -> bool {
         piece.starts_with(NOT_SAVED) || self.is_saved(Some(ANSWER_MS))
     }

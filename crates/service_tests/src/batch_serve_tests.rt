@@ -5,6 +5,7 @@ ghost use Rattle.batch_serve.specs.Works.{IsReady};
 
 use batch_crew::LaneEnd;
 use batch_desk::{Answer, Journal};
+use batch_http::DoorEnd;
 use batch_keeper::{Keeper, SureKeeper};
 use batch_serve::{ServeStatus, Served, ServiceMonitor, Worker, WorkerKind, serve_words};
 use bt_base::{Moment, NoMemory, Word};
@@ -15,7 +16,6 @@ use bt_rows::tables::Tables;
 use bt_rows::task::{How, TaskRow};
 use byte_streams::SureSink;
 use child_runs::{ChildEnding, Ran, RunIdentity, Spawner, Stopper, SureStopper};
-use http_doors::DoorEnd;
 use http_link::SureLink;
 use link_doors::{Listener, SureListener};
 use shared_desk::CallMonitor;

@@ -2,8 +2,7 @@
 ghost use Rattle.std.specs.Prelude.{All, IfOk, IfSome};
 ghost use Rattle.counted_lock.specs.Passes.{IsPassOf};
 
-use batch_ask::Ask;
-use batch_desk::{Answer, Desk};
+use batch_desk::{Answer, Ask, Desk};
 use batch_keeper::SureKeeper;
 use bt_base::{Id, Moment, NoMemory, Shared};
 use bt_rows::event::{Event, EventKind, PoolSpec};

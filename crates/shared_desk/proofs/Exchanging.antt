@@ -11,8 +11,8 @@ use Rattle.batch_desk.specs.declared.answer.Answer.{Answer}
 use Rattle.batch_desk.specs.declared.answer.Answer.TheVariants.{Done, KeeperFault, JournalFull, Memory}
 use Rattle.batch_desk.specs.declared.entry.Entry.{Entry}
 use Rattle.batch_desk.specs.History.{done_entry, fault_entry}
-use Rattle.batch_ask.specs.Exchanges.{Exchange, Called, Looked, Leads}
-use Rattle.batch_ask.specs.Desks.{entries_of, call_entries}
+use Rattle.batch_desk.specs.Exchanges.{Exchange, Called, Looked, Leads}
+use Rattle.batch_desk.specs.Desks.{entries_of, call_entries}
 use Rattle.counted_lock.specs.declared.views.Stamped.{Stamped}
 use Rattle.counted_lock.specs.Views.{places_of, stamped}
 use Rattle.counted_lock.proofs.Prefixes.{prefix_self, prefix_trans, prefix_more}

@@ -3,8 +3,8 @@ use Rattle.std.specs.Prelude.{◌≡◌, ℕ, List, [], ◌∷◌, ◌++◌, Som
 use Rattle.std.specs.List.{flat_map}
 use mathlib.Core.List.{IsPrefix}
 use Rattle.batch_desk.specs.declared.entry.Entry.{Entry}
-use Rattle.batch_ask.specs.Exchanges.{Exchange, Called, Looked, Leads}
-use Rattle.batch_ask.specs.Desks.{entries_of}
+use Rattle.batch_desk.specs.Exchanges.{Exchange, Called, Looked, Leads}
+use Rattle.batch_desk.specs.Desks.{entries_of}
 use Rattle.counted_lock.specs.declared.views.Stamped.{Stamped}
 use Rattle.counted_lock.specs.Passes.{LockIdentity}
 use Rattle.counted_lock.specs.Views.{places_of, unnumbered, stamped}

@@ -5,8 +5,7 @@ ghost use Rattle.shared_desk.specs.Askers.{EntersItsCalls};
 
 use crate::monitor::CallMonitor;
 use crate::shared::{Pass, SharedDesk};
-use batch_ask::Ask;
-use batch_desk::Answer;
+use batch_desk::{Answer, Ask};
 use batch_keeper::Keeper;
 use bt_base::{Moment, NoMemory};
 use bt_rows::event::Event;

@@ -5,34 +5,15 @@ use denote.Struct.Declared.{shape}
 use Rattle.std.proofs.Crossing.{crosses, Arc-send, Arc-sync}
 use Rattle.std.proofs.sync.Mutex.TheSendSync as mutex
 use Rattle.sql_store.specs.contracts.monitor.Watch as Watch
-use Rattle.sql_store.specs.contracts.queue.OpenFile as OpenFile
 use Rattle.sql_store.specs.contracts.queue.Queue as Queue
 use Rattle.sql_store.specs.contracts.store.SqlStore as SqlStore
 use Rattle.sql_store.specs.contracts.store.SqlStore.TheInside as inside
 use Rattle.sql_store.specs.contracts.sync.Shared as Shared
 use Rattle.sql_store.specs.contracts.sync.StoreSync as StoreSync
 use Rattle.sql_store.proofs.health.StoreHealth.TheSendSync as health
-use Rattle.sql_store.proofs.reading.ReadFault.TheSendSync as read_fault
-use Rattle.sql_store.proofs.statements.Statements.TheSendSync as statements
+use Rattle.sql_file.proofs.Sends.{file_send}
+use Rattle.sql_file.proofs.reading.ReadFault.TheSendSync as read_fault
 use Rattle.keeper_store.proofs.edit.Edit.TheSendSync as edit
-use Rattle.sqlite.proofs.connection.Connection.TheSendSync as connection
-use Rattle.sqlite.below.sqlite_store.proofs.store.FileStore.TheSendSync as file_store
-use Rattle.sqlite.below.sqlite_std_file.specs.contracts.host.Host as Host
-use Rattle.sqlite_disk.proofs.modelled.Modelled.TheSendSync as modelled
-
--- an open file of the system
-host_send : IsSend Host.the_row
-host_send = search (sendable, crosses) depth 30
-
--- a file that is open as a store
-file_field_send : IsSend OpenFile.the_field.row
-file_field_send = struct_send (shape OpenFile.the_type) (
-  search (connection.the_send, file_store.the_send, modelled.the_send, host_send),
-  (statements.the_field_send, (search sendable, tt)),
-)
-
-file_send : IsSend OpenFile.the_row
-file_send = recorded_send OpenFile.the_field.row _ _ OpenFile.the_type.to_one file_field_send
 
 -- a monitor and what it was told
 watch_send : (M : RattleType) → IsSend M → IsSend (Watch.the_field M).row

@@ -1,6 +1,6 @@
 //! What is told of faults of writes.
-use crate::fault::WriteFault;
 use crate::health::StoreHealth;
+use sql_file::WriteFault;
 use std::mem;
 
 /// What a store tells of its writes.

@@ -1,10 +1,7 @@
 //! Writes that are not in the file yet.
-use crate::fault::{WriteError, WriteFault};
 use crate::monitor::{StoreMonitor, Watch};
-use crate::statements::Statements;
-use crate::writing::{CopiedEdits, write_all};
 use keeper_store::Edit;
-use sqlite::{Alter, Connection, Error, ErrorCode, File, FileStore};
+use sql_file::{CopiedEdits, SqlFile, WriteError, WriteFault};
 use std::alloc::Global;
 use std::mem;
 use std::time::{Clock, Duration, Instant};
@@ -15,56 +12,16 @@ const FIRST_PAUSE_MS: u64 = 50;
 /// The longest pause between two attempts, in milliseconds.
 const LAST_PAUSE_MS: u64 = 5_000;
 
+/// How long one waits at most for the attempt of another one without looking again, in milliseconds.
+const LONGEST_WAIT_MS: u64 = 3_600_000;
+
 /// How many edits wait at most before a write has them written, so that a command that shows nothing for long does not keep them all in memory.
 const MAX_EDITS: usize = 4_096;
-
-/// A file that is open as a store: its connection, its statements, and the place of the next new row.
-pub struct OpenFile {
-    /// The connection to the file.
-    pub connection: Connection<FileStore<File>>,
-    /// The statements on its tables.
-    pub statements: Statements,
-    /// The place of the next new row.
-    pub place: u64,
-}
-
-impl Drop for OpenFile {
-    fn drop(self) {
-        let OpenFile {
-            connection: _connection,
-            statements: _statements,
-            place: _,
-        } = self;
-    }
-}
-
-impl OpenFile {
-    /// Copies the log into the file and closes both.
-    pub fn close(self) -> Result<(), Error> {
-        let OpenFile {
-            connection,
-            statements: _,
-            place: _,
-        } = self;
-        connection.close()
-    }
-}
-
-/// Whether the connection answers nothing any more, since its disk did not confirm a write. It reads no row.
-fn is_shut<S: Alter>(connection: &mut Connection<S>) -> bool {
-    match connection.prepare("SELECT 1") {
-        Ok(statement) => {
-            drop(statement);
-            false
-        }
-        Err(error) => error == Error::SqliteFailure(ErrorCode::Closed),
-    }
-}
 
 /// The edits of some writes, one after the other, and the file in which they are to be made.
 #[derive(Drop)]
 pub struct Attempt {
-    file: OpenFile,
+    file: SqlFile,
     edits: Vec<Edit>,
     /// The number of the last of the writes.
     last: u64,
@@ -82,16 +39,8 @@ impl Attempt {
     /// Makes the edits in one transaction. After a fault the file has none of them, but if the store is shut, when it has all or none.
     pub fn make(self) -> Attempted {
         let mut attempt = self;
-        let file = &mut attempt.file;
-        let written = write_all(
-            &mut file.connection,
-            &file.statements.writes,
-            file.place,
-            attempt.edits.as_slice(),
-        );
-        match written {
-            Ok(place) => {
-                file.place = place;
+        match attempt.file.write(attempt.edits.as_slice()) {
+            Ok(()) => {
                 attempt.edits.clear();
                 Attempted {
                     attempt,
@@ -100,7 +49,7 @@ impl Attempt {
                 }
             }
             Err(fault) => {
-                let is_shut = is_shut(&mut file.connection);
+                let is_shut = attempt.file.is_shut();
                 Attempted {
                     attempt,
                     fault: Some(fault),
@@ -132,16 +81,14 @@ pub enum Step {
     Closed,
     /// To make this attempt.
     Make(Attempt),
-    /// To wait until another one has made its attempt.
-    Wait,
-    /// To wait so long, or until another one has made an attempt.
-    Pause(Duration),
+    /// To wait until another one has made an attempt, and for this time at most.
+    Wait(Duration),
 }
 
 /// Writes that are not in the file yet, in their order, and the file while nobody writes.
 pub struct Queue<M: StoreMonitor + Drop> {
     /// None while one has it, and after it was closed.
-    file: Option<OpenFile>,
+    file: Option<SqlFile>,
     is_closed: bool,
     /// The edits of the writes that no attempt has had yet.
     edits: Vec<Edit>,
@@ -179,8 +126,8 @@ impl<M: StoreMonitor + Drop> Drop for Queue<M> {
 
 impl<M: StoreMonitor + Drop> Queue<M> {
     /// No writes for this file. It does not allocate.
-    pub fn new(alloc: Global, file: OpenFile, watch: Watch<M>) -> Queue<M> {
-        let places = (i64::MAX as u64).saturating_sub(file.place);
+    pub fn new(alloc: Global, file: SqlFile, watch: Watch<M>) -> Queue<M> {
+        let places = file.places();
         Queue {
             file: Some(file),
             is_closed: false,
@@ -244,12 +191,12 @@ impl<M: StoreMonitor + Drop> Queue<M> {
     }
 
     /// The file, if nobody has it.
-    pub fn take_file(&mut self) -> Option<OpenFile> {
+    pub fn take_file(&mut self) -> Option<SqlFile> {
         self.file.take()
     }
 
     /// Takes the file back.
-    pub fn put_file(&mut self, file: OpenFile) {
+    pub fn put_file(&mut self, file: SqlFile) {
         self.file = Some(file);
     }
 
@@ -291,10 +238,10 @@ impl<M: StoreMonitor + Drop> Queue<M> {
             return Step::Closed;
         }
         if let Some(left) = self.pause(rt) {
-            return Step::Pause(left);
+            return Step::Wait(left);
         }
         let Some(file) = self.file.take() else {
-            return Step::Wait;
+            return Step::Wait(Duration::from_millis(LONGEST_WAIT_MS));
         };
         let (edits, last) = self.take_edits();
         Step::Make(Attempt { file, edits, last })

@@ -2,33 +2,20 @@
 ghost use Rattle.std.specs.Prelude.{◌≡◌, ◌≤◌, ◌+◌, ◌-◌, ◌^◌, min, IfOk, IsErrOf};
 ghost use Rattle.batch_keeper.specs.Told.{FailsWithCause};
 
-use crate::error::OpenError;
-use crate::fault::{CloseError, WriteError};
+use crate::closing::CloseError;
 use crate::health::StoreHealth;
-use crate::look::{Found, look};
 use crate::monitor::{StoreMonitor, Watch};
-use crate::queue::OpenFile;
-use crate::reading::{ReadError, ReadFault, next_place, read_all, read_metas};
-use crate::schema::{Content, content_of};
-use crate::statements::{Statements, make_tables, prepare_all};
 use crate::sync::StoreSync;
-use crate::writing::{CopiedEdits, copy_edits};
 use batch_keeper::KeepError;
 use keeper_store::{Edit, Store, Stored};
-use sqlite::{Alter, Connection, Error, ErrorCode, File, FileStore};
+use sql_file::{
+    CopiedEdits, OpenMode, ReadError, ReadFault, SqlFile, WriteError, WriteFault, copy_edits,
+};
+use sql_look::OpenError;
 use std::alloc::Global;
 use std::marker::Model;
 use std::sync::Wait;
 use std::time::Clock;
-
-/// Whether an open may make a file or its tables.
-#[derive(Clone, Copy, Debug, PartialEq, Eq)]
-pub enum OpenMode {
-    /// A file is made if none is at the path, and tables if the file has none.
-    MakeIfMissing,
-    /// The file has to be there, with its tables.
-    MustExist,
-}
 
 /// How long a read and a close wait at most for writes that fail, in milliseconds.
 const LAST_WAIT_MS: u64 = 60_000;
@@ -64,90 +51,9 @@ impl<R: Drop, M: StoreMonitor + Drop> Model for SqlStore<R, M> {
     ghost view = { λ s. s.faults };
 }
 
-/// What is at the path, if the mode allows to open it.
-fn allowed(rt: &HostRuntime, path: &str, mode: OpenMode) -> Result<Found, OpenError> {
-    match (look(rt, path)?, mode) {
-        (Found::Nothing, OpenMode::MustExist) => Err(OpenError::Missing),
-        (Found::Unfinished, OpenMode::MustExist) => Err(OpenError::Empty),
-        (found, _) => Ok(found),
-    }
-}
-
-/// Why the file was not opened, if this was found at its path.
-fn open_fault(error: Error, found: Found) -> OpenError {
-    match (error, found) {
-        (Error::SqliteFailure(ErrorCode::CannotOpen), Found::Nothing) => OpenError::NotMade,
-        (error, _) => OpenError::of_sql(error),
-    }
-}
-
-fn connect(
-    rt: &HostRuntime,
-    path: &str,
-    found: Found,
-) -> Result<Connection<FileStore<File>>, OpenError> {
-    match Connection::open(rt, path) {
-        Ok(connection) => Ok(connection),
-        Err(error) => Err(open_fault(error, found)),
-    }
-}
-
-/// Makes the tables, if the file was found without them. A file that another program has changed since it was looked at is refused.
-fn complete<S: Alter>(connection: &mut Connection<S>, found: Found) -> Result<(), OpenError> {
-    match content_of(connection)? {
-        Content::Store => Ok(()),
-        Content::Foreign(foreign) => Err(OpenError::Foreign(foreign)),
-        Content::Unfinished if found == Found::Store => Err(OpenError::Empty),
-        Content::Unfinished => make_tables(connection).map_err(OpenError::of_sql),
-    }
-}
-
-/// Prepares the statements, and finds the next place.
-fn prepare<S: Alter>(connection: &mut Connection<S>) -> Result<(Statements, u64), Error> {
-    let statements = prepare_all(connection)?;
-    match next_place(connection, &statements.reads.last_place) {
-        Ok(place) => Ok((statements, place)),
-        Err(error) => {
-            drop(statements);
-            Err(error)
-        }
-    }
-}
-
-/// A connection with tables, its statements, and the next place.
-fn begin<S: Alter>(
-    connection: &mut Connection<S>,
-    found: Found,
-) -> Result<(Statements, u64), OpenError> {
-    complete(connection, found)?;
-    prepare(connection).map_err(OpenError::of_sql)
-}
-
-/// Opens the file, at whose path this was found, and makes its tables if it has none.
-fn open_file(rt: &HostRuntime, path: &str, found: Found) -> Result<OpenFile, OpenError> {
-    let mut connection = connect(rt, path, found)?;
-    match begin(&mut connection, found) {
-        Ok((statements, place)) => Ok(OpenFile {
-            connection,
-            statements,
-            place,
-        }),
-        Err(error) => {
-            drop(connection);
-            Err(error)
-        }
-    }
-}
-
 impl<R: Drop, M: StoreMonitor + Drop> SqlStore<R, M> {
-    /// Opens the file with the runtime of the program, and tells the monitor of its writes. `rt` is what its calls wait with. It looks at the
-    /// file first, and changes nothing of one that is not a store. If the mode is `MakeIfMissing`, a file is made if there is none, and its
-    /// tables if it has none.
-    ///
-    /// `Missing` and `Empty` come only if the mode is `MustExist`: there is no file, or it has no tables. `Foreign` comes if the file is not
-    /// a store, or has more than a store has; it is then as it was, byte for byte, and nothing was made beside it. `InUse` comes if a
-    /// process has it open, `NotMade` if it cannot be made, `Unusable` if it cannot be read and written, `DiskFull` if there is no room,
-    /// and `Damaged` if it is not whole. What the tables contain is not tested here but by `read`.
+    /// Opens the file as `SqlFile::open` does, with the runtime of the program, and tells the monitor of its writes. `rt` is what its calls
+    /// wait with.
     pub fn open(
         host: &HostRuntime,
         rt: R,
@@ -160,14 +66,14 @@ impl<R: Drop, M: StoreMonitor + Drop> SqlStore<R, M> {
         let alloc = host.alloc();
         let health = StoreHealth::new(alloc)?;
         let watch = Watch::new(monitor, health.share()?);
-        let found = allowed(host, path, mode)?;
-        let file = open_file(host, path, found)?;
+        let file = SqlFile::open(host, path, mode)?;
+        let is_new = file.is_new();
         Ok(SqlStore {
             rt,
             sync: StoreSync::new(alloc, file, watch)?,
             health,
             faults: 0,
-            is_new: found != Found::Store,
+            is_new,
             read_fault: None,
         })
     }
@@ -199,20 +105,17 @@ impl<R: Wait + Clock + Drop, M: StoreMonitor + Drop> SqlStore<R, M> {
         ensures { self.new ≡ self.old }
     {
         let mut file = self.sync.take_file(&self.rt);
-        let read = read_metas(&mut file.connection, &file.statements.reads.metas);
+        let moment = file.last_moment();
         self.sync.put_file(&self.rt, file);
-        match read {
-            Ok(metas) => metas.moment,
-            Err(_) => None,
-        }
+        moment
     }
 
     /// Waits for all writes, at most a minute if they fail, copies the log into the file and closes both. The file alone then has all that
     /// was written; the log stays beside it, with no rows. A store that is dropped leaves rows in the log, and then the file and its log
     /// belong together; writes that were not waited for are lost then.
     ///
-    /// `Unwritten` comes if writes could not be made in that time: they are lost, and nobody who waited for them was told that they are
-    /// in the file. Another error comes if the log cannot be copied, as on a full disk. Nothing is lost then: the log beside the file has
+    /// `Unwritten` comes if writes could not be made in that time, or if the store has shut itself: nobody who waited for them was told that they
+    /// are in the file, and they are lost, but that after a shut the file may have them. Another error comes if the log cannot be copied, as on a full disk. Nothing is lost then: the log beside the file has
     /// what was written, as if the store was dropped, and the next open finds it.
     pub fn close(self) -> Result<(), CloseError> {
         let _ = self.sync.wait(&self.rt, Some(LAST_WAIT_MS));
@@ -252,16 +155,22 @@ impl<R: Wait + Clock + Drop, M: StoreMonitor + Drop> SqlStore<R, M> {
         }
     }
 
+    // Why not all writes are in the file. If no attempt has failed, one takes too long.
+    fn unwritten_cause(&self) -> ReadError {
+        match self.sync.queue(&self.rt).fault() {
+            Some(WriteError::Fault(fault)) => ReadError::Fault(ReadFault::Unread(fault)),
+            Some(WriteError::Memory) => ReadError::Memory,
+            None => ReadError::Fault(ReadFault::Unread(WriteFault::CannotWrite)),
+        }
+    }
+
     // Reads the file once all writes are in it.
     fn read_file(&self, alloc: Global) -> Result<Stored, ReadError> {
         if self.sync.wait(&self.rt, Some(LAST_WAIT_MS)).is_err() {
-            return Err(match self.sync.queue(&self.rt).fault() {
-                Some(WriteError::Fault(fault)) => ReadError::Fault(ReadFault::Unread(fault)),
-                Some(WriteError::Memory) | None => ReadError::Memory,
-            });
+            return Err(self.unwritten_cause());
         }
         let mut file = self.sync.take_file(&self.rt);
-        let read = read_all(alloc, &mut file.connection, &file.statements.reads);
+        let read = file.read(alloc);
         self.sync.put_file(&self.rt, file);
         read
     }

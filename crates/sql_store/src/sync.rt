@@ -1,7 +1,8 @@
 //! Waiting until writes are in the file.
 use crate::monitor::{StoreMonitor, Watch};
-use crate::queue::{OpenFile, Queue, Step};
+use crate::queue::{Queue, Step};
 use bt_base::NoMemory;
+use sql_file::SqlFile;
 use std::alloc::Global;
 use std::sync::{Arc, Condvar, Mutex, MutexGuard, Wait};
 use std::time::{Clock, Duration, Instant};
@@ -13,9 +14,6 @@ struct Shared<M: StoreMonitor + Drop> {
     /// Told whenever the file is put back.
     changed: Condvar,
 }
-
-/// How long one waits at most without looking again, in milliseconds.
-const LONGEST_WAIT_MS: u64 = 3_600_000;
 
 /// Why one waits no longer for writes that are not in the file.
 #[derive(Clone, Copy, Debug, PartialEq, Eq)]
@@ -51,7 +49,7 @@ impl<M: StoreMonitor + Drop> StoreSync<M> {
     /// No writes for this file. The only error is out of memory.
     pub(crate) fn new(
         alloc: Global,
-        file: OpenFile,
+        file: SqlFile,
         watch: Watch<M>,
     ) -> Result<StoreSync<M>, NoMemory> {
         let shared = Shared {
@@ -76,7 +74,7 @@ impl<M: StoreMonitor + Drop> StoreSync<M> {
     }
 
     /// The file, once nobody writes.
-    pub(crate) fn take_file<R: Wait>(&self, rt: &R) -> OpenFile {
+    pub(crate) fn take_file<R: Wait>(&self, rt: &R) -> SqlFile {
         let mut queue = self.shared.queue.lock(rt);
         for _ in rt.forever() {
             if let Some(file) = queue.take_file() {
@@ -88,7 +86,7 @@ impl<M: StoreMonitor + Drop> StoreSync<M> {
     }
 
     /// Takes the file back.
-    pub(crate) fn put_file<R: Wait>(&self, rt: &R, file: OpenFile) {
+    pub(crate) fn put_file<R: Wait>(&self, rt: &R, file: SqlFile) {
         self.shared.queue.lock(rt).put_file(file);
         self.shared.changed.notify_all();
     }
@@ -104,8 +102,11 @@ impl<M: StoreMonitor + Drop> StoreSync<M> {
     }
 
     /// Waits until each write that has answered `Ok` up to now is in the file, so that no crash can lose it. With a limit, in milliseconds,
-    /// it waits no longer than that, but for an attempt of its own; 0 makes one attempt. `Shut` comes if the store has shut
-    /// itself, and `Closed` if it was closed meanwhile.
+    /// it waits no longer than that for others and between attempts; an attempt of its own takes as long as the disk. With 0 it makes an
+    /// attempt if one may be made at once, and does not wait.
+    ///
+    /// `Shut` comes if the store has shut itself, `Closed` if it was closed meanwhile, and `TimeOver` if the limit is over, or the clock cannot
+    /// be read.
     pub fn wait<R: Wait + Clock>(&self, rt: &R, limit_ms: Option<u64>) -> Result<(), WaitFault> {
         let mut queue = self.shared.queue.lock(rt);
         let number = queue.added();
@@ -126,21 +127,14 @@ impl<M: StoreMonitor + Drop> StoreSync<M> {
                     queue.end(rt, attempted);
                     self.shared.changed.notify_all();
                 }
-                Step::Wait => {
-                    let Some(left) = left_of(rt, limit, start) else {
-                        return Err(WaitFault::TimeOver);
-                    };
-                    let left = left.min(Duration::from_millis(LONGEST_WAIT_MS));
-                    queue = self.shared.changed.wait_timeout(rt, queue, left).0;
-                }
-                Step::Pause(pause) => {
+                Step::Wait(longest) => {
                     let Some(left) = left_of(rt, limit, start) else {
                         return Err(WaitFault::TimeOver);
                     };
                     queue = self
                         .shared
                         .changed
-                        .wait_timeout(rt, queue, pause.min(left))
+                        .wait_timeout(rt, queue, longest.min(left))
                         .0;
                 }
             }

@@ -11,8 +11,11 @@ use std::sync::atomic::{AtomicU64, Ordering};
 /// How often a monitor was told of each.
 #[derive(Drop)]
 pub struct Counts {
+    /// That a write was too large.
     pub too_large: AtomicU64,
+    /// That a write failed for another cause.
     pub others: AtomicU64,
+    /// That a write succeeded after one that failed.
     pub successes: AtomicU64,
 }
 
@@ -23,6 +26,7 @@ pub struct Counting {
 }
 
 impl Counting {
+    /// A monitor that was told nothing. The only error is out of memory.
     pub fn new(alloc: Global) -> Result<Counting, AllocError> {
         let counts = Counts {
             too_large: AtomicU64::new(0),
@@ -34,6 +38,7 @@ impl Counting {
         })
     }
 
+    /// Another monitor with the same counts. The only error is out of memory.
     pub fn share(&self) -> Result<Counting, AllocError> {
         Ok(Counting {
             counts: Arc::try_clone(&self.counts)?,
@@ -81,10 +86,12 @@ pub fn remove(rt: &HostRuntime, path: &str, log: &str) {
     let _ = fs::remove_file(rt, log);
 }
 
+/// The text, in memory of its own.
 pub fn text(alloc: Global, text: &str) -> Result<Text, NoMemory> {
     Text::of_string(String::from_str(alloc, text)?)
 }
 
+/// The edit that puts this row with this key.
 pub fn put(alloc: Global, kind: RowKind, key: &str, row: &str) -> Result<Edit, NoMemory> {
     let entry = Entry {
         key: text(alloc, key)?,

@@ -268,7 +268,7 @@ fn told_of_faults<R: Wait + Clock + Copy + Drop>(
 }
 
 #[test]
-fn a_write_that_fails_in_its_middle_leaves_nothing(rt: HostRuntime) -> Result<(), Fail> {
+fn a_write_with_an_edit_that_no_file_can_have_leaves_nothing(rt: HostRuntime) -> Result<(), Fail> {
     remove(&rt, "faults.db", "faults.db-wal");
     let told = told_of_faults(&rt, &rt);
     remove(&rt, "faults.db", "faults.db-wal");

@@ -1,5 +1,6 @@
-//! Tests over programs of the system: exit codes, stops before and after the start, folders and environments of child programs,
-//! reasons of child programs that cannot be started, starts that wait, and the list of runs.
+//! Tests over programs of the system: exit codes, stops before and after the start, starts that the monitor does not let be made, folders
+//! and environments of child programs, reasons of child programs that cannot be started, starts that wait, and the list of runs.
+use crate::folders::new_folder;
 use bt_base::{Id, NoMemory, Word};
 use bt_rows::run::RunKind;
 use child_programs::{ProgramSpawner, ProgramStopper, ProgramTable, ServiceFolders, StartMonitor};
@@ -13,7 +14,7 @@ use std::sync::Wait;
 use std::sync::atomic::{AtomicU64, Ordering};
 use std::test::Fail;
 use std::time::{Clock, Duration};
-use std::{fs, io, process, thread};
+use std::{fs, io, thread};
 
 /// How often the monitor of a test was told of each.
 #[derive(Drop)]
@@ -65,6 +66,24 @@ impl StartMonitor for CountingMonitor<'_> {
     fn list_fails(&self, _cause: io::Error) {
         self.0.list_fails.fetch_add(1, Ordering::SeqCst);
     }
+}
+
+/// A monitor that lets no child program be started.
+#[derive(Clone, Copy)]
+struct Refusing;
+
+impl StartMonitor for Refusing {
+    fn before_start(&self, _number: u64) -> bool {
+        false
+    }
+
+    fn start_waits(&self, _number: u64, _cause: io::Error) {}
+
+    fn start_goes_on(&self, _number: u64) {}
+
+    fn start_given_up(&self, _number: u64, _cause: io::Error) {}
+
+    fn list_fails(&self, _cause: io::Error) {}
 }
 
 /// The words of a command line.
@@ -131,11 +150,9 @@ impl Drop for Service {
 impl Service {
     /// Makes the folder, which has the name in its own.
     fn new(rt: &HostRuntime, name: &str) -> Result<Service, Fail> {
-        let number = process::id(rt.process());
-        let folder = format!(in rt.alloc(); "/tmp/child_programs-{name}-{number}")?;
+        let folder = new_folder(rt, name)?;
         let folders = ServiceFolders::new(rt.alloc(), folder.as_str(), "runs")?;
         let table = ProgramTable::new(rt.alloc())?;
-        fs::create_dir(rt, folder.as_str())?;
         Ok(Service {
             folder,
             folders,
@@ -217,6 +234,21 @@ fn programs_run_and_stop(rt: HostRuntime) -> Result<(), Fail> {
     assert!(rt; asked.is_ok() && asked_after.is_ok());
     assert!(rt; !open_before && open_while && !table.has_open(&rt));
     assert_eq!(rt; service.told.counts(), (0, 0, 0, 0));
+    Ok(())
+}
+
+#[test]
+fn a_program_is_not_started_without_leave(rt: HostRuntime) -> Result<(), Fail> {
+    let alloc = rt.alloc();
+    let service = Service::new(&rt, "leave")?;
+    let mut spawner = ProgramSpawner::new(rt, &service.table, &service.folders, Refusing)?;
+    let echoes = words(alloc, &["echo", "told"])?;
+    let ended = spawner.run(alloc, &task_run(alloc)?, 90, echoes.as_slice());
+    let output = format!(in alloc; "{}/film/frame-7/90/stdout.txt", service.folders.runs())?;
+    let has_output = fs::metadata(&rt, output.as_str()).is_ok();
+    service.remove(&rt)?;
+    assert_eq!(rt; ended, Ran::NotStarted);
+    assert!(rt; !has_output);
     Ok(())
 }
 

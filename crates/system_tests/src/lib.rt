@@ -4,6 +4,8 @@
 #[cfg(test)]
 mod child_programs_tests;
 #[cfg(test)]
+mod folders;
+#[cfg(test)]
 mod service_over_tcp_tests;
 #[cfg(test)]
 mod system_clock_tests;

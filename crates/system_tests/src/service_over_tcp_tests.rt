@@ -3,6 +3,7 @@
 ghost use Rattle.std.specs.Prelude.{◌≡◌, All, IfOk, false};
 ghost use Rattle.batch_serve.specs.Works.{IsReady};
 
+use crate::folders::new_folder;
 use batch_desk::{EntryRef, Journal, Mark};
 use batch_keeper::SureKeeper;
 use batch_serve::{ServeStatus, Served, Worker, WorkerKind, serve_words};
@@ -24,9 +25,9 @@ use std::sync::{Arc, Wait};
 use std::test::Fail;
 use std::thread::Threads;
 use std::time::{Clock as Time, Duration};
-use std::{fs, io, process, thread};
+use std::{fs, io, thread};
 use system_clock::SystemClock;
-use tcp_links::{AcceptCause, AcceptMonitor, ListenFlags, ListenOptions, TcpListener, WaitLimits};
+use tcp_links::{AcceptCause, ListenFlags, ListenOptions, TcpListener, TcpMonitor, WaitLimits};
 
 /// How many times the client looks whether the task is completed, at most, and how long it sleeps after each, in milliseconds.
 const MAX_LOOKS: u32 = 800;
@@ -57,7 +58,7 @@ const CREATED_LENGTH: usize = 43;
 #[derive(Clone, Copy)]
 struct Silent;
 
-impl AcceptMonitor for Silent {
+impl TcpMonitor for Silent {
     fn accept_waits(&self, _cause: AcceptCause) {}
 
     fn accept_goes_on(&self) {}
@@ -229,18 +230,10 @@ fn run_task<R: Time + Net<Listener = Socket, Stream = TcpStream> + AllocGlobal>(
     None
 }
 
-/// The path of a new folder for the service.
-fn new_folder(rt: &HostRuntime) -> Result<String, Fail> {
-    let number = process::id(rt.process());
-    let folder = format!(in rt.alloc(); "/tmp/service_over_tcp-{number}")?;
-    fs::create_dir(rt, folder.as_str())?;
-    Ok(folder)
-}
-
 #[test]
 fn a_client_sees_the_exit_code_of_a_program(rt: HostRuntime) -> Result<(), Fail> {
     let alloc = rt.alloc();
-    let folder = new_folder(&rt)?;
+    let folder = new_folder(&rt, "service_over_tcp")?;
     let folders = ServiceFolders::new(alloc, folder.as_str(), "runs")?;
     let table = ProgramTable::new(alloc)?;
     let ended = Arc::new(alloc, AtomicBool::new(false))?;

@@ -10,7 +10,7 @@ use std::test::Fail;
 use std::time::{Clock, Duration, Instant};
 use std::{io, thread};
 use tcp_links::{
-    AcceptCause, AcceptMonitor, ListenFlags, ListenOptions, MAX_UNKNOWN_MS, TcpListener, WaitLimits,
+    AcceptCause, ListenFlags, ListenOptions, MAX_UNKNOWN_MS, TcpListener, TcpMonitor, WaitLimits,
 };
 
 /// EMFILE of Linux.
@@ -53,7 +53,7 @@ impl Tellings {
 #[derive(Clone, Copy)]
 struct Counting<'a>(&'a Tellings);
 
-impl AcceptMonitor for Counting<'_> {
+impl TcpMonitor for Counting<'_> {
     fn accept_waits(&self, cause: AcceptCause) {
         self.0.waits.fetch_add(1, Ordering::SeqCst);
         if cause == AcceptCause::ProgramFiles {

@@ -1,5 +1,6 @@
 //! Tests over real sockets: two listeners share one port, a connection is read and answered, and both end; each time of a connection
-//! is over for a client that is too slow; links end while they wait for a message once the service is stopping.
+//! is over for a client that is too slow; a link writes nothing that its monitor does not let it; links end while they wait for a message once
+//! the service is stopping.
 ghost use Rattle.std.specs.Prelude.{◌≡◌, false, IfOk};
 
 use http_link::{Link, fill, write_all};
@@ -12,17 +13,24 @@ use std::test::Fail;
 use std::thread;
 use std::time::{Clock, Duration, Instant};
 use tcp_links::{
-    AcceptCause, AcceptMonitor, ListenFlags, ListenOptions, TcpLink, TcpListener, WaitLimits,
+    AcceptCause, ListenFlags, ListenOptions, TcpLink, TcpListener, TcpMonitor, WaitLimits,
 };
+
+/// A piece that the monitor does not let links write.
+const UNSAVED: &[u8] = b"unsaved";
 
 /// A monitor that tells nobody.
 #[derive(Clone, Copy)]
 struct Silent;
 
-impl AcceptMonitor for Silent {
+impl TcpMonitor for Silent {
     fn accept_waits(&self, _cause: AcceptCause) {}
 
     fn accept_goes_on(&self) {}
+
+    fn before_write(&self, piece: &[u8]) -> bool {
+        piece != UNSAVED
+    }
 }
 
 /// Times that no client of these tests is to exceed.
@@ -224,6 +232,20 @@ fn an_answer_that_is_not_taken_is_cut_off(rt: HostRuntime) -> Result<(), Fail> {
         }
     }
     assert!(rt; failed && is_over(&rt, start)?);
+    Ok(())
+}
+
+#[test]
+fn a_piece_is_not_written_without_leave(rt: HostRuntime) -> Result<(), Fail> {
+    let stopping = Arc::new(rt.alloc(), AtomicBool::new(false))?;
+    let mut pair = connect(&rt, LONG, &stopping)?;
+    let refused = pair.link.write(UNSAVED);
+    let written = pair.link.write(b"saved");
+    let mut room = [0; 16];
+    let told = pair.client.read(&mut room)?;
+    assert!(rt; refused.is_err());
+    assert_eq!(rt; written.ok(), Some(5));
+    assert_eq!(rt; room.get(..told), Some(b"saved".as_slice()));
     Ok(())
 }
 

@@ -9,16 +9,18 @@ mod cause;
 mod limits;
 mod link;
 mod listener;
+mod monitor;
 mod retry;
 mod times;
 mod turns;
 
-pub use cause::{AcceptCause, AcceptMonitor};
+pub use cause::AcceptCause;
 pub use limits::{
     MAX_ANSWER_MS, MAX_CALL_MS, MAX_DRAIN_MS, MAX_FIRST_BYTE_MS, MAX_KEPT_MS, MAX_MESSAGE_MS,
     MAX_STOPPING_MS, WaitLimits,
 };
 pub use link::TcpLink;
 pub use listener::{BindFault, ListenOptions, TcpListener};
+pub use monitor::TcpMonitor;
 pub use retry::{MAX_RETRY_MS, MAX_UNKNOWN_MS, MIN_RETRY_MS};
 pub use turns::ListenFlags;

@@ -2,7 +2,7 @@
 ghost use Rattle.std.specs.Prelude.{◌≡◌, ◌<◌, None, IfOk};
 ghost use Rattle.std.specs.Io.{ReadsAtMost, WritesAtMost};
 
-use crate::cause::AcceptMonitor;
+use crate::monitor::TcpMonitor;
 use crate::times::LinkTimes;
 use crate::turns::Turns;
 use byte_streams::Failed;
@@ -25,7 +25,7 @@ const MAX_DRAIN_READS: usize = 64;
 /// message `message_ms` from the first byte that is read of it to its last, an answer `answer_ms` from its first write to its last,
 /// and the first byte of the next message `kept_ms` from the first read after the answer. Contracts see a link as its count of faults.
 #[derive(Drop)]
-pub struct TcpLink<R: Clock + Copy + Drop, M: AcceptMonitor + Drop> {
+pub struct TcpLink<R: Clock + Copy + Drop, M: TcpMonitor + Drop> {
     stream: TcpStream,
     times: LinkTimes<R>,
     turns: Arc<Turns<M>>,
@@ -36,7 +36,7 @@ pub struct TcpLink<R: Clock + Copy + Drop, M: AcceptMonitor + Drop> {
     faults: u64,
 }
 
-impl<R: Clock + Copy + Drop, M: AcceptMonitor + Drop> Model for TcpLink<R, M> {
+impl<R: Clock + Copy + Drop, M: TcpMonitor + Drop> Model for TcpLink<R, M> {
     ghost use Rattle.std.specs.Prelude.{ℕ};
 
     ghost Value = { ℕ };
@@ -52,7 +52,7 @@ fn may_try_again(error: io::Error) -> bool {
     )
 }
 
-impl<R: Clock + Copy + Drop, M: AcceptMonitor + Drop> TcpLink<R, M> {
+impl<R: Clock + Copy + Drop, M: TcpMonitor + Drop> TcpLink<R, M> {
     /// A link over this connection. Fails if the system refuses to bound the waits of the connection. It does not allocate.
     pub(crate) fn new(
         stream: TcpStream,
@@ -169,7 +169,7 @@ impl<R: Clock + Copy + Drop, M: AcceptMonitor + Drop> TcpLink<R, M> {
     }
 }
 
-impl<R: Clock + Copy + Drop, M: AcceptMonitor + Drop> Link for TcpLink<R, M> {
+impl<R: Clock + Copy + Drop, M: TcpMonitor + Drop> Link for TcpLink<R, M> {
     ghost left = { λ _. None };
 
     ghost taken = { λ _. None };
@@ -186,8 +186,8 @@ impl<R: Clock + Copy + Drop, M: AcceptMonitor + Drop> Link for TcpLink<R, M> {
         read
     }
 
-    /// Writes to the connection once the monitor lets it, again if a signal interrupts the wait. Returns `Failed` if the monitor does not let it, if the connection fails, if the time for the
-    /// answer is over, or if the connection takes nothing of a piece that is not empty.
+    /// Writes to the connection once the monitor lets it, again if a signal interrupts the wait. Returns `Failed` if the monitor does not let
+    /// it, if the connection fails, if the time for the answer is over, or if the connection takes nothing of a piece that is not empty.
     fn write(&mut self, piece: &[u8]) -> Result<usize, Failed> {
         if piece.is_empty() {
             return Ok(0);

@@ -3,9 +3,10 @@ ghost use Rattle.std.specs.Prelude.{◌≡◌, ◌≤◌, ◌+◌, ◌-◌, ◌^
 ghost use Rattle.bt_base.specs.Causes.{Rose};
 ghost use Rattle.tcp_links.specs.declared.listener.NoLink.TheVariants.{Failed as NoLinkFailed};
 
-use crate::cause::{AcceptCause, AcceptMonitor};
+use crate::cause::AcceptCause;
 use crate::limits::{MAX_CALL_MS, WaitLimits};
 use crate::link::TcpLink;
+use crate::monitor::TcpMonitor;
 use crate::retry::Retry;
 use crate::times::LinkTimes;
 use crate::turns::{ListenFlags, Turns};
@@ -73,7 +74,7 @@ enum NoLink {
 #[derive(Drop)]
 pub struct TcpListener<
     R: Clock + Copy + Drop,
-    M: AcceptMonitor + Drop,
+    M: TcpMonitor + Drop,
     S: OpenListener<Stream = TcpStream> + Drop = Socket,
 > {
     rt: R,
@@ -87,11 +88,8 @@ pub struct TcpListener<
     is_over: bool,
 }
 
-impl<
-    R: Clock + Copy + Drop,
-    M: AcceptMonitor + Drop,
-    S: OpenListener<Stream = TcpStream> + Drop,
-> Model for TcpListener<R, M, S> {
+impl<R: Clock + Copy + Drop, M: TcpMonitor + Drop, S: OpenListener<Stream = TcpStream> + Drop> Model
+    for TcpListener<R, M, S> {
     ghost use Rattle.tcp_links.specs.Doors.{TcpDoor};
 
     ghost Value = { TcpDoor };
@@ -108,7 +106,7 @@ fn bound_waits(socket: &Socket) -> io::Result<()> {
 
 impl<
     R: Clock + Net<Listener = Socket, Stream = TcpStream> + Copy + Drop,
-    M: AcceptMonitor + Drop,
+    M: TcpMonitor + Drop,
 > TcpListener<R, M> {
     /// A listener on the port that the options say. It and all that `another` makes of it accept the given number of connections
     /// together, and then end; they also end once `stopping` is raised, within about `MAX_CALL_MS` if they wait for a connection.
@@ -130,7 +128,7 @@ impl<
 
 impl<
     R: Clock + Copy + Drop,
-    M: AcceptMonitor + Drop,
+    M: TcpMonitor + Drop,
     S: OpenListener<Stream = TcpStream> + Drop,
 > TcpListener<R, M, S> {
     fn of(rt: R, socket: S, turns: Arc<Turns<M>>, limits: WaitLimits) -> TcpListener<R, M, S>
@@ -260,7 +258,7 @@ impl<
 
 impl<
     R: Clock + Copy + Drop,
-    M: AcceptMonitor + Drop,
+    M: TcpMonitor + Drop,
     S: OpenListener<Stream = TcpStream> + Drop,
 > Listener for TcpListener<R, M, S> {
     type Link = TcpLink<R, M>;

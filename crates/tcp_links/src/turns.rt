@@ -1,5 +1,5 @@
 //! What the listeners of one socket share.
-use crate::cause::AcceptMonitor;
+use crate::monitor::TcpMonitor;
 use crate::retry::Told;
 use std::alloc::AllocError;
 use std::sync::Arc;
@@ -16,7 +16,7 @@ pub struct ListenFlags {
 
 /// How many connections may still be accepted, how many listeners have not ended, the flags, the monitor, and what was told of failures.
 #[derive(Drop)]
-pub(crate) struct Turns<M: AcceptMonitor + Drop> {
+pub(crate) struct Turns<M: TcpMonitor + Drop> {
     monitor: M,
     left: AtomicU64,
     listeners: AtomicU64,
@@ -24,7 +24,7 @@ pub(crate) struct Turns<M: AcceptMonitor + Drop> {
     told: Told,
 }
 
-impl<M: AcceptMonitor + Drop> Turns<M> {
+impl<M: TcpMonitor + Drop> Turns<M> {
     /// So many connections, for one listener. It does not allocate.
     pub fn new(connections: u64, flags: ListenFlags, monitor: M) -> Turns<M> {
         Turns {

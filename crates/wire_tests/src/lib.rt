@@ -4,7 +4,7 @@
 #[cfg(test)]
 mod batch_http_tests;
 #[cfg(test)]
-mod http_doors_tests;
+mod doors_tests;
 #[cfg(test)]
 mod http_head_tests;
 #[cfg(test)]

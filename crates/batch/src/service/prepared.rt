@@ -177,8 +177,6 @@ pub fn prepare<'a, R: Host + Send + 'static>(
         one: ending,
         other: all_ended,
     } = new_flag(rt)?;
-    let (shared, logs) = share(rt, &ending, options.seats, store)?;
-    drop(ending);
     let Flag {
         one: stopping,
         other: monitored,
@@ -187,8 +185,14 @@ pub fn prepare<'a, R: Host + Send + 'static>(
         stopping,
         all_ended,
     };
-    let listener = listen(rt, options, flags, shared.sync.as_ref())?;
+    let sync = match &store {
+        Some(store) => Some(store.sync),
+        None => None,
+    };
+    let listener = listen(rt, options, flags, sync)?;
     let port = listener.port();
+    let (shared, logs) = share(rt, &ending, options.seats, store)?;
+    drop(ending);
     let runs = String::from_str(rt.alloc(), shared.folders.runs())?;
     let Logs { log, timer, last } = logs;
     let workers = workers(options, &shared, timer, listener)?;

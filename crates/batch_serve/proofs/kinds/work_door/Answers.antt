@@ -1,6 +1,6 @@
 use Rattle.std.proofs.Common.{rules, ◌≡◌, Some, ap, refl, subst, sym, ◌∙◌}
 use Rattle.counted_lock.specs.Passes.{IsPassOf}
-use Rattle.http_doors.specs.Doors.{ServesAll}
+use Rattle.batch_http.specs.Doors.{ServesAll}
 use Rattle.shared_desk.specs.Askers.{IsSharedExchange}
 use Rattle.batch_serve.proofs.Askers.{desk_stays, number_stays, service_is}
 use Rattle.batch_serve.proofs.kinds.work_door.Goals as goal

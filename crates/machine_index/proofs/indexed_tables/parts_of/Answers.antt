@@ -18,4 +18,5 @@ returns c =
       queued = runs.ensures.queued;
       asked = runs.ensures.asked;
       numbered = tasks.ensures.numbered;
+      on_nodes = runs.ensures.nodes;
     }

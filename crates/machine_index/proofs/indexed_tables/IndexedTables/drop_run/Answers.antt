@@ -9,8 +9,10 @@ use Rattle.task_index.specs.Timed.{AreTimed}
 use Rattle.run_index.specs.Queued.{AreQueued}
 use Rattle.run_index.specs.Asked.{AreAsked}
 use Rattle.task_index.specs.Numbered.{HasNumbered}
+use Rattle.run_index.specs.Nodes.{HasNodeRuns}
 use Rattle.machine_index.proofs.IndexedSteps.{within_queued, within_asked, within_named, over_after, clear_step, held_cleared}
 use Rattle.run_index.proofs.TextPlaces.{row_cleared}
+use Rattle.run_index.proofs.NodePlaces.{node_cleared}
 use Rattle.machine_index.proofs.indexed_tables.IndexedTables.drop_run.Goals as goal
 
 pub clear-requires : goal.clear-requires
@@ -64,6 +66,7 @@ invariant_of-self c =
         queued = subst (λ (ss : List (Option RunRow)). AreQueued ss c.clear.new.self.items) (sym placed) (c.clear.ensures.ranks t.run_slots old.queued);
         asked = subst (λ (ss : List (Option RunRow)). AreAsked ss c.clear-2.new.self.items) (sym placed) (c.clear-2.ensures.ranks t.run_slots old.asked);
         numbered = subst (λ (ts : List (Option TaskRow)). HasNumbered s.numbered ts) (sym c.apply_one.ensures.tasks) old.numbered;
+        on_nodes = subst (HasNodeRuns s.nodes) (sym placed) (node_cleared s.nodes t.run_slots before old.on_nodes);
       },
       search rules,
     )

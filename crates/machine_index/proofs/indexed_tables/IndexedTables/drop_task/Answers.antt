@@ -33,10 +33,10 @@ invariant_of-self c =
     let placed : new.task_slots ≡ clear_at before t.task_slots =
     c.apply_one.ensures.tasks ∙ sym (ap (λ (p : Option ℕ). clear_at p t.task_slots) c.task_place-before.ensures) in (
       indexed_at (clear_at before t.task_slots) new.task_slots t.run_slots new.run_slots s.runs c.clear_active.new.active c.clear_over.new.over c.release_task.new.self
-          c.clear_timed.new.timed s.queued s.asked s.numbered placed
+          c.clear_timed.new.timed s.queued s.asked s.numbered s.nodes placed
           c.apply_one.ensures.runs old.runs (c.clear_active.ensures.items t.task_slots old.active) (c.clear_over.ensures.ranks (rows t.run_slots) t.task_slots old.over)
           (held_without c.release_task.new.self before t.task_slots t.run_slots c.unwrap_or-place.result place c.release_task.ensures.held)
           (c.clear_timed.ensures.ranks t.task_slots old.timed) old.queued old.asked
-          (row_cleared number_text_of s.numbered t.task_slots before old.numbered),
+          (row_cleared number_text_of s.numbered t.task_slots before old.numbered) old.on_nodes,
       search rules,
     )

@@ -10,6 +10,7 @@ use Rattle.task_index.specs.Timed.{AreTimed}
 use Rattle.run_index.specs.Queued.{AreQueued}
 use Rattle.run_index.specs.Asked.{AreAsked}
 use Rattle.task_index.specs.Numbered.{HasNumbered}
+use Rattle.run_index.specs.Nodes.{HasNodeRuns}
 use Rattle.machine_index.proofs.IndexedSteps.{within_queued, within_asked, within_named, within_again, over_after, put_step, held_beside_run}
 use Rattle.machine_index.proofs.indexed_tables.IndexedTables.put_run.Goals as goal
 
@@ -105,6 +106,7 @@ invariant_of-self c =
         queued = subst (λ (ss : List (Option RunRow)). AreQueued ss c.put.new.self.items) (sym placed) (c.put.ensures.ranks t.run_slots old.queued);
         asked = subst (λ (ss : List (Option RunRow)). AreAsked ss c.put-2.new.self.items) (sym placed) (c.put-2.ensures.ranks t.run_slots old.asked);
         numbered = subst (λ (ts : List (Option TaskRow)). HasNumbered s.numbered ts) (sym c.apply_one.ensures.tasks) old.numbered;
+        on_nodes = subst (HasNodeRuns c.put-3.new.self) (sym placed) (c.put-3.ensures.runs before place old.on_nodes);
       },
       search rules,
     )

@@ -61,9 +61,9 @@ invariant_of-self c =
     subst (λ (ss : List (Option RunRow)). HasHeld c.hold_task.new.self (rows all) ss) c.apply_one.ensures.runs
     (subst (λ (ts : List (Option TaskRow)). HasHeld c.hold_task.new.self (rows ts) new.run_slots) placed c.hold_task.ensures.held) in (
       indexed_at all new.task_slots t.run_slots new.run_slots s.runs c.put.new.self c.put-2.new.self c.hold_task.new.self c.put-3.new.self s.queued s.asked
-          c.put-4.new.self placed c.apply_one.ensures.runs old.runs
+          c.put-4.new.self s.nodes placed c.apply_one.ensures.runs old.runs
           (c.put.ensures.items t.task_slots c.place_of_row-before.ensures old.active) over held
-          (c.put-3.ensures.ranks t.task_slots old.timed) old.queued old.asked (c.put-4.ensures.tasks t.task_slots before place old.numbered),
+          (c.put-3.ensures.ranks t.task_slots old.timed) old.queued old.asked (c.put-4.ensures.tasks t.task_slots before place old.numbered) old.on_nodes,
       search rules,
     )
 
