@@ -9,5 +9,6 @@ pub mod Jobs
 pub mod PoolMembers
 pub mod Pools
 pub mod Resizes
+pub mod Scalings
 pub mod Starts
 pub mod Tasks

@@ -14,6 +14,7 @@ mod pool;
 mod pool_member;
 mod reason;
 mod resize;
+mod scaling;
 mod start;
 mod task;
 
@@ -22,4 +23,5 @@ pub use job::{read_job, read_job_spec};
 pub use job_change::{read_disable_tasks, read_job_patch, read_terminate_reason};
 pub use pool::read_pool;
 pub use resize::read_resize;
+pub use scaling::{read_enable_autoscale, read_evaluate_autoscale};
 pub use task::read_task;

@@ -7,7 +7,7 @@ use Rattle.bt_base.specs.Ids.{within}
 use Rattle.bt_rows.specs.declared.member.Member.{Member}
 use Rattle.bt_rows.specs.declared.refusal.Refusal.{Refusal}
 use Rattle.bt_times.specs.Durations.{read_duration}
-use Rattle.wire_members.specs.Members.{optional}
+use Rattle.wire_members.specs.Members.{optional, there}
 
 -- a duration in milliseconds; None in it stands for no limit
 abbrev pub duration_in : Data → Option (Option ℕ)
@@ -25,6 +25,10 @@ if_within low high (Some duration) = if within low high duration then Some durat
 -- a duration from low to high, in milliseconds
 abbrev pub limited_duration_in : ℕ → ℕ → Data → Option ℕ
 limited_duration_in low high d = option_and_then (if_within low high) (duration_in d)
+
+-- such a duration; None if it is absent
+abbrev pub limited_duration_if : Option Data → Member → ℕ → ℕ → Result (Option ℕ) Refusal
+limited_duration_if part name low high = optional (λ d. there (limited_duration_in low high d)) None part name
 
 -- such a duration, with a default
 abbrev pub limited_duration_member : Option Data → Member → ℕ → ℕ → ℕ → Result ℕ Refusal

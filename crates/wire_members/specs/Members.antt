@@ -1,5 +1,5 @@
 -- Members of a body. A part is a body or an object in it; an absent one has no members.
-use Rattle.std.specs.Prelude.{ℕ, ℤ, Bool, List, Option, Some, None, Result, Ok, Err, option_map, option_and_then, int_le, ◌&&◌, if◌then◌else◌}
+use Rattle.std.specs.Prelude.{ℕ, ℤ, Bool, false, unwrap_or, List, Option, Some, None, Result, Ok, Err, option_map, option_and_then, int_le, ◌&&◌, if◌then◌else◌}
 use Rattle.std.specs.Result.{result_ok}
 use Rattle.serde_json.specs.Data.{Data, null, boolean, number, string, array, object, Items, no_items}
 use Rattle.serde_json.specs.Find.{get, as_number, as_u64, as_i64, as_bool, as_str, as_array, as_object}
@@ -100,6 +100,10 @@ required_signed part name low high = required (signed_in low high) part name
 -- a truth value with a default
 abbrev pub flag_member : Option Data → Member → Bool → Result Bool Refusal
 flag_member part name default = optional as_bool default part name
+
+-- the member is `true`: neither absent, nor another value
+abbrev pub is_true : Option Data → Member → Bool
+is_true part name = unwrap_or (option_and_then as_bool (member_of part name)) false
 
 -- a text; None if it is absent
 abbrev pub text_member : Option Data → Member → Result (Option (List ℕ)) Refusal

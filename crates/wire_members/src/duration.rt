@@ -3,7 +3,7 @@ ghost use Rattle.std.specs.Prelude.{◌≡◌, ◌≤◌, true, option_map, IfOk
 ghost use Rattle.serde_json.specs.View.{view};
 ghost use Rattle.bt_base.specs.Fails.{Gives};
 ghost use Rattle.bt_rows.specs.Ranges.{is_duration, passes_if_some};
-ghost use Rattle.wire_members.specs.Durations.{duration_in, duration_member, limited_duration_in, limited_duration_member};
+ghost use Rattle.wire_members.specs.Durations.{duration_in, duration_member, limited_duration_in, limited_duration_if, limited_duration_member};
 
 use crate::member::{invalid_property, member};
 use bt_base::Fail;
@@ -57,6 +57,25 @@ fn limited_duration_of(value: &Value, low: u64, high: u64) -> Option<u64>
             None
         },
         _ => None,
+    }
+}
+
+/// A duration from `low` to `high`, in milliseconds; None if it is absent.
+pub fn limited_duration_if(
+    part: Option<&Value>,
+    name: Member,
+    low: u64,
+    high: u64,
+) -> Result<Option<u64>, Fail<Refusal>>
+    ensures value { Gives result (limited_duration_if (option_map (λ v. view v.now) part.entry) name low high) }
+    ensures bound { IfOk result (λ duration. IfSome duration (λ duration. (low ≤ duration) × (duration ≤ high))) }
+{
+    match member(part, name) {
+        None => Ok(None),
+        Some(value) => match limited_duration_of(value, low, high) {
+            Some(duration) => Ok(Some(duration)),
+            None => Err(invalid_property(name)),
+        },
     }
 }
 

@@ -10,11 +10,11 @@ mod word;
 mod words;
 
 pub use body::read_object;
-pub use duration::{duration_member, limited_duration_member};
+pub use duration::{duration_member, limited_duration_if, limited_duration_member};
 pub use member::{
     command_member, count_if, count_member, flag_member, id_item, id_member, invalid_property,
-    list_member, object_item, object_member, required_count, required_list, required_object,
-    required_signed, signed_if, signed_member, text_member, unbuilt_member,
+    is_true, list_member, object_item, object_member, required_count, required_list,
+    required_object, required_signed, signed_if, signed_member, text_member, unbuilt_member,
 };
 pub use word::{WordKind, required_word, word_if, word_member};
 pub use words::{AllTasksAction, DependencyAction, FailureAction};

@@ -7,7 +7,7 @@ ghost use Rattle.bt_base.specs.Fails.{Gives, GivesAs};
 ghost use Rattle.bt_base.specs.declared.fail.Fail.TheVariants.{Why};
 ghost use Rattle.bt_rows.specs.declared.refusal.Refusal.TheVariants.{InvalidPropertyValue};
 ghost use Rattle.wire_members.specs.Members.{member_of, or_invalid, count_in, signed_in, command_in};
-ghost use Rattle.wire_members.specs.Members.{count_member, count_if, required_count, signed_member, signed_if, required_signed, flag_member, text_member, id_member, command_member, object_member, required_object, list_member, required_list, object_item, id_item, unbuilt_member};
+ghost use Rattle.wire_members.specs.Members.{count_member, count_if, required_count, signed_member, signed_if, required_signed, flag_member, is_true, text_member, id_member, command_member, object_member, required_object, list_member, required_list, object_item, id_item, unbuilt_member};
 
 use bt_base::{CommandLine, Fail, Id, Text};
 use bt_rows::member::Member;
@@ -172,6 +172,16 @@ pub fn flag_member(part: Option<&Value>, name: Member, default: bool) -> Result<
     match member(part, name) {
         None => Ok(default),
         Some(value) => value.as_bool().ok_or(invalid_property(name)),
+    }
+}
+
+/// Whether the member is `true`: an absent one is not, nor is another value.
+pub fn is_true(part: Option<&Value>, name: Member) -> bool
+    ensures { result ≡ is_true (option_map (λ v. view v.now) part.entry) name }
+{
+    match member(part, name) {
+        None => false,
+        Some(value) => value.as_bool().unwrap_or(false),
     }
 }
 
