@@ -10,6 +10,7 @@ use Rattle.bt_rows.specs.declared.refusal.Refusal.{Refusal}
 use Rattle.bt_rows.specs.declared.refusal.Refusal.TheVariants.{UnreadableBody}
 use Rattle.wire_bodies.specs.Pools.{pool_of}
 use Rattle.wire_bodies.specs.Resizes.{resize_of}
+use Rattle.wire_bodies.specs.Scalings.{enable_of, evaluate_of}
 use Rattle.wire_bodies.specs.Jobs.{job_of}
 use Rattle.wire_bodies.specs.JobChanges.{patch_of, disable_of, reason_of}
 use Rattle.wire_bodies.specs.Tasks.{task_of}
@@ -48,16 +49,16 @@ operation_name (Task tasks.Delete) = codes "delete-task"
 operation_name (Task tasks.Terminate) = codes "terminate-task"
 operation_name (Task tasks.Reactivate) = codes "reactivate-task"
 
--- the operations whose events the machines have, each once
-abbrev pub built_operations : List Operation
-built_operations =
+-- the operations, each once
+abbrev pub all_operations : List Operation
+all_operations =
     Service services.AddPool ∷ Service services.AddJob ∷ Pool pools.Delete ∷ Pool pools.Resize ∷ Pool pools.StopResize
-    ∷ Job jobs.Patch ∷ Job jobs.Disable ∷ Job jobs.Enable ∷ Job jobs.Terminate ∷ Job jobs.Delete ∷ Job jobs.AddTask ∷ Job jobs.AddTasks
+    ∷ Pool pools.EnableAutoscale ∷ Pool pools.DisableAutoscale ∷ Pool pools.EvaluateAutoscale ∷ Job jobs.Patch ∷ Job jobs.Disable ∷ Job jobs.Enable ∷ Job jobs.Terminate ∷ Job jobs.Delete ∷ Job jobs.AddTask ∷ Job jobs.AddTasks
     ∷ Task tasks.Delete ∷ Task tasks.Terminate ∷ Task tasks.Reactivate ∷ []
 
--- the operation with this name, of those that are built
+-- the operation with this name
 unfoldable pub operation_in : List ℕ → Option Operation
-operation_in text = find (λ operation. bytes_eq text (operation_name operation)) built_operations
+operation_in text = find (λ operation. bytes_eq text (operation_name operation)) all_operations
 
 -- whether an operation of a pool has a body
 abbrev pub pool_body : PoolOperation → BodyRule
@@ -94,7 +95,7 @@ abbrev pub reason_if : Option (List ℕ) → Result (Option (List ℕ)) Refusal
 reason_if None = Ok None
 reason_if (Some bytes) = reason_of bytes
 
--- The event of an operation with its ids and its body. Until the machines have the events of scaling a pool, they are refused.
+-- the event of an operation with its ids and its body
 unfoldable pub event_of : Asked → Option (List ℕ) → Result EventKind Refusal
 event_of (asks.Service services.AddPool) body = do
   bytes ← required_body body
@@ -110,9 +111,15 @@ event_of (asks.Pool pools.Resize pool) body = do
   resize ← resize_of bytes
   Ok (events.Resize pool resize)
 event_of (asks.Pool pools.StopResize pool) body = Ok (events.StopResize pool)
-event_of (asks.Pool pools.EnableAutoscale pool) body = Err UnreadableBody
-event_of (asks.Pool pools.DisableAutoscale pool) body = Err UnreadableBody
-event_of (asks.Pool pools.EvaluateAutoscale pool) body = Err UnreadableBody
+event_of (asks.Pool pools.EnableAutoscale pool) body = do
+  bytes ← required_body body
+  scaling ← enable_of bytes
+  Ok (events.EnableAutoscale pool scaling)
+event_of (asks.Pool pools.DisableAutoscale pool) body = Ok (events.DisableAutoscale pool)
+event_of (asks.Pool pools.EvaluateAutoscale pool) body = do
+  bytes ← required_body body
+  formula ← evaluate_of bytes
+  Ok (events.EvaluateAutoscale pool formula)
 event_of (asks.Job jobs.Patch job) body = do
   bytes ← required_body body
   patch ← patch_of bytes

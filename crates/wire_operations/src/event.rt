@@ -13,8 +13,8 @@ use bt_rows::event::{Event, EventKind};
 use bt_rows::refusal::Refusal;
 use std::alloc::Global;
 use wire_bodies::{
-    read_collection, read_disable_tasks, read_job, read_job_patch, read_pool, read_resize,
-    read_task, read_terminate_reason,
+    read_collection, read_disable_tasks, read_enable_autoscale, read_evaluate_autoscale, read_job,
+    read_job_patch, read_pool, read_resize, read_task, read_terminate_reason,
 };
 
 /// The bytes of a body that has to be there.
@@ -53,6 +53,33 @@ pub fn resize_pool(alloc: Global, pool: Id, body: Option<&[u8]>) -> Result<Event
     let resize = read_resize(alloc, required_body(body)?)?;
     let resize = Shared::new(alloc, resize)?;
     Ok(Event::new(EventKind::Resize(pool, resize)))
+}
+
+/// The event of `enable-autoscale` with this id and this body.
+#[tactic(auto, unfolding(crate::specs::Operations::event_of))]
+pub fn enable_autoscale(
+    alloc: Global,
+    pool: Id,
+    body: Option<&[u8]>,
+) -> Result<Event, Fail<Refusal>>
+    ensures { Gives result (event_of (asks.Pool pools.EnableAutoscale pool) (option_map (λ bytes. bytes.now) body.entry)) }
+{
+    let scaling = read_enable_autoscale(alloc, required_body(body)?)?;
+    let scaling = Shared::new(alloc, scaling)?;
+    Ok(Event::new(EventKind::EnableAutoscale(pool, scaling)))
+}
+
+/// The event of `evaluate-autoscale` with this id and this body.
+#[tactic(auto, unfolding(crate::specs::Operations::event_of))]
+pub fn evaluate_autoscale(
+    alloc: Global,
+    pool: Id,
+    body: Option<&[u8]>,
+) -> Result<Event, Fail<Refusal>>
+    ensures { Gives result (event_of (asks.Pool pools.EvaluateAutoscale pool) (option_map (λ bytes. bytes.now) body.entry)) }
+{
+    let formula = read_evaluate_autoscale(alloc, required_body(body)?)?;
+    Ok(Event::new(EventKind::EvaluateAutoscale(pool, formula)))
 }
 
 /// The event of `add-job` with this body.

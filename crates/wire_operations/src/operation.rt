@@ -4,7 +4,8 @@ ghost use Rattle.bt_base.specs.Fails.{Gives};
 ghost use Rattle.wire_operations.specs.Operations.{operation_name, operation_in, pool_body, job_body, allows, event_of};
 
 use crate::event::{
-    add_job, add_pool, add_task, add_tasks, disable_job, patch_job, resize_pool, terminate_job,
+    add_job, add_pool, add_task, add_tasks, disable_job, enable_autoscale, evaluate_autoscale,
+    patch_job, resize_pool, terminate_job,
 };
 use bt_base::{Fail, Id};
 use bt_rows::event::{Event, EventKind};
@@ -178,17 +179,20 @@ impl Operation {
         }
     }
 
-    /// The operation with this name, if there is one among those that are built. It does not allocate.
+    /// The operation with this name, if there is one. It does not allocate.
     #[tactic(auto, unfolding(crate::specs::Operations::operation_in))]
     pub fn read(text: &[u8]) -> Option<Operation>
         ensures { result ≡ operation_in text.now }
     {
-        let built = [
+        let all = [
             Operation::Service(ServiceOperation::AddPool),
             Operation::Service(ServiceOperation::AddJob),
             Operation::Pool(PoolOperation::Delete),
             Operation::Pool(PoolOperation::Resize),
             Operation::Pool(PoolOperation::StopResize),
+            Operation::Pool(PoolOperation::EnableAutoscale),
+            Operation::Pool(PoolOperation::DisableAutoscale),
+            Operation::Pool(PoolOperation::EvaluateAutoscale),
             Operation::Job(JobOperation::Patch),
             Operation::Job(JobOperation::Disable),
             Operation::Job(JobOperation::Enable),
@@ -200,8 +204,7 @@ impl Operation {
             Operation::Task(TaskOperation::Terminate),
             Operation::Task(TaskOperation::Reactivate),
         ];
-        built
-            .iter()
+        all.iter()
             .copied()
             .find(|operation| text == operation.name().as_bytes())
     }
@@ -210,8 +213,7 @@ impl Operation {
 /// The event that this operation is with these ids and the bytes of this body, None if there is no body.
 ///
 /// A body that is missing where the operation has one is `UnreadableBody`; its other faults are those that the functions of wire_bodies
-/// state. Operations without a body do not look at it. Those of the scaling of pools, whose events are not built, are `UnreadableBody`. It
-/// fails with `Memory` when out of memory.
+/// state. Operations without a body do not look at it. It fails with `Memory` when out of memory.
 #[tactic(auto, unfolding(crate::specs::Operations::event_of))]
 pub fn read_operation(
     alloc: Global,
@@ -226,10 +228,12 @@ pub fn read_operation(
         Asked::Pool(PoolOperation::Delete, pool) => Ok(Event::new(EventKind::DeletePool(pool))),
         Asked::Pool(PoolOperation::Resize, pool) => resize_pool(alloc, pool, body),
         Asked::Pool(PoolOperation::StopResize, pool) => Ok(Event::new(EventKind::StopResize(pool))),
-        Asked::Pool(PoolOperation::EnableAutoscale, _pool)
-        | Asked::Pool(PoolOperation::DisableAutoscale, _pool)
-        | Asked::Pool(PoolOperation::EvaluateAutoscale, _pool) => {
-            Err(Fail::Why(Refusal::UnreadableBody))
+        Asked::Pool(PoolOperation::EnableAutoscale, pool) => enable_autoscale(alloc, pool, body),
+        Asked::Pool(PoolOperation::DisableAutoscale, pool) => {
+            Ok(Event::new(EventKind::DisableAutoscale(pool)))
+        }
+        Asked::Pool(PoolOperation::EvaluateAutoscale, pool) => {
+            evaluate_autoscale(alloc, pool, body)
         }
         Asked::Job(JobOperation::Patch, job) => patch_job(alloc, job, body),
         Asked::Job(JobOperation::Disable, job) => disable_job(alloc, job, body),
