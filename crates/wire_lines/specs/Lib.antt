@@ -3,3 +3,4 @@ pub mod Endings
 pub mod Lines
 pub mod Parts
 pub mod Reads
+pub mod Samples

@@ -16,17 +16,19 @@ use Rattle.wire_lines.specs.Parts.{two_parts, just_two, first_word, arguments}
 use Rattle.wire_lines.specs.Reads.{read_word_in, read_with}
 use Rattle.wire_lines.specs.Endings.{moment_in, ending_in}
 use Rattle.wire_lines.specs.Arguments.{or_unreadable, id_and_body, job_and_task}
+use Rattle.wire_lines.specs.Samples.{pool_and_percentage}
 use Rattle.wire_numbers.specs.Numbers.{number_in}
 use Rattle.wire_operations.specs.declared.operation.Asked.TheVariants as asks
 use Rattle.wire_operations.specs.declared.operation.Operation.{Operation}
 use Rattle.wire_operations.specs.declared.operation.Operation.TheVariants.{Service, Pool, Job, Task}
 use Rattle.wire_operations.specs.Operations.{operation_in, pool_body, job_body, event_of}
 
--- the word with this text: `take`, `end` or the name of an operation
+-- the word with this text: `take`, `end`, `sample` or the name of an operation
 unfoldable pub word_in : List ℕ → Option LineWord
 word_in text =
     if bytes_eq text (codes "take") then Some words.Take
     else if bytes_eq text (codes "end") then Some words.End
+    else if bytes_eq text (codes "sample") then Some words.Sample
     else option_map (λ operation. words.Operation operation) (operation_in text)
 
 -- the event of an operation and the text after its name
@@ -53,6 +55,9 @@ event_with words.End text = do
   run ← or_unreadable (number_in parts.0)
   ending ← or_unreadable (ending_in parts.1)
   Ok (events.End run ending)
+event_with words.Sample text = do
+  parts ← pool_and_percentage text
+  Ok (events.Sample parts.0 parts.1)
 
 -- a word, a space and its arguments
 unfoldable pub event_with_arguments : List ℕ → Result EventKind Refusal

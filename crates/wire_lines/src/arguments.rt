@@ -16,7 +16,7 @@ pub const UNREADABLE: Fail<Refusal> = Fail::Why(Refusal::UnreadableBody);
 
 /// An id among the arguments of a line.
 #[tactic(auto, unfolding(crate::specs::Arguments::id_argument))]
-fn id_argument(alloc: Global, bytes: &[u8]) -> Result<Id, Fail<Refusal>>
+pub fn id_argument(alloc: Global, bytes: &[u8]) -> Result<Id, Fail<Refusal>>
     ensures { Gives result (id_argument bytes.now) }
 {
     let text = text_of(bytes).ok_or(UNREADABLE)?;

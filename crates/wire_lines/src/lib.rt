@@ -6,6 +6,7 @@ mod ending;
 mod line;
 mod look;
 mod parts;
+mod sample;
 mod script;
 
 pub use arguments::{UNREADABLE, lone_id};

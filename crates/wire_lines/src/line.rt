@@ -7,6 +7,7 @@ use crate::arguments::{UNREADABLE, id_and_body, job_and_task};
 use crate::ending::{read_ending, read_moment};
 use crate::look::{ReadWord, read_with};
 use crate::parts::{split_just_two, split_two, split_word};
+use crate::sample::pool_and_percentage;
 use bt_base::{Fail, Moment};
 use bt_rows::event::{Event, EventKind};
 use bt_rows::refusal::Refusal;
@@ -24,10 +25,12 @@ pub enum LineWord {
     Take,
     /// A run's child program has ended.
     End,
+    /// A sample of the processor time of a pool is taken.
+    Sample,
 }
 
 impl LineWord {
-    /// The word with this text, if there is one: `take`, `end` or the name of an operation. It does not allocate.
+    /// The word with this text, if there is one: `take`, `end`, `sample` or the name of an operation. It does not allocate.
     #[tactic(auto, unfolding(crate::specs::Lines::word_in))]
     pub fn read(text: &[u8]) -> Option<LineWord>
         ensures { result ≡ word_in text.now }
@@ -36,6 +39,8 @@ impl LineWord {
             Some(LineWord::Take)
         } else if text == b"end".as_slice() {
             Some(LineWord::End)
+        } else if text == b"sample".as_slice() {
+            Some(LineWord::Sample)
         } else {
             Some(LineWord::Operation(Operation::read(text)?))
         }
@@ -96,6 +101,10 @@ fn event_with(alloc: Global, word: LineWord, text: &[u8]) -> Result<Event, Fail<
             let run = read_number(run).ok_or(UNREADABLE)?;
             let ending = read_ending(ending).ok_or(UNREADABLE)?;
             Ok(Event::new(EventKind::End(run, ending)))
+        }
+        LineWord::Sample => {
+            let (pool, percentage) = pool_and_percentage(alloc, text)?;
+            Ok(Event::new(EventKind::Sample(pool, percentage)))
         }
     }
 }
@@ -163,18 +172,21 @@ pub fn is_skipped(line: &[u8]) -> bool
 /// An empty line and one that begins with `#` are skipped. Another line is a moment (the digits of milliseconds since 1970, up to
 /// the end of the year 9999), a space and one of
 ///
-/// - `add-pool BODY`, `resize POOL BODY`, `add-job BODY`, `patch-job JOB BODY`, `disable-job JOB BODY`, `terminate-job JOB BODY`,
-///   `add-task JOB BODY` and `add-tasks JOB BODY`, with a JSON object up to the end of the line as the body;
-/// - `delete-pool POOL` and `stop-resize POOL`;
+/// - `add-pool BODY`, `resize POOL BODY`, `enable-autoscale POOL BODY`, `evaluate-autoscale POOL BODY`, `add-job BODY`,
+///   `patch-job JOB BODY`, `disable-job JOB BODY`, `terminate-job JOB BODY`, `add-task JOB BODY` and `add-tasks JOB BODY`, with a JSON
+///   object up to the end of the line as the body;
+/// - `delete-pool POOL`, `stop-resize POOL` and `disable-autoscale POOL`;
 /// - `terminate-job JOB`, `enable-job JOB` and `delete-job JOB`;
 /// - `delete-task JOB TASK`, `terminate-task JOB TASK` and `reactivate-task JOB TASK`;
 /// - `take RUN` and `end RUN ENDING`, with an exit code of 32 bits, `none` or `notstarted` as the ending;
+/// - `sample POOL VALUE`, with a number from 0 to 100, of which decimals after the sixth are cut off, as the value;
 /// - `tick`;
 /// - a read: `get-pool POOL`, `list-pools`, `list-nodes POOL`, `get-job JOB`, `list-jobs`, `get-task JOB TASK`, `list-tasks JOB` or
 ///   `task-counts JOB`; its moment has to be one, and is not used.
 ///
 /// Any other line, and one of more than 1,048,576 bytes, is `UnreadableBody`; an invalid id of a pool, a job or a task is
-/// `InvalidPropertyValue(Id)`, before the faults of the body after it. It fails with `Memory` when out of memory.
+/// `InvalidPropertyValue(Id)`, before the faults of the body or of the value after it; another value is `InvalidPropertyValue(Value)`. It
+/// fails with `Memory` when out of memory.
 #[tactic(auto, unfolding(crate::specs::Lines::line_of))]
 pub fn read_line(alloc: Global, line: &[u8]) -> Result<LineRequest, Fail<Refusal>>
     ensures { Gives result (line_of line.now) }
