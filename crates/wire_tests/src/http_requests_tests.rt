@@ -26,6 +26,9 @@ const ID: &str = "{\"code\":\"InvalidPropertyValue\",\"number\":2,\"values\":[\"
 const TARGET: &str =
     "{\"code\":\"InvalidPropertyValue\",\"number\":2,\"values\":[\"targetDedicatedNodes\"]}";
 
+const FORMULA: &str =
+    "{\"code\":\"InvalidPropertyValue\",\"number\":2,\"values\":[\"autoScaleFormula\"]}";
+
 const UNREADABLE: &str = "{\"code\":\"UnreadableBody\",\"number\":1,\"values\":[]}";
 
 /// Requests that are answered as they are read: method, target, body, status, the body of the response.
@@ -55,7 +58,16 @@ const ANSWERED: &[(&[u8], &str, &[u8], u16, &str)] = &[
     (b"POST", "/pools/p/resize", b"{}", 400, TARGET),
     (b"POST", "/pools/p/resize", b"", 400, UNREADABLE),
     (b"POST", "/pools/p.p/stopresize", b"", 400, ID),
-    (b"POST", "/pools/p/disableautoscale", b"", 400, UNREADABLE),
+    (b"POST", "/pools/p/enableautoscale", b"", 400, UNREADABLE),
+    (b"POST", "/pools/p.p/disableautoscale", b"", 400, ID),
+    (b"POST", "/pools/p/evaluateautoscale", b"{}", 400, FORMULA),
+    (
+        b"POST",
+        "/pools/p.p/evaluateautoscale?maxresults=0",
+        b"{}",
+        400,
+        ID,
+    ),
 ];
 
 /// Whether this is a response with this status and this body.
@@ -164,6 +176,24 @@ const CALLS: &[(&[u8], &str, &[u8], &str)] = &[
     (b"POST", "/pools/p/stopresize", b"{", "stop-resize"),
     (
         b"POST",
+        "/pools/p/enableautoscale",
+        b"{}",
+        "enable-autoscale",
+    ),
+    (
+        b"POST",
+        "/pools/p/disableautoscale",
+        b"",
+        "disable-autoscale",
+    ),
+    (
+        b"POST",
+        "/pools/p/evaluateautoscale",
+        b"{\"autoScaleFormula\":\"\"}",
+        "evaluate-autoscale",
+    ),
+    (
+        b"POST",
         "/jobs",
         b"{\"id\":\"j\",\"poolInfo\":{\"poolId\":\"p\"}}",
         "add-job",
@@ -210,6 +240,9 @@ fn called(wanted: &Wanted) -> &'static str {
         EventKind::DeletePool(_) => "delete-pool",
         EventKind::Resize(_, _) => "resize",
         EventKind::StopResize(_) => "stop-resize",
+        EventKind::EnableAutoscale(_, _) => "enable-autoscale",
+        EventKind::DisableAutoscale(_) => "disable-autoscale",
+        EventKind::EvaluateAutoscale(_, _) => "evaluate-autoscale",
         EventKind::AddJob(_, _) => "add-job",
         EventKind::PatchJob(_, _) => "patch-job",
         EventKind::DisableJob(_, _) => "disable-job",

@@ -20,9 +20,13 @@ mod link_doors_tests;
 #[cfg(test)]
 mod origin_tests;
 #[cfg(test)]
+mod scaling_bodies_tests;
+#[cfg(test)]
 mod wire_bodies_tests;
 #[cfg(test)]
 mod wire_json_tests;
+#[cfg(test)]
+mod wire_lines_tests;
 #[cfg(test)]
 mod wire_operations_tests;
 #[cfg(test)]

@@ -51,7 +51,9 @@ fn operations_are_found_by_their_names(rt: HostRuntime) -> Result<(), Fail> {
     let stop_resize = Operation::Pool(PoolOperation::StopResize);
     assert!(rt; Operation::read(b"stop-resize") == Some(stop_resize));
     assert!(rt; Operation::read(b"add-tasks ").is_none());
-    assert!(rt; Operation::read(b"enable-autoscale").is_none());
+    let evaluate = Operation::Pool(PoolOperation::EvaluateAutoscale);
+    assert!(rt; Operation::read(b"evaluate-autoscale") == Some(evaluate));
     assert!(rt; Operation::read(b"take").is_none());
+    assert!(rt; Operation::read(b"sample").is_none());
     Ok(())
 }
