@@ -13,11 +13,12 @@ use Rattle.batch_model.specs.Jobs.{is_job_deleting}
 use Rattle.batch_model.specs.Placing.{is_placeable, choice, place, place_task, place_in, place_of_job, places_tasks, next_job, place_first}
 use Rattle.batch_model.specs.Pools.{staying, free_seat}
 use Rattle.batch_model.specs.Rows.{node_of, pool_of, job_of}
+use Rattle.batch_model.specs.Scaling.{is_to_sample, pool_sampled, sample_first, is_scaling, scale_of, pool_scaled, scale_pool, scale_first}
 use Rattle.batch_model.specs.Settling.{is_over, settled, complete, outcome_of, settle_completed, settle_timed_out, settle_terminated, settle_again}
 use Rattle.batch_model.specs.Settling.{settle_deleted, settle_failed, settle_ending, settle_by, settle}
 use Rattle.batch_model.specs.Steps.{DueStep}
 use Rattle.batch_model.specs.Tasks.{attempt_ending, retry_limit}
-use Rattle.batch_model.specs.Variants.{State, PoolRow, NodeRow, JobRow, ReleaseTask, TaskRow, Want, WantRequeue, WantTerminate, WantWall, WantDelete, How}
+use Rattle.batch_model.specs.Variants.{State, PoolRow, ScaleRow, NodeRow, JobRow, ReleaseTask, TaskRow, Want, WantRequeue, WantTerminate, WantWall, WantDelete, How}
 use Rattle.batch_model.specs.Variants.{ByEnding, ByWall, Options, Ending, NoCode, RunRow, PrepRow}
 use Rattle.batch_model.specs.WallTimes.{task_timed_out, is_task_timed_out, time_out_task_first, release_timed_out, is_release_timed_out}
 use Rattle.batch_model.specs.WallTimes.{time_out_release_first, job_timed_out, is_job_timed_out, time_out_job_first}
@@ -26,6 +27,7 @@ use Rattle.model_rules.proofs.Rules.{from_map, from_then, from_only_if, from_fir
 
 -- the step, with what its rule found: tasks that change are those that a search finds
 pub data DueCase (s : State) : DueStep → Type 0 where
+  takes_samples : (pool : PoolRow) → DueCase s (pool_sampled s pool)
   task_stops : (task : TaskRow) → DueCase s (task_timed_out s task)
   release_stops : (run : RunRow) → DueCase s (release_timed_out s run)
   job_stops : (job : JobRow) → DueCase s (job_timed_out s job)
@@ -46,12 +48,20 @@ pub data DueCase (s : State) : DueStep → Type 0 where
   pool_reaches : (pool : PoolRow) → DueCase s (pool_steady s pool)
   pool_fails : (pool : PoolRow) → DueCase s (pool_timed_out s pool)
   pool_stops : (pool : PoolRow) → DueCase s (pool_stopped s pool)
+  pool_scales : (pool : PoolRow) (scale : ScaleRow) → DueCase s (pool_scaled s pool scale)
   node_departs : (pool : PoolRow) (node : NodeRow) → DueCase s (node_leaves s pool node)
   node_goes : (node : NodeRow) → DueCase s (node_dropped s node)
   node_comes : (seat : ℕ) (pool : PoolRow) → DueCase s (node_added s seat pool)
   places : (job : JobRow) (task : TaskRow) (node : NodeRow) (test : TaskRow → Bool) → find test s.tasks ≡ Some task → DueCase s (place s job task node)
 
 module _ (s : State) where
+  -- samples
+
+  sample_case : (step : DueStep) → sample_first s ≡ Some step → DueCase s step
+  sample_case step e =
+      let made = from_map (pool_sampled s) (find (is_to_sample s) s.pools) step e in
+      subst (DueCase s) {x = pool_sampled s made.0} made.1 (takes_samples made.0)
+
   -- wall times
 
   task_time_case : (step : DueStep) → time_out_task_first s ≡ Some step → DueCase s step
@@ -163,6 +173,12 @@ module _ (s : State) where
       let made = from_map (resize_ended s) (find (ends_resize s) s.pools) step e in
       subst (DueCase s) made.1 (resized_case made.0 (is_gone s made.0) (has_reached s made.0) (has_timed_out s made.0))
 
+  scale_case : (step : DueStep) → scale_first s ≡ Some step → DueCase s step
+  scale_case step e =
+      let pool = from_then (scale_pool s) (find (is_scaling s) s.pools) step e in
+      let scale = from_map (pool_scaled s pool.0) (scale_of s pool.0.id) step pool.1 in
+      subst (DueCase s) {x = pool_scaled s pool.0 scale.0} scale.1 (pool_scales pool.0 scale.0)
+
   remove_case : (step : DueStep) → remove_node s ≡ Some step → DueCase s step
   remove_case step e =
       let pool = from_then (one_leaves s) (find (has_too_many s) s.pools) step e in
@@ -170,7 +186,7 @@ module _ (s : State) where
       subst (DueCase s) node.1 (node_departs pool.0 node.0)
 
   pool_case : (step : DueStep) → pool_step s ≡ Some step → DueCase s step
-  pool_case step e = first_gives (DueCase s) (end_resize s ∷ remove_node s ∷ []) (resize_case, (remove_case, tt)) step e
+  pool_case step e = first_gives (DueCase s) (end_resize s ∷ scale_first s ∷ remove_node s ∷ []) (resize_case, (scale_case, (remove_case, tt))) step e
 
   drop_case : (step : DueStep) → drop_first s ≡ Some step → DueCase s step
   drop_case step e =
@@ -223,5 +239,5 @@ module _ (s : State) where
   pub due_cases : (seats : ℕ) (step : DueStep) → due_step seats s ≡ Some step → DueCase s step
   due_cases seats step e =
       first_gives (DueCase s)
-      (job_step s ∷ pool_step s ∷ node_step seats s ∷ place_first s ∷ [])
-      (job_case, (pool_case, (node_case seats, (place_case, tt)))) step e
+      (sample_first s ∷ job_step s ∷ pool_step s ∷ node_step seats s ∷ place_first s ∷ [])
+      (sample_case, (job_case, (pool_case, (node_case seats, (place_case, tt))))) step e

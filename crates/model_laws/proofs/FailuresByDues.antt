@@ -15,6 +15,7 @@ use Rattle.batch_model.specs.JobRules.{all_complete, drop_job}
 use Rattle.batch_model.specs.Jobs.{can_disable, is_past}
 use Rattle.batch_model.specs.Placing.{placed, begin_preparation, prepare_with, place}
 use Rattle.batch_model.specs.Preps.{has_preparation}
+use Rattle.batch_model.specs.Metrics.{sampled_metrics}
 use Rattle.batch_model.specs.Rows.{is_node, is_task, is_job, job_of, task_of, put_task, change_tasks, add_node_row}
 use Rattle.batch_model.specs.Settling.{is_over, task_failed, act}
 use Rattle.batch_model.specs.Sound.{IsSound}
@@ -26,10 +27,11 @@ use Rattle.batch_model.specs.Variants.{WantWall}
 use Rattle.batch_model.specs.WallTimes.{wall_time_over}
 use Rattle.model_lists.proofs.RowLists.{find_agree}
 use Rattle.model_lists.proofs.Tests.{and_first}
+use Rattle.model_tables.proofs.ScalingParts.{samples_leave}
 use Rattle.model_laws.specs.Retries.{failures_of, DueFailures, same_failures, task_gone, tried_again}
 use Rattle.model_laws.proofs.DueCases.{DueCase, task_stops, release_stops, job_stops, task_deleted, task_terminated, task_requeued, task_tried, task_completed}
 use Rattle.model_laws.proofs.DueCases.{job_active, job_done, job_rests, releases, job_goes, job_stays, pool_goes, pool_reaches, pool_fails, pool_stops}
-use Rattle.model_laws.proofs.DueCases.{node_departs, node_goes, node_comes, places, due_cases}
+use Rattle.model_laws.proofs.DueCases.{takes_samples, pool_scales, node_departs, node_goes, node_comes, places, due_cases}
 use Rattle.model_laws.proofs.KeptFailures.{alike_ids, keyed_like, HasSame, stop_keeps, close_keeps, disable_keeps, leave_keeps, HasSameOrGone}
 use Rattle.model_laws.proofs.KeptFailures.{tasks_dropped, task_dropped}
 use Rattle.model_laws.proofs.KeptFailures.{own_task, put_same, put_other, put_own}
@@ -142,6 +144,9 @@ module _ (job id : List ℕ) where
     -- all cases
 
     case_failures : (step : DueStep) → DueCase s step → DueFailures s step.due job id (failures_of s job id) (failures_of step.state job id)
+    case_failures step (takes_samples pool) =
+        samples_leave (λ t. DueFailures s step.due job id (failures_of s job id) (failures_of t job id)) s pool sampled_metrics s
+        (λ samples. same_failures (failures_of s job id))
     case_failures step (task_stops task) = kept step.due s step.state (stop_keeps job id (is_task task.job task.id) WantWall s)
     case_failures step (release_stops run) = same_failures (failures_of s job id)
     case_failures step (job_stops row) = kept step.due s step.state (close_keeps job id Terminating wall_time_over row s)
@@ -162,6 +167,7 @@ module _ (job id : List ℕ) where
     case_failures step (pool_reaches pool) = same_failures (failures_of s job id)
     case_failures step (pool_fails pool) = same_failures (failures_of s job id)
     case_failures step (pool_stops pool) = same_failures (failures_of s job id)
+    case_failures step (pool_scales pool scale) = same_failures (failures_of s job id)
     case_failures step (node_departs pool node) = kept step.due s step.state (leave_keeps job id pool.option (is_node node.number) s)
     case_failures step (node_goes node) = same_failures (failures_of s job id)
     case_failures step (node_comes seat pool) =

@@ -10,13 +10,14 @@ use Rattle.bt_rows.specs.Lists.{AreDistinct}
 use Rattle.bt_rows.specs.declared.event.EventKind.{EventKind}
 use Rattle.bt_rows.specs.declared.event.EventKind.TheVariants.{AddPool, DeletePool, Resize, StopResize, AddJob, PatchJob, DisableJob, EnableJob}
 use Rattle.bt_rows.specs.declared.event.EventKind.TheVariants.{TerminateJob, DeleteJob, AddTask, AddTasks, DeleteTask, TerminateTask, ReactivateTask, Take, End}
+use Rattle.bt_rows.specs.declared.event.EventKind.TheVariants.{EnableAutoscale, DisableAutoscale, EvaluateAutoscale, Sample, Tick}
 use Rattle.bt_rows.specs.declared.event.JobSpec.{JobSpec}
 use Rattle.bt_rows.specs.declared.event.TaskSpec.{TaskSpec}
 use Rattle.bt_rows.specs.declared.refusal.Refusal.TheVariants.{PoolNotFound, JobNotFound, TaskNotFound, JobStateRefuses, RunNotFound, TaskExists}
 use Rattle.bt_rows.specs.declared.refusal.Refusal.TheVariants.{TaskNotReactivable}
 use Rattle.bt_rows.specs.declared.refusal.Refusal.{Refusal}
 use Rattle.batch_model.specs.Endings.{is_success}
-use Rattle.batch_model.specs.Events.{refuse, answer, event_step, event_now, at_moment, accept_all, add_pool_refusals, add_job, add_job_in, add_job_refusals}
+use Rattle.batch_model.specs.Events.{refuse, answer, event_step, event_now, at_moment, accept_all, add_pool_refusals, pool_added, add_job, add_job_in, add_job_refusals}
 use Rattle.batch_model.specs.Events.{patch_job, patch_refusals, patched, disable_job, disable_refusals, enable_job, enable_refusals, terminate_job}
 use Rattle.batch_model.specs.Events.{terminate_refusals, user_terminate, delete_job, delete_refusals, add_task, task_refusals, task_added, after_element}
 use Rattle.batch_model.specs.Events.{add_each, add_tasks, add_tasks_refusals, for_row, delete_found, delete_task_refusals, delete_task, task_terminated}
@@ -34,14 +35,18 @@ use Rattle.batch_model.specs.Preparing.{preparation_ended_at, prep_of_run, relea
 use Rattle.batch_model.specs.Preps.{change_prep, failed_preparation}
 use Rattle.batch_model.specs.Rows.{is_task, is_run, is_job, job_of, task_of, pool_of, run_of, put_pool, put_job, put_task}
 use Rattle.batch_model.specs.Rows.{change_runs, add_pool_row, add_job_row}
+use Rattle.batch_model.specs.Samples.{new_sample, add_sample}
+use Rattle.batch_model.specs.Scaling.{autoscale_enabled, enable_autoscale_refusals, enable_autoscale, scaling_refusals, disable_autoscale}
+use Rattle.batch_model.specs.Scaling.{formula_shown, evaluate_refusals, evaluate_autoscale, sample_refusals, sample_pool}
 use Rattle.batch_model.specs.Settling.{drop_task}
 use Rattle.batch_model.specs.Starts.{is_tried_again, start_ended}
 use Rattle.batch_model.specs.Stops.{stop, disable, close, terminate}
 use Rattle.batch_model.specs.Tasks.{is_placed, terminated, new_task}
-use Rattle.batch_model.specs.Variants.{State, ByRequeue, JobRow, Terminating, Deleting, Enabling, StartTask, TaskRow, WantRequeue, WantTerminate}
+use Rattle.batch_model.specs.Variants.{State, ByRequeue, CpuPercent, JobRow, Terminating, Deleting, Enabling, StartTask, TaskRow, WantRequeue, WantTerminate}
 use Rattle.batch_model.specs.Variants.{WantDelete, Ending, PrepRow, RunRow, RunKind, StartRun, PrepRun, TaskRun, CoordinationRun, ReleaseRun}
 use Rattle.model_lists.proofs.RowLists.{find_agree, find_test}
 use Rattle.model_lists.proofs.Tests.{passes_or_not, and_true, and_first, and_second, or_first, or_second, not_false}
+use Rattle.model_tables.proofs.ScalingParts.{given_scale_leaves, enabled_leaves}
 use Rattle.model_events.proofs.Keeping.{AreAbsent, passed, through, given_keeps, answer_keeps, for_row_keeps}
 use Rattle.model_events.proofs.end.StartCases.{StartEnds, nothing, starts, again, fails, start_cases}
 use Rattle.model_laws.specs.Retries.{failures_of, adds_task, EventFailures, same_failures, task_gone, added_task, reactivated_task}
@@ -278,8 +283,8 @@ module _ (job id : List ℕ) where
       -- each event at the tables' moment
       changes_now : (event : EventKind) → Changes event (event_now event s).state
       changes_now (AddPool spec) =
-          by_answer (AddPool spec) (add_pool_refusals s spec) 201 (add_pool_row (new_pool s.moment spec) s)
-          (λ absent. stays (AddPool spec))
+          by_answer (AddPool spec) (add_pool_refusals s spec) 201 (pool_added s spec)
+          (λ absent. given_scale_leaves (Changes (AddPool spec)) (add_pool_row (new_pool s.moment spec) s) (λ rows. stays (AddPool spec)) spec.id spec.scale)
       changes_now (DeletePool pool) =
           by_row (DeletePool pool) PoolNotFound (delete_pool s) (pool_of s pool)
           (λ row found. by_answer (DeletePool pool) (delete_pool_refusals row) 202 (pool_deleted s row)
@@ -361,7 +366,22 @@ module _ (job id : List ℕ) where
           by_row (End number ending) RunNotFound (end_run s ending) (run_of s number)
           (λ run found. by_answer (End number ending) (end_refusals run) 200 (run_ended s ending run)
           (λ absent. kept (End number ending) (run_ended s ending run) (run_ended_keeps s ending run)))
-      changes_now other = stays other
+      changes_now (EnableAutoscale pool spec) =
+          by_row (EnableAutoscale pool spec) PoolNotFound (enable_autoscale s spec) (pool_of s pool)
+          (λ row found. by_answer (EnableAutoscale pool spec) (enable_autoscale_refusals s spec row) 200 (autoscale_enabled s spec row)
+          (λ absent. enabled_leaves (Changes (EnableAutoscale pool spec)) s (λ pools rows. stays (EnableAutoscale pool spec)) spec row))
+      changes_now (DisableAutoscale pool) =
+          by_row (DisableAutoscale pool) PoolNotFound (disable_autoscale s) (pool_of s pool)
+          (λ row found. by_answer (DisableAutoscale pool) (scaling_refusals s row) 200 (drop_scale row.id s) (λ absent. stays (DisableAutoscale pool)))
+      changes_now (EvaluateAutoscale pool text) =
+          by_row (EvaluateAutoscale pool text) PoolNotFound (evaluate_autoscale s text) (pool_of s pool)
+          (λ row found. by_given (EvaluateAutoscale pool text) (formula_shown s text row) (evaluate_refusals s text row)
+          (λ absent. stays (EvaluateAutoscale pool text)))
+      changes_now (Sample pool percentage) =
+          by_row (Sample pool percentage) PoolNotFound (sample_pool s percentage) (pool_of s pool)
+          (λ row found. by_answer (Sample pool percentage) (sample_refusals s row) 200 (add_sample (new_sample s row.id CpuPercent percentage) s)
+          (λ absent. stays (Sample pool percentage)))
+      changes_now Tick = stays Tick
 
   -- the failures of the task before an event, and after it
   pub failures_by_event : (moment : ℕ) (event : EventKind) (s : State) → AreDistinct same_task s.tasks

@@ -5,6 +5,7 @@ use Rattle.batch_model.specs.Dues.{new_node, begin_start, node_added, due_step}
 use Rattle.batch_model.specs.Finding.{names}
 use Rattle.batch_model.specs.JobRules.{all_complete, releasing, release_made, job_removed}
 use Rattle.batch_model.specs.Jobs.{can_disable, is_past}
+use Rattle.batch_model.specs.Metrics.{sampled_metrics}
 use Rattle.batch_model.specs.Placing.{placed, begin_preparation, prepare_with, prepare, first_state, place}
 use Rattle.batch_model.specs.Preps.{new_prep, change_prep, has_preparation}
 use Rattle.batch_model.specs.Rows.{is_node, is_task, is_run, put_task, add_node_row, add_prep_row}
@@ -16,9 +17,10 @@ use Rattle.batch_model.specs.Tasks.{completed}
 use Rattle.batch_model.specs.Variants.{State, PoolRow, NodeRow, JobRow, Terminating, JobAction, NoAction, ToDisable, ToTerminate, StartTask, ReleaseTask}
 use Rattle.batch_model.specs.Variants.{TaskRow, Closed, WantWall, RunRow, RunState, PrepRun, TaskRun, ReleaseRun, PrepRow}
 use Rattle.batch_model.specs.WallTimes.{wall_time_over}
+use Rattle.model_tables.proofs.ScalingParts.{samples_leave}
 use Rattle.model_laws.proofs.DueCases.{DueCase, task_stops, release_stops, job_stops, task_deleted, task_terminated, task_requeued, task_tried, task_completed}
 use Rattle.model_laws.proofs.DueCases.{job_active, job_done, job_rests, releases, job_goes, job_stays, pool_goes, pool_reaches, pool_fails, pool_stops}
-use Rattle.model_laws.proofs.DueCases.{node_departs, node_goes, node_comes, places, due_cases}
+use Rattle.model_laws.proofs.DueCases.{takes_samples, pool_scales, node_departs, node_goes, node_comes, places, due_cases}
 use Rattle.model_laws.proofs.LastingRuns.{IsLasting, HasNoMore, no_change, both_steps, dropped, added, run_asked}
 use Rattle.model_laws.proofs.StayingRuns.{ask_stays}
 use Rattle.model_laws.proofs.MadeRuns.{Lasts, same_runs, lasts_on}
@@ -51,6 +53,8 @@ module _ (s : State) (P : DueStep → Type 0) (of_none : (step : DueStep) → La
     (of_node : (seat : ℕ) (pool : PoolRow) → P (node_added s seat pool))
     (of_place : (job : JobRow) (task : TaskRow) (node : NodeRow) → P (place s job task node)) where
   of_case : (step : DueStep) → DueCase s step → P step
+  of_case step (takes_samples pool) =
+      of_none step (samples_leave (Lasts s) s pool sampled_metrics s (λ samples. same_runs s (record s { samples = samples }) refl refl))
   of_case step (task_stops task) = of_none step (stop_lasts (is_task task.job task.id) WantWall s)
   of_case step (release_stops run) =
       of_none step
@@ -78,6 +82,7 @@ module _ (s : State) (P : DueStep → Type 0) (of_none : (step : DueStep) → La
   of_case step (pool_reaches pool) = of_none step (same_runs s step.state refl refl)
   of_case step (pool_fails pool) = of_none step (same_runs s step.state refl refl)
   of_case step (pool_stops pool) = of_none step (same_runs s step.state refl refl)
+  of_case step (pool_scales pool scale) = of_none step (same_runs s step.state refl refl)
   of_case step (node_departs pool node) = of_none step (leave_lasts pool.option (is_node node.number) s)
   of_case step (node_goes node) = of_none step (same_runs s step.state refl refl)
   of_case step (node_comes seat pool) = of_node seat pool

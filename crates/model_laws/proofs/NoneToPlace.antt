@@ -4,10 +4,11 @@ use Rattle.std.proofs.Common.{◌∙◌, ap}
 use Rattle.std.specs.List.{list_any, filter}
 use Rattle.std.specs.Prelude.{flat_map}
 use Rattle.bt_base.proofs.SameIds.{same_equiv}
-use Rattle.batch_model.specs.Dues.{due_step, pool_step, node_step}
+use Rattle.batch_model.specs.Dues.{job_step, due_step, pool_step, node_step}
 use Rattle.batch_model.specs.Finding.{or_else, first_of, only_if, has_number_left}
 use Rattle.batch_model.specs.Placing.{is_above, place_first}
 use Rattle.batch_model.specs.Rows.{is_job, is_task, job_of, task_of}
+use Rattle.batch_model.specs.Scaling.{sample_first}
 use Rattle.batch_model.specs.Steps.{DueStep}
 use Rattle.batch_model.specs.Tasks.{is_in_job}
 use Rattle.batch_model.specs.Variants.{State, JobRow, TaskRow}
@@ -116,7 +117,9 @@ module _ (s : State) where
   none_by_last seats h =
       first_none (place_first s) None
       (rest_none (node_step seats s) (first_of (place_first s ∷ []))
-      (rest_none (pool_step s) (first_of (node_step seats s ∷ place_first s ∷ [])) (rest_none _ _ h)))
+      (rest_none (pool_step s) (first_of (node_step seats s ∷ place_first s ∷ []))
+      (rest_none (job_step s) (first_of (pool_step s ∷ node_step seats s ∷ place_first s ∷ []))
+      (rest_none (sample_first s) (first_of (job_step s ∷ pool_step s ∷ node_step seats s ∷ place_first s ∷ [])) h))))
 
   pub none_to_place : (seats : ℕ) → due_step seats s ≡ None → has_number_left s.next_run ≡ true → HasNoneToPlace s
   none_to_place seats rest left job task job_there task_there = by_test (can_be_placed s (record { job = job; task = task })) refl

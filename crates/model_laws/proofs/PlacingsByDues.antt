@@ -12,6 +12,7 @@ use Rattle.bt_rows.specs.declared.event.DisableTasks.TheVariants.{Requeue}
 use Rattle.batch_model.specs.Dues.{new_node, begin_start, due_step}
 use Rattle.batch_model.specs.JobRules.{all_complete, job_completed}
 use Rattle.batch_model.specs.Jobs.{can_disable, is_past, job_in}
+use Rattle.batch_model.specs.Metrics.{sampled_metrics}
 use Rattle.batch_model.specs.Placing.{placed, begin_preparation, prepare_with, prepare, place}
 use Rattle.batch_model.specs.Preps.{has_preparation}
 use Rattle.batch_model.specs.Rows.{is_node, is_task, is_job, job_of, task_of, put_task, add_node_row}
@@ -25,11 +26,12 @@ use Rattle.batch_model.specs.Variants.{StartTask, TaskRow, Closed, WantWall}
 use Rattle.batch_model.specs.WallTimes.{wall_time_over}
 use Rattle.model_lists.proofs.ChangedRows.{changed, find_change}
 use Rattle.model_lists.proofs.RowLists.{find_agree, find_test}
+use Rattle.model_tables.proofs.ScalingParts.{samples_leave}
 use Rattle.model_laws.specs.Placings.{attempt_if_placed, placed_attempt, has_completed, is_completed_job, DuePlaced, was_placed, placed_now}
 use Rattle.model_laws.specs.Placings.{DueCompleted, was_completed, completed_now, DuePlacings}
 use Rattle.model_laws.proofs.DueCases.{DueCase, task_stops, release_stops, job_stops, task_deleted, task_terminated, task_requeued, task_tried, task_completed}
 use Rattle.model_laws.proofs.DueCases.{job_active, job_done, job_rests, releases, job_goes, job_stays, pool_goes, pool_reaches, pool_fails, pool_stops}
-use Rattle.model_laws.proofs.DueCases.{node_departs, node_goes, node_comes, places, due_cases}
+use Rattle.model_laws.proofs.DueCases.{takes_samples, pool_scales, node_departs, node_goes, node_comes, places, due_cases}
 use Rattle.model_laws.proofs.KeptFailures.{keyed_like, keyed_both, own_task}
 use Rattle.model_laws.proofs.KeptPlacings.{Keeps, stays, both, stop_keeps, leave_keeps, task_put, task_dropped, job_put, job_dropped, close_keeps}
 use Rattle.model_laws.proofs.KeptPlacings.{disable_keeps}
@@ -140,6 +142,8 @@ module _ (job id : List ℕ) where
 
     -- all cases
     case_does : AreDistinct same_task s.tasks → (step : DueStep) → DueCase s step → Does step.due step.state
+    case_does keys step (takes_samples pool) =
+        neither step.due step.state (samples_leave (Keeps job id s) s pool sampled_metrics s (λ samples. stays job id s))
     case_does keys step (task_stops task) = neither step.due step.state (stop_keeps job id (is_task task.job task.id) WantWall s)
     case_does keys step (release_stops run) = neither step.due step.state (stays job id s)
     case_does keys step (job_stops row) = neither step.due step.state (close_keeps job id Terminating wall_time_over row s refl)
@@ -163,6 +167,7 @@ module _ (job id : List ℕ) where
     case_does keys step (pool_reaches pool) = neither step.due step.state (stays job id s)
     case_does keys step (pool_fails pool) = neither step.due step.state (stays job id s)
     case_does keys step (pool_stops pool) = neither step.due step.state (stays job id s)
+    case_does keys step (pool_scales pool scale) = neither step.due step.state (stays job id s)
     case_does keys step (node_departs pool node) = neither step.due step.state (leave_keeps job id pool.option (is_node node.number) s)
     case_does keys step (node_goes node) = neither step.due step.state (stays job id s)
     case_does keys step (node_comes seat pool) =

@@ -4,6 +4,7 @@ use Rattle.std.specs.Option.{option_map_or}
 use Rattle.bt_rows.specs.declared.event.EventKind.{EventKind}
 use Rattle.bt_rows.specs.declared.event.EventKind.TheVariants.{AddPool, DeletePool, Resize, StopResize, AddJob, PatchJob, DisableJob, EnableJob}
 use Rattle.bt_rows.specs.declared.event.EventKind.TheVariants.{TerminateJob, DeleteJob, AddTask, AddTasks, DeleteTask, TerminateTask, ReactivateTask, Take, End}
+use Rattle.bt_rows.specs.declared.event.EventKind.TheVariants.{EnableAutoscale, DisableAutoscale, EvaluateAutoscale, Sample, Tick}
 use Rattle.bt_rows.specs.declared.event.JobPatch.{JobPatch}
 use Rattle.bt_rows.specs.declared.event.JobSpec.{JobSpec}
 use Rattle.bt_rows.specs.declared.event.Limits.{Limits}
@@ -11,7 +12,7 @@ use Rattle.bt_rows.specs.declared.event.TaskSpec.{TaskSpec}
 use Rattle.bt_rows.specs.declared.refusal.Refusal.TheVariants.{PoolNotFound, JobNotFound, TaskNotFound, JobStateRefuses, RunNotFound}
 use Rattle.bt_rows.specs.declared.refusal.Refusal.{Refusal}
 use Rattle.batch_model.specs.Endings.{is_success}
-use Rattle.batch_model.specs.Events.{refuse, answer, event_step, event_now, at_moment, accept_all, add_pool_refusals, add_job, add_job_in, add_job_refusals}
+use Rattle.batch_model.specs.Events.{refuse, answer, event_step, event_now, at_moment, accept_all, add_pool_refusals, pool_added, add_job, add_job_in, add_job_refusals}
 use Rattle.batch_model.specs.Events.{patch_job, limited, patch_refusals, patched, disable_job, disable_refusals, enable_job, enable_refusals, terminate_job}
 use Rattle.batch_model.specs.Events.{terminate_refusals, user_terminate, delete_job, delete_refusals, add_task, task_refusals, after_element, add_each, add_tasks}
 use Rattle.batch_model.specs.Events.{add_tasks_refusals, for_row, delete_found, delete_task_refusals, delete_task, terminate_task_refusals, terminate_found}
@@ -27,15 +28,19 @@ use Rattle.batch_model.specs.Preparing.{spent_preparation, preparation_done, is_
 use Rattle.batch_model.specs.Preparing.{preparation_ended_at, prep_of_run, released}
 use Rattle.batch_model.specs.Preps.{change_prep, failed_preparation}
 use Rattle.batch_model.specs.Rows.{is_task, is_run, job_of, task_of, pool_of, run_of, put_pool, put_job, put_task, change_runs, add_pool_row, add_job_row}
+use Rattle.batch_model.specs.Samples.{new_sample, add_sample}
+use Rattle.batch_model.specs.Scaling.{autoscale_enabled, enable_autoscale_refusals, enable_autoscale, scaling_refusals, disable_autoscale}
+use Rattle.batch_model.specs.Scaling.{formula_shown, evaluate_refusals, evaluate_autoscale, sample_refusals, sample_pool}
 use Rattle.batch_model.specs.Settling.{drop_task}
 use Rattle.batch_model.specs.Starts.{is_tried_again, start_ended}
 use Rattle.batch_model.specs.Steps.{Answered, refuse_if}
 use Rattle.batch_model.specs.Stops.{stop, disable, close, terminate}
 use Rattle.batch_model.specs.Tasks.{is_placed, terminated, new_task}
-use Rattle.batch_model.specs.Variants.{State, ByRequeue, JobRow, JobState, JobActive, Disabling, Disabled, Enabling, Terminating, JobCompleted, Deleting}
+use Rattle.batch_model.specs.Variants.{State, ByRequeue, CpuPercent, JobRow, JobState, JobActive, Disabling, Disabled, Enabling, Terminating, JobCompleted, Deleting}
 use Rattle.batch_model.specs.Variants.{StartTask, TaskRow, WantRequeue, WantTerminate, WantDelete, Ending, PrepRow, RunRow, RunKind, StartRun, PrepRun, TaskRun}
 use Rattle.batch_model.specs.Variants.{CoordinationRun, ReleaseRun}
 use Rattle.model_lists.proofs.Tests.{passes_or_not}
+use Rattle.model_tables.proofs.ScalingParts.{given_scale_leaves, enabled_leaves}
 use Rattle.model_events.proofs.Keeping.{AreAbsent, passed, through, given_keeps, answer_keeps, for_row_keeps}
 use Rattle.model_events.proofs.end.StartCases.{StartEnds, nothing, starts, again, fails, start_cases}
 use Rattle.model_laws.specs.Placings.{EventPlacings}
@@ -155,7 +160,8 @@ module _ (job id : List ℕ) where
     -- each event at the tables' moment
     keeps_now : (event : EventKind) → Keeps job id s (event_now event s).state
     keeps_now (AddPool spec) =
-        by_answer (add_pool_refusals s spec) 201 (add_pool_row (new_pool s.moment spec) s) (λ absent. stays job id s)
+        by_answer (add_pool_refusals s spec) 201 (pool_added s spec)
+        (λ absent. given_scale_leaves (Keeps job id s) (add_pool_row (new_pool s.moment spec) s) (λ rows. stays job id s) spec.id spec.scale)
     keeps_now (DeletePool pool) =
         by_row PoolNotFound (delete_pool s) (pool_of s pool)
         (λ row found. by_answer (delete_pool_refusals row) 202 (pool_deleted s row)
@@ -217,7 +223,20 @@ module _ (job id : List ℕ) where
     keeps_now (End number ending) =
         by_row RunNotFound (end_run s ending) (run_of s number)
         (λ run found. by_answer (end_refusals run) 200 (run_ended s ending run) (λ absent. run_ended_keeps s ending run))
-    keeps_now other = stays job id s
+    keeps_now (EnableAutoscale pool spec) =
+        by_row PoolNotFound (enable_autoscale s spec) (pool_of s pool)
+        (λ row found. by_answer (enable_autoscale_refusals s spec row) 200 (autoscale_enabled s spec row)
+        (λ absent. enabled_leaves (Keeps job id s) s (λ pools rows. stays job id s) spec row))
+    keeps_now (DisableAutoscale pool) =
+        by_row PoolNotFound (disable_autoscale s) (pool_of s pool)
+        (λ row found. by_answer (scaling_refusals s row) 200 (drop_scale row.id s) (λ absent. stays job id s))
+    keeps_now (EvaluateAutoscale pool text) =
+        by_row PoolNotFound (evaluate_autoscale s text) (pool_of s pool)
+        (λ row found. by_given (formula_shown s text row) (evaluate_refusals s text row) (λ absent. stays job id s))
+    keeps_now (Sample pool percentage) =
+        by_row PoolNotFound (sample_pool s percentage) (pool_of s pool)
+        (λ row found. by_answer (sample_refusals s row) 200 (add_sample (new_sample s row.id CpuPercent percentage) s) (λ absent. stays job id s))
+    keeps_now Tick = stays job id s
 
 -- an event places no task, and completes no job
 pub event_placings : (moment : ℕ) (event : EventKind) (s : State) → EventPlacings s (event_step moment event s).state

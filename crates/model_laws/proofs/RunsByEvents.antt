@@ -8,13 +8,15 @@ use Rattle.bt_rows.specs.Lists.{AreDistinct}
 use Rattle.bt_rows.specs.declared.event.EventKind.{EventKind}
 use Rattle.bt_rows.specs.declared.event.EventKind.TheVariants.{AddPool, DeletePool, Resize, StopResize, AddJob, PatchJob, DisableJob, EnableJob}
 use Rattle.bt_rows.specs.declared.event.EventKind.TheVariants.{TerminateJob, DeleteJob, AddTask, AddTasks, DeleteTask, TerminateTask, ReactivateTask, Take, End}
+use Rattle.bt_rows.specs.declared.event.EventKind.TheVariants.{EnableAutoscale, DisableAutoscale, EvaluateAutoscale, Sample, Tick}
 use Rattle.bt_rows.specs.declared.event.JobSpec.{JobSpec}
+use Rattle.bt_rows.specs.declared.event.PoolSpec.{PoolSpec}
 use Rattle.bt_rows.specs.declared.event.TaskSpec.{TaskSpec}
 use Rattle.bt_rows.specs.declared.refusal.Refusal.TheVariants.{PoolNotFound, JobNotFound, TaskNotFound, JobStateRefuses, RunNotFound, RunAlreadyEnded}
 use Rattle.bt_rows.specs.declared.refusal.Refusal.TheVariants.{RunWithdrawn}
 use Rattle.bt_rows.specs.declared.refusal.Refusal.{Refusal}
 use Rattle.bt_rows.specs.declared.reply.Reply.TheVariants.{Status}
-use Rattle.batch_model.specs.Events.{refuse, answer, event_step, event_now, at_moment, accept_all, add_pool_refusals, add_job, add_job_in, add_job_refusals}
+use Rattle.batch_model.specs.Events.{refuse, answer, event_step, event_now, at_moment, accept_all, add_pool_refusals, pool_added, add_job, add_job_in, add_job_refusals}
 use Rattle.batch_model.specs.Events.{patch_job, patch_refusals, patched, disable_job, disable_refusals, enable_job, enable_refusals, terminate_job}
 use Rattle.batch_model.specs.Events.{terminate_refusals, user_terminate, delete_job, delete_refusals, add_task, task_refusals, task_added, after_element}
 use Rattle.batch_model.specs.Events.{add_each, add_tasks, add_tasks_refusals, for_row, delete_found, delete_task_refusals, delete_task, task_terminated}
@@ -29,16 +31,20 @@ use Rattle.batch_model.specs.PoolEvents.{delete_pool_refusals, deleted_pool, dro
 use Rattle.batch_model.specs.Pools.{new_pool}
 use Rattle.batch_model.specs.Rows.{is_task, job_of, task_of, pool_of, run_of, put_pool, put_job, put_task, add_pool_row, add_job_row, is_run}
 use Rattle.batch_model.specs.Runs.{is_ended, is_withdrawn, is_unended}
+use Rattle.batch_model.specs.Samples.{new_sample, add_sample}
+use Rattle.batch_model.specs.Scaling.{autoscale_enabled, enable_autoscale_refusals, enable_autoscale, scaling_refusals, disable_autoscale}
+use Rattle.batch_model.specs.Scaling.{formula_shown, evaluate_refusals, evaluate_autoscale, sample_refusals, sample_pool}
 use Rattle.batch_model.specs.Settling.{drop_task}
 use Rattle.batch_model.specs.Sound.{IsSound}
 use Rattle.batch_model.specs.Stops.{stop, disable, close, terminate}
 use Rattle.batch_model.specs.Tasks.{is_placed, terminated}
-use Rattle.batch_model.specs.Variants.{State, PoolRow, ByRequeue, JobRow, Terminating, Deleting, Enabling, TaskRow, WantTerminate, WantDelete, Ending, RunRow}
+use Rattle.batch_model.specs.Variants.{State, PoolRow, ByRequeue, CpuPercent, JobRow, Terminating, Deleting, Enabling, TaskRow, WantTerminate, WantDelete, Ending, RunRow}
 use Rattle.batch_model.specs.Variants.{RunState, Waiting, Queued, Taken, Ended, Withdrawn}
 use Rattle.model_lists.proofs.Tests.{passes_or_not, and_true, true_not}
 use Rattle.model_lists.proofs.ChangedRows.{each_change}
 use Rattle.model_lists.proofs.RowLists.{each_any, each_found, find_test, none_any, any_found}
 use Rattle.model_tables.proofs.FoundRows.{own_number}
+use Rattle.model_tables.proofs.ScalingParts.{given_scale_leaves, enabled_leaves}
 use Rattle.model_events.proofs.Keeping.{AreAbsent, passed, through, given_keeps, answer_keeps, for_row_keeps}
 use Rattle.model_laws.specs.Runs.{KeepsRuns, is_open, RefusesEnd, of_ended, of_absent}
 use Rattle.model_laws.proofs.MadeRuns.{Lasts, same_runs, lasts_on, EventRuns, makes_none, keeps_runs, closed_on}
@@ -83,6 +89,11 @@ module _ (s : State) where
 
   -- a pool
 
+  pool_is_added : (event : EventKind) (spec : PoolSpec) → Does event (pool_added s spec)
+  pool_is_added event spec =
+      let with_row : State = add_pool_row (new_pool s.moment spec) s in
+      given_scale_leaves (Does event) with_row (λ rows. unchanged event (record with_row { scales = rows }) refl refl) spec.id spec.scale
+
   pool_deleted_lasts : (pool : PoolRow) → Lasts s (pool_deleted s pool)
   pool_deleted_lasts pool =
       let put : State = drop_scale pool.id (put_pool (deleted_pool pool) s) in
@@ -123,8 +134,8 @@ module _ (s : State) where
     -- each event at the tables' moment
     pub does_now : (event : EventKind) → Does event (event_now event s).state
     does_now (AddPool spec) =
-        by_answer (AddPool spec) (add_pool_refusals s spec) 201 (add_pool_row (new_pool s.moment spec) s)
-        (λ absent. unchanged (AddPool spec) (add_pool_row (new_pool s.moment spec) s) refl refl)
+        by_answer (AddPool spec) (add_pool_refusals s spec) 201 (pool_added s spec)
+        (λ absent. pool_is_added (AddPool spec) spec)
     does_now (DeletePool id) =
         by_row (DeletePool id) PoolNotFound (delete_pool s) (pool_of s id)
         (λ pool found. by_answer (DeletePool id) (delete_pool_refusals pool) 202 (pool_deleted s pool)
@@ -196,7 +207,24 @@ module _ (s : State) where
         by_row (End number ending) RunNotFound (end_run s ending) (run_of s number)
         (λ run found. by_answer (End number ending) (end_refusals run) 200 (run_ended s ending run)
         (λ absent. ended_does s number ending run found))
-    does_now other = stays other
+    does_now (EnableAutoscale id spec) =
+        by_row (EnableAutoscale id spec) PoolNotFound (enable_autoscale s spec) (pool_of s id)
+        (λ pool found. by_answer (EnableAutoscale id spec) (enable_autoscale_refusals s spec pool) 200 (autoscale_enabled s spec pool)
+        (λ absent. enabled_leaves (Does (EnableAutoscale id spec)) s
+        (λ pools rows. unchanged (EnableAutoscale id spec) (record s { pools = pools; scales = rows }) refl refl) spec pool))
+    does_now (DisableAutoscale id) =
+        by_row (DisableAutoscale id) PoolNotFound (disable_autoscale s) (pool_of s id)
+        (λ pool found. by_answer (DisableAutoscale id) (scaling_refusals s pool) 200 (drop_scale pool.id s)
+        (λ absent. unchanged (DisableAutoscale id) (drop_scale pool.id s) refl refl))
+    does_now (EvaluateAutoscale id text) =
+        by_row (EvaluateAutoscale id text) PoolNotFound (evaluate_autoscale s text) (pool_of s id)
+        (λ pool found. by_given (EvaluateAutoscale id text) (formula_shown s text pool) (evaluate_refusals s text pool)
+        (λ absent. stays (EvaluateAutoscale id text)))
+    does_now (Sample id percentage) =
+        by_row (Sample id percentage) PoolNotFound (sample_pool s percentage) (pool_of s id)
+        (λ pool found. by_answer (Sample id percentage) (sample_refusals s pool) 200 (add_sample (new_sample s pool.id CpuPercent percentage) s)
+        (λ absent. unchanged (Sample id percentage) (add_sample (new_sample s pool.id CpuPercent percentage) s) refl refl))
+    does_now Tick = stays Tick
 
 -- numbers of runs are made once, and runs end once, through each event
 pub event_keeps_runs : (seats moment : ℕ) (event : EventKind) (s : State) → IsSound seats s → KeepsRuns s (event_step moment event s).state

@@ -12,6 +12,7 @@ pub mod ScalesDropped
 pub mod SampleLists
 pub mod SamplesAdded
 pub mod ScalesPut
+pub mod ScalingParts
 pub mod JobPut
 pub mod TasksStopped
 pub mod TaskMoved
