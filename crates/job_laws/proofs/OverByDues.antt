@@ -17,9 +17,11 @@ use Rattle.batch_model.specs.JobRules.{has_job_ended, job_removed, job_completed
 use Rattle.batch_model.specs.Jobs.{is_job_active, is_disabling, is_enabling, is_job_deleting, is_past, can_disable, job_in}
 use Rattle.batch_model.specs.Placing.{is_placeable, choice, placed, begin_preparation, prepare_with, place, place_task, place_in, place_of_job, places_tasks}
 use Rattle.batch_model.specs.Placing.{next_job, place_first}
+use Rattle.batch_model.specs.Metrics.{sampled_metrics}
 use Rattle.batch_model.specs.Pools.{staying, free_seat}
 use Rattle.batch_model.specs.Preps.{has_preparation}
 use Rattle.batch_model.specs.Rows.{is_node, node_of, pool_of, job_of, put_task, add_node_row}
+use Rattle.batch_model.specs.Scaling.{is_to_sample, pool_sampled, sample_first, is_scaling, scale_of, pool_scaled, scale_pool, scale_first}
 use Rattle.batch_model.specs.Settling.{is_over, task_failed, act, complete, settle_completed, settle_timed_out, settle_terminated, settle_again}
 use Rattle.batch_model.specs.Settling.{settle_deleted, settle_failed, settle_ending, settle_by, settle}
 use Rattle.batch_model.specs.Sound.{IsSound}
@@ -33,6 +35,7 @@ use Rattle.batch_model.specs.WallTimes.{wall_time_over, is_task_timed_out, task_
 use Rattle.batch_model.specs.WallTimes.{time_out_release_first, is_job_timed_out, job_timed_out, time_out_job_first}
 use Rattle.model_lists.proofs.RowLists.{find_test}
 use Rattle.model_lists.proofs.Tests.{and_first, not_true}
+use Rattle.model_tables.proofs.ScalingParts.{samples_leave}
 use Rattle.model_rules.proofs.Rules.{from_map, from_then, from_only_if, from_first, first_gives}
 use Rattle.job_laws.specs.OverJobs.{is_over_state}
 use Rattle.job_laws.proofs.OverRows.{own_job, own_found, Keeps, job_put, job_dropped}
@@ -106,6 +109,13 @@ module _ (id : List ℕ) where
     -- the step leaves the job over
     abbrev KeepsBy : DueStep → Type 0
     KeepsBy step = Keeps id s step.state
+
+    -- samples
+
+    sample_keeps : (step : DueStep) → sample_first s ≡ Some step → KeepsBy step
+    sample_keeps step e =
+        let made = from_map (pool_sampled s) (find (is_to_sample s) s.pools) step e in
+        subst KeepsBy {x = pool_sampled s made.0} made.1 (samples_leave (Keeps id s) s made.0 sampled_metrics s (λ samples h. h))
 
     -- wall times
 
@@ -257,6 +267,12 @@ module _ (id : List ℕ) where
         subst KeepsBy {x = resize_ended s made.0} made.1
         (resized_keeps made.0 (is_gone s made.0) (has_reached s made.0) (has_timed_out s made.0))
 
+    scale_keeps : (step : DueStep) → scale_first s ≡ Some step → KeepsBy step
+    scale_keeps step e =
+        let pool = from_then (scale_pool s) (find (is_scaling s) s.pools) step e in
+        let scale = from_map (pool_scaled s pool.0) (scale_of s pool.0.id) step pool.1 in
+        subst KeepsBy {x = pool_scaled s pool.0 scale.0} scale.1 (λ h. h)
+
     remove_keeps : (step : DueStep) → remove_node s ≡ Some step → KeepsBy step
     remove_keeps step e =
         let pool = from_then (one_leaves s) (find (has_too_many s) s.pools) step e in
@@ -265,7 +281,7 @@ module _ (id : List ℕ) where
         (same_jobs id s (node_leaves s pool.0 node.0).state (left_jobs pool.0.option (is_node node.0.number) s))
 
     pool_keeps : (step : DueStep) → pool_step s ≡ Some step → KeepsBy step
-    pool_keeps step e = first_gives KeepsBy (end_resize s ∷ remove_node s ∷ []) (resize_keeps, (remove_keeps, tt)) step e
+    pool_keeps step e = first_gives KeepsBy (end_resize s ∷ scale_first s ∷ remove_node s ∷ []) (resize_keeps, (scale_keeps, (remove_keeps, tt))) step e
 
     drop_keeps : (step : DueStep) → drop_first s ≡ Some step → KeepsBy step
     drop_keeps step e =
@@ -302,8 +318,8 @@ module _ (id : List ℕ) where
     over_by_due : (seats : ℕ) → AreDistinct same_job s.jobs → (step : DueStep) → due_step seats s ≡ Some step → KeepsBy step
     over_by_due seats keys step e =
         first_gives KeepsBy
-        (job_step s ∷ pool_step s ∷ node_step seats s ∷ place_first s ∷ [])
-        (job_keeps keys, (pool_keeps, (node_keeps seats, (place_keeps, tt)))) step e
+        (sample_first s ∷ job_step s ∷ pool_step s ∷ node_step seats s ∷ place_first s ∷ [])
+        (sample_keeps, (job_keeps keys, (pool_keeps, (node_keeps seats, (place_keeps, tt))))) step e
 
 -- on sound tables
 pub due_keeps_over : (id : List ℕ) (seats : ℕ) (s : State) (step : DueStep) → IsSound seats s → due_step seats s ≡ Some step → Keeps id s step.state

@@ -7,6 +7,7 @@ use Rattle.bt_rows.specs.declared.event.DisableTasks.TheVariants.{Requeue, Termi
 use Rattle.bt_rows.specs.declared.event.EventKind.{EventKind}
 use Rattle.bt_rows.specs.declared.event.EventKind.TheVariants.{AddPool, DeletePool, Resize, StopResize, AddJob, PatchJob, DisableJob, EnableJob}
 use Rattle.bt_rows.specs.declared.event.EventKind.TheVariants.{TerminateJob, DeleteJob, AddTask, AddTasks, DeleteTask, TerminateTask, ReactivateTask, Take, End}
+use Rattle.bt_rows.specs.declared.event.EventKind.TheVariants.{EnableAutoscale, DisableAutoscale, EvaluateAutoscale, Sample, Tick}
 use Rattle.bt_rows.specs.declared.event.JobPatch.{JobPatch}
 use Rattle.bt_rows.specs.declared.event.JobSpec.{JobSpec}
 use Rattle.bt_rows.specs.declared.event.Limits.{Limits}
@@ -14,7 +15,7 @@ use Rattle.bt_rows.specs.declared.event.TaskSpec.{TaskSpec}
 use Rattle.bt_rows.specs.declared.refusal.Refusal.{Refusal}
 use Rattle.bt_rows.specs.declared.refusal.Refusal.TheVariants.{PoolNotFound, JobNotFound, TaskNotFound, JobStateRefuses, RunNotFound}
 use Rattle.batch_model.specs.Endings.{is_success}
-use Rattle.batch_model.specs.Events.{refuse, accept, answer, event_step, event_now, at_moment, accept_all, add_pool_refusals, add_job, add_job_in}
+use Rattle.batch_model.specs.Events.{refuse, accept, answer, event_step, event_now, at_moment, accept_all, add_pool_refusals, pool_added, add_job, add_job_in}
 use Rattle.batch_model.specs.Events.{add_job_refusals, patch_job, limited, patch_refusals, patched, disable_job, enable_job, terminate_job, user_terminate}
 use Rattle.batch_model.specs.Events.{delete_job, delete_refusals, add_task, task_refusals, task_added, after_element, add_each, add_tasks, add_tasks_refusals}
 use Rattle.batch_model.specs.Events.{for_row, delete_found, delete_task_refusals, delete_task, terminate_task_refusals, terminate_found, terminate_task, reactivated}
@@ -29,13 +30,17 @@ use Rattle.batch_model.specs.Pools.{new_pool}
 use Rattle.batch_model.specs.Preparing.{preparation_done, give_up, preparation_failed, preparation_of, preparation_ended_at, prep_of_run, released}
 use Rattle.batch_model.specs.Preps.{change_prep, failed_preparation}
 use Rattle.batch_model.specs.Rows.{is_run, job_of, task_of, pool_of, node_of, run_of, put_pool, put_job, put_task, change_runs, add_pool_row, add_job_row}
+use Rattle.batch_model.specs.Samples.{new_sample, add_sample}
+use Rattle.batch_model.specs.Scaling.{autoscale_enabled, enable_autoscale_refusals, enable_autoscale, scaling_refusals, disable_autoscale}
+use Rattle.batch_model.specs.Scaling.{formula_shown, evaluate_refusals, evaluate_autoscale, sample_refusals, sample_pool}
 use Rattle.batch_model.specs.Starts.{is_tried_again, start_failed, start_of, start_ended_at, start_ended_in}
 use Rattle.batch_model.specs.Steps.{Answered, refuse_if}
 use Rattle.batch_model.specs.Stops.{disable, close, terminate, job_for}
 use Rattle.batch_model.specs.Tasks.{is_placed}
-use Rattle.batch_model.specs.Variants.{State, Dealloc, ByRequeue, ByTerminate, TaskCompletion, RetainedData, NodeRow, NodeStage, Starting, Usable, StartFailed}
+use Rattle.batch_model.specs.Variants.{State, CpuPercent, Dealloc, ByRequeue, ByTerminate, TaskCompletion, RetainedData, NodeRow, NodeStage, Starting, Usable, StartFailed}
 use Rattle.batch_model.specs.Variants.{Leaving, JobRow, JobState, JobActive, Disabling, Disabled, Enabling, Terminating, JobCompleted, Deleting, StartTask}
 use Rattle.batch_model.specs.Variants.{TaskRow, RunRow, RunKind, StartRun, PrepRun, TaskRun, CoordinationRun, ReleaseRun, PrepRow, Ending}
+use Rattle.model_tables.proofs.ScalingParts.{given_scale_leaves, enabled_leaves}
 use Rattle.job_laws.specs.OverJobs.{is_over_state, is_job_over, adds_job}
 use Rattle.job_laws.proofs.OverRows.{own_job, Keeps, job_added, job_put}
 
@@ -232,7 +237,9 @@ module _ (id : List ℕ) where
   module _ (s : State) where
     -- each event at the tables' moment
     keeps_now : (event : EventKind) → adds_job event id ≡ false → Keeps id s (event_now event s).state
-    keeps_now (AddPool spec) other = by_answer s (add_pool_refusals s spec) 201 (add_pool_row (new_pool s.moment spec) s) (λ h. h)
+    keeps_now (AddPool spec) other =
+        by_answer s (add_pool_refusals s spec) 201 (pool_added s spec)
+        (given_scale_leaves (Keeps id s) (add_pool_row (new_pool s.moment spec) s) (λ rows h. h) spec.id spec.scale)
     keeps_now (DeletePool pool) other =
         by_row s PoolNotFound (delete_pool s) (pool_of s pool)
         (λ row found. by_answer s (delete_pool_refusals row) 202 (pool_deleted s row)
@@ -291,7 +298,20 @@ module _ (id : List ℕ) where
         by_row s RunNotFound (end_run s ending) (run_of s number)
         (λ run found. by_answer s (end_refusals run) 200 (run_ended s ending run)
         (same_jobs s (run_ended s ending run) (ended_jobs run.kind run ending (change_runs (is_run run.number) (ended_run s.moment ending) s))))
-    keeps_now event other = λ h. h
+    keeps_now (EnableAutoscale pool spec) other =
+        by_row s PoolNotFound (enable_autoscale s spec) (pool_of s pool)
+        (λ row found. by_answer s (enable_autoscale_refusals s spec row) 200 (autoscale_enabled s spec row)
+        (enabled_leaves (Keeps id s) s (λ pools rows h. h) spec row))
+    keeps_now (DisableAutoscale pool) other =
+        by_row s PoolNotFound (disable_autoscale s) (pool_of s pool)
+        (λ row found. by_answer s (scaling_refusals s row) 200 (drop_scale row.id s) (λ h. h))
+    keeps_now (EvaluateAutoscale pool text) other =
+        by_row s PoolNotFound (evaluate_autoscale s text) (pool_of s pool)
+        (λ row found. by_given s (formula_shown s text row) (evaluate_refusals s text row) (λ h. h))
+    keeps_now (Sample pool percentage) other =
+        by_row s PoolNotFound (sample_pool s percentage) (pool_of s pool)
+        (λ row found. by_answer s (sample_refusals s row) 200 (add_sample (new_sample s row.id CpuPercent percentage) s) (λ h. h))
+    keeps_now Tick other = λ h. h
 
   pub over_by_event : (moment : ℕ) (event : EventKind) (s : State) → adds_job event id ≡ false → Keeps id s (event_step moment event s).state
   over_by_event moment event s other = keeps_now (at_moment moment s) event other
