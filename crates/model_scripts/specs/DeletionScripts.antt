@@ -7,7 +7,7 @@ use Rattle.bt_rows.specs.declared.due.Outcome.TheVariants.{Again}
 use Rattle.bt_rows.specs.declared.due.ResizeEnd.TheVariants.{Removed, Reached}
 use Rattle.bt_rows.specs.declared.due.Due.TheVariants.{TaskSettled, PoolResized, NodeLeaves, NodeDropped, NodeAdded}
 use Rattle.batch_model.specs.Variants.{State, empty_state, Steady, Resizing, Dealloc, ByRequeue, TaskCompletion, PoolRow, Usable, Leaving, JobActive, Active, Placed, WantRequeue}
-use Rattle.batch_model.specs.Variants.{Code, TaskRun, Queued, Taken, Ended, Withdrawn, RunRow, CpuPercent, SampleRow, ScaleRow}
+use Rattle.batch_model.specs.Variants.{Code, TaskRun, Queued, Taken, Ended, Withdrawn, RunRow, ActiveTasks, SampleRow, ScaleRow}
 use Rattle.model_scripts.specs.Scripts.{Call, at, Line, line, Sheet, seat_count, state_after, run}
 use Rattle.model_scripts.specs.Bodies.{pool_body, resize_body, job_body, task_body}
 use Rattle.model_scripts.specs.StartScripts.{start_pool, one_node_line, added_line, done_line}
@@ -177,9 +177,9 @@ added_again_rows = record {
 
 -- what goes with a pool
 
--- a sample of the pool
+-- a sample of the pool, after which no more are taken in the first half minute
 abbrev pub sample_of : List ℕ → SampleRow
-sample_of in_pool = record { pool = in_pool; metric = CpuPercent; label = 0; value = pos 0 }
+sample_of in_pool = record { pool = in_pool; metric = ActiveTasks; label = 0; value = pos 0 }
 
 -- a formula and a sample of each of two pools
 abbrev pub with_rows : State

@@ -241,9 +241,9 @@ other_pool_rows = record {
 abbrev pub empty_pool : State
 empty_pool = state_after (at 0 (AddPool (pool_body (codes "p") 0)) ∷ [])
 
--- the formula of a pool
+-- the formula of a pool, which is not evaluated in the first 15 minutes
 abbrev pub scale_of : List ℕ → ScaleRow
-scale_of in_pool = record { pool = in_pool; formula = codes "1"; interval = 900000; next = 0; last = None }
+scale_of in_pool = record { pool = in_pool; formula = codes "1"; interval = 900000; next = 900000; last = None }
 
 -- the pool scales automatically
 abbrev pub with_scale : State → State

@@ -1,5 +1,5 @@
 -- Pools that scale automatically: when samples are taken and formulas are evaluated, what these do, and what is refused.
-use Rattle.std.specs.Prelude.{ℕ, List, [], ◌∷◌, ◌++◌, map, codes, Option, Some, None, ℤ, pos, true, false}
+use Rattle.std.specs.Prelude.{ℕ, List, [], ◌∷◌, ◌++◌, map, codes, Option, Some, None, ℤ, pos, false}
 use Rattle.std.specs.Fmt.{decimal}
 use Rattle.bt_base.specs.declared.formula_fault.FormulaFault.TheVariants.{UnexpectedToken}
 use Rattle.bt_rows.specs.declared.event.PoolSpec.{PoolSpec}
