@@ -4,6 +4,7 @@ use Rattle.std.specs.Cmp.{IsEquivalence, on_equiv, nat_eq_equiv}
 use Rattle.bt_base.specs.Ids.{same}
 use Rattle.bt_base.proofs.SameIds.{same_equiv}
 use Rattle.bt_base.proofs.Pairs.{both_equiv}
+use Rattle.bt_base.specs.declared.pool_metric.Metric.{Metric}
 use Rattle.bt_rows.specs.Metrics.{same_metric, metric_equiv}
 use Rattle.bt_rows.specs.declared.pool.PoolRow.{PoolRow}
 use Rattle.bt_rows.specs.declared.node.NodeRow.{NodeRow}
@@ -97,9 +98,13 @@ same_prep prep other = same prep.job other.job && nat_eq prep.node other.node
 pub same_prep_equiv : IsEquivalence same_prep
 same_prep_equiv = both_equiv (on_equiv (λ (prep : PrepRow). prep.job) same_equiv) (on_equiv (λ (prep : PrepRow). prep.node) nat_eq_equiv)
 
+-- the sample is one of the metric of the pool, but for case, and has the label
+abbrev pub sample_has_label : List ℕ → Metric → ℕ → SampleRow → Bool
+sample_has_label pool metric label sample = same sample.pool pool && nat_eq sample.label label && same_metric sample.metric metric
+
 -- the sample has the pool, label and metric of the key
 abbrev pub sample_has_key : SampleKey → SampleRow → Bool
-sample_has_key key sample = same sample.pool key.pool && nat_eq sample.label key.label && same_metric sample.metric key.metric
+sample_has_key key sample = sample_has_label key.pool key.metric key.label sample
 
 -- both samples have the same pool, label and metric
 abbrev pub same_sample : SampleRow → SampleRow → Bool

@@ -2,13 +2,14 @@
 ghost use Rattle.std.specs.Prelude.{◌≡◌};
 ghost use Rattle.std.specs.List.{find};
 ghost use Rattle.std.specs.Option.{option_copied};
-ghost use Rattle.bt_rows.specs.Keys.{pool_has_id, node_has_number, job_has_id, task_has_ids, run_has_number, prep_has_ids, scale_has_pool};
+ghost use Rattle.bt_rows.specs.Keys.{pool_has_id, node_has_number, job_has_id, task_has_ids, run_has_number, prep_has_ids, sample_has_label, scale_has_pool};
 
 use crate::job::JobRow;
 use crate::node::NodeRow;
 use crate::pool::PoolRow;
 use crate::prep::PrepRow;
 use crate::run::RunRow;
+use crate::sample::{Metric, SampleRow, label_text};
 use crate::scale::ScaleRow;
 use crate::tables::Tables;
 use crate::task::TaskRow;
@@ -60,6 +61,15 @@ impl Tables {
     {
         self.preps
             .find_shared_by_text(&KeyText::of_number_and_id(node, job))
+    }
+
+    /// The sample of this metric of the pool with this id, but for case, that has the label, in milliseconds since 1970.
+    #[tactic(auto, using(crate::proofs::FoundByText::sample_by_label))]
+    pub fn find_sample(&self, pool: &Id, metric: Metric, label: u64) -> Option<&SampleRow>
+        ensures { option_copied result ≡ find (sample_has_label pool.now metric label) self.now.state.samples }
+    {
+        self.samples
+            .find_shared_by_text(&label_text(pool, metric, label))
     }
 
     /// The scaling of the pool with this id, but for case.

@@ -96,8 +96,8 @@ impl Keyed for SampleRow {
     }
 }
 
-/// The number by which a metric stands in texts of keys.
-fn metric_number(metric: Metric) -> u8
+/// The number by which a metric stands in texts of keys, 0 to 9.
+pub fn metric_number(metric: Metric) -> u8
     ensures { result ≡ place_of_metric metric }
 {
     match metric {
@@ -116,7 +116,7 @@ fn metric_number(metric: Metric) -> u8
 
 /// The text of the key of the pool's sample of this metric and label.
 #[tactic(auto, using(kept_table::proofs::KeyTexts::number_text_length))]
-fn label_text(pool: &Id, metric: Metric, label: u64) -> KeyText
+pub(crate) fn label_text(pool: &Id, metric: Metric, label: u64) -> KeyText
     ensures { result ≡ label_text metric label pool.now }
 {
     let mut text = KeyText::new();

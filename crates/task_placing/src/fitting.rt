@@ -9,7 +9,6 @@ ghost use Rattle.slot_ledger.specs.Ledgers.{chosen};
 ghost use Rattle.task_placing.specs.Entries.{ledger_for};
 ghost use Rattle.task_placing.specs.Fitting.{IsPoolRow, fits_by, is_ready_within, open_pool};
 
-use crate::readiness::is_unblocked;
 use bt_base::Id;
 use bt_rows::job::JobRow;
 use bt_rows::node::NodeRow;
@@ -19,6 +18,7 @@ use bt_rows::task::TaskRow;
 use machine_index::IndexedTables;
 use slot_ledger::Ledger;
 use table_scans::is_active;
+use task_readiness::is_unblocked;
 
 /// Whether a node of the pool has `need` slots free.
 fn has_room(ledger: &Ledger, pool: &PoolRow, need: u8) -> bool

@@ -1,13 +1,14 @@
-//! Whether all that a task depends on is satisfied.
+//! Whether all that a task depends on is satisfied, and whether it is ready.
 ghost use Rattle.std.specs.Prelude.{◌≡◌};
 ghost use Rattle.std.specs.List.{list_all};
-ghost use Rattle.batch_model.specs.Readiness.{is_id_satisfied, is_span_satisfied, is_unblocked};
+ghost use Rattle.batch_model.specs.Readiness.{is_id_satisfied, is_ready, is_span_satisfied, is_unblocked};
 ghost use Rattle.batch_model.specs.WellFormed.{KeysAreDistinct};
 
 use bt_base::Id;
 use bt_rows::tables::Tables;
 use bt_rows::task::TaskRow;
 use machine_index::IndexedTables;
+use table_scans::is_active;
 use task_index::satisfies_others;
 
 /// Whether the task of the job with this id satisfies those that name it.
@@ -64,4 +65,12 @@ pub fn is_unblocked(indexed: &IndexedTables, task: &TaskRow) -> bool
     ensures { result ≡ is_unblocked indexed.now.state task.now }
 {
     has_ids(indexed.tables(), task) && has_spans(indexed, task)
+}
+
+/// Whether the task is active, and each id and each number that it depends on is satisfied. It does not allocate.
+pub fn is_ready(indexed: &IndexedTables, task: &TaskRow) -> bool
+    requires { KeysAreDistinct indexed.now.state }
+    ensures { result ≡ is_ready indexed.now.state task.now }
+{
+    is_active(task.stage) && is_unblocked(indexed, task)
 }

@@ -1,7 +1,7 @@
 use Rattle.std.proofs.Common.{◌≡◌, ◌<◌, true, false, sym, ◌∙◌, rules, arith}
 use Rattle.batch_model.specs.Readiness.{is_number_satisfied}
-use Rattle.task_placing.proofs.Satisfied.{last_passes, last_fails}
-use Rattle.task_placing.proofs.readiness.is_span_satisfied.Goals as goal
+use Rattle.task_readiness.proofs.Satisfied.{last_passes, last_fails}
+use Rattle.task_readiness.proofs.readiness.is_span_satisfied.Goals as goal
 
 pub returns-then-not-is_number_satisfied : goal.returns-then-not-is_number_satisfied
 returns-then-not-is_number_satisfied c =

@@ -1,6 +1,6 @@
 use Rattle.std.proofs.Common.{Some, None, ◌∙◌}
-use Rattle.task_placing.proofs.Satisfied.{id_satisfied}
-use Rattle.task_placing.proofs.readiness.is_id_satisfied.Goals as goal
+use Rattle.task_readiness.proofs.Satisfied.{id_satisfied}
+use Rattle.task_readiness.proofs.readiness.is_id_satisfied.Goals as goal
 
 pub returns-in-None : goal.returns-in-None
 returns-in-None c = id_satisfied c.args.tables.now.state c.args.job.now c.args.id.now None c.requires.tasks c.in-None.ensures

@@ -34,7 +34,7 @@ module _ {R : Type 0} (same_key : R → R → Bool) (has_key test : R → Bool)
   by_key x xs false here apart ih = ih
 
   -- if keys are distinct, a row with the key passes exactly if the first one does
-  any_with_key : (xs : List R) → AreDistinct same_key xs → list_any (λ y. has_key y && test y) xs ≡ option_map_or test (find has_key xs) false
+  pub any_with_key : (xs : List R) → AreDistinct same_key xs → list_any (λ y. has_key y && test y) xs ≡ option_map_or test (find has_key xs) false
   any_with_key [] d = refl
   any_with_key (x ∷ xs) d = by_key x xs (has_key x) refl d.0 (any_with_key xs d.1)
 

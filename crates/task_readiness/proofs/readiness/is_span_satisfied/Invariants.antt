@@ -1,7 +1,7 @@
 use Rattle.std.proofs.Common.{◌≡◌, ◌-◌}
 use Rattle.std.specs.List.{list_all, range_with_len}
 use Rattle.batch_model.specs.Readiness.{is_number_satisfied, is_span_satisfied}
-use Rattle.task_placing.proofs.readiness.is_span_satisfied.Given as goal
+use Rattle.task_readiness.proofs.readiness.is_span_satisfied.Given as goal
 
 -- the range is satisfied if the numbers before this one are
 abbrev pub invariant-loop-number : goal.invariant-loop-number
