@@ -59,7 +59,7 @@ module _ (sample : SampleRow) (s : State) where
   after = add_sample sample s
 
   -- the samples that are kept
-  abbrev room : List SampleRow
+  abbrev pub room : List SampleRow
   room = with_room sample.pool sample.metric s.samples
 
   -- what holds of the samples with the oldest of the series and without it
@@ -79,7 +79,7 @@ module _ (sample : SampleRow) (s : State) where
   distinct_in_room r d = in_room (AreDistinct r) d (distinct_without (is_sample_of sample.pool sample.metric) r s.samples d)
 
   -- and what the added one passes as well
-  each_added : (p : SampleRow → Bool) → Each p s.samples → p sample ≡ true → Each p after.samples
+  pub each_added : (p : SampleRow → Bool) → Each p s.samples → p sample ≡ true → Each p after.samples
   each_added p h k = each_append p room sample (each_in_room p h) k
 
   -- where the sample is of the series, it stands last in it
@@ -167,10 +167,10 @@ module _ (sample : SampleRow) (s : State) where
   -- sound tables
 
   -- a sample of the series of the added one is older
-  abbrev is_older : SampleRow → Bool
+  abbrev pub is_older : SampleRow → Bool
   is_older one = not (is_sample_of sample.pool sample.metric one) || nat_lt one.label sample.label
 
-  others_older : AreDistinct are_labels_out_of_order s.samples → is_newer s sample ≡ true → Each is_older s.samples
+  pub others_older : AreDistinct are_labels_out_of_order s.samples → is_newer s sample ≡ true → Each is_older s.samples
   others_older order newer =
       each_passing (is_sample_of sample.pool sample.metric) (λ one. nat_lt one.label sample.label) s.samples
       (labels_below are_labels_out_of_order (is_sample_of sample.pool sample.metric) sample.label rise
@@ -187,11 +187,10 @@ module _ (sample : SampleRow) (s : State) where
           above (same_series one later) one.label later.label (same_test sample.pool sample.metric later k one ∙ h)
 
   -- no sample has the key of the added one
-  keys_distinct : AreDistinct same_sample s.samples → Each is_older s.samples → AreDistinct same_sample after.samples
-  keys_distinct keys older =
-      distinct_append same_sample room sample (distinct_in_room same_sample keys)
-      (none_any (λ one. same_sample one sample) room
-      (each_weaker is_older (λ one. not (same_sample one sample)) other_key room (each_in_room is_older older)))
+  pub no_same_key : Each is_older s.samples → list_any (λ one. same_sample one sample) room ≡ false
+  no_same_key older =
+      none_any (λ one. same_sample one sample) room
+      (each_weaker is_older (λ one. not (same_sample one sample)) other_key room (each_in_room is_older older))
     where
       apart_by_label : (pool metric : Bool) (label newer : ℕ) → (not (pool && metric) || nat_lt label newer) ≡ true
           → not (pool && nat_eq label newer && metric) ≡ true
@@ -201,6 +200,9 @@ module _ (sample : SampleRow) (s : State) where
 
       other_key : (one : SampleRow) → is_older one ≡ true → not (same_sample one sample) ≡ true
       other_key one = apart_by_label (same one.pool sample.pool) (same_metric one.metric sample.metric) one.label sample.label
+
+  keys_distinct : AreDistinct same_sample s.samples → Each is_older s.samples → AreDistinct same_sample after.samples
+  keys_distinct keys older = distinct_append same_sample room sample (distinct_in_room same_sample keys) (no_same_key older)
 
   -- labels rise
   labels_rise : AreDistinct are_labels_out_of_order s.samples → Each is_older s.samples → AreDistinct are_labels_out_of_order after.samples

@@ -1,0 +1,10 @@
+mod CountedTasks
+mod FewNodes
+mod JobsOfPool
+mod KeptLabels
+mod Lacking
+mod SampledPool
+mod SampleAnswers
+mod SamplePuts
+pub mod SoundSamples
+pub mod MetricValues

@@ -1,0 +1,4 @@
+pub mod Changes
+pub mod Conditions
+pub mod Counts
+pub mod Kept
