@@ -29,8 +29,7 @@ fn answer_event(alloc: Global, view: &View, event: &Event) -> Result<Plan, Fail<
         | EventKind::StopResize(_)
         | EventKind::EnableAutoscale(_, _)
         | EventKind::DisableAutoscale(_)
-        | EventKind::EvaluateAutoscale(_, _)
-        | EventKind::Sample(_, _) => pool_resize::plan_event(alloc, view, event),
+        | EventKind::EvaluateAutoscale(_, _) => pool_resize::plan_event(alloc, view, event),
         EventKind::AddJob(_, _)
         | EventKind::PatchJob(_, _)
         | EventKind::DisableJob(_, _)
@@ -45,9 +44,8 @@ fn answer_event(alloc: Global, view: &View, event: &Event) -> Result<Plan, Fail<
         EventKind::End(number, _) if !is_start_number(view.tables, *number) => {
             job_machine::plan_event(alloc, view, event)
         }
-        EventKind::Take(_) | EventKind::End(_, _) | EventKind::Tick => {
-            node_machine::plan_event(alloc, view, event)
-        }
+        EventKind::Take(_) | EventKind::End(_, _) | EventKind::Sample(_, _) | EventKind::Tick =>
+            node_machine::plan_event(alloc, view, event),
     }
 }
 

@@ -19,6 +19,7 @@ use bt_rows::refusal::Refusal;
 use bt_rows::tables::Tables;
 use machine_index::IndexedTables;
 use machine_plans::accept_none;
+use pool_samples::sample_pool;
 use std::alloc::Global;
 
 /// The answer to `tick`: the moment moves, and nothing else changes.
@@ -29,11 +30,12 @@ fn tick(alloc: Global, tables: &Tables, now: u64) -> Result<Plan, Fail<Refusal>>
     Ok(accept_none(alloc, tables, now, 200)?)
 }
 
-/// The answer to an event of nodes at the view's moment: `take`, `end` of a start run, and `tick`. Refusals come in the order in
-/// which they are listed here:
+/// The answer to an event of nodes at the view's moment: `take`, `end` of a start run, `sample`, and `tick`. Refusals come in the order
+/// in which they are listed here:
 ///
 /// - `take`: `RunNotFound`, `RunAlreadyEnded`, `RunWithdrawn`, `RunAlreadyTaken`, `RunWaiting`;
 /// - `end` of a run that is there: `RunAlreadyEnded`, `RunWithdrawn`, `RunNotTaken`;
+/// - `sample`: `PoolNotFound`, and `SampleTooOld` if the newest sample of the processors has the label of the moment or a later one;
 /// - `tick` is never refused, and changes the last moment alone.
 ///
 /// The only other error is out of memory.
@@ -46,6 +48,9 @@ pub fn plan_event(alloc: Global, view: &View, event: &Event) -> Result<Plan, Fai
     match event.kind() {
         EventKind::Take(number) => take_run(alloc, view.tables, view.now, *number),
         EventKind::End(number, ending) => end_start(alloc, view, *number, *ending),
+        EventKind::Sample(pool, percentage) => {
+            sample_pool(alloc, view.tables, view.now, pool, *percentage)
+        }
         EventKind::Tick => tick(alloc, view.tables, view.now),
         _ => unreachable!(),
     }

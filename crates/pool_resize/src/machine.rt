@@ -39,8 +39,7 @@ pub fn plan_event(alloc: Global, view: &View, event: &Event) -> Result<Plan, Fai
         EventKind::StopResize(id) => stop_resize(alloc, view.tables, view.now, id),
         EventKind::EnableAutoscale(_, _)
         | EventKind::DisableAutoscale(_)
-        | EventKind::EvaluateAutoscale(_, _)
-        | EventKind::Sample(_, _) => Err(Fail::Why(Refusal::UnreadableBody)),
+        | EventKind::EvaluateAutoscale(_, _) => Err(Fail::Why(Refusal::UnreadableBody)),
         _ => unreachable!(),
     }
 }
