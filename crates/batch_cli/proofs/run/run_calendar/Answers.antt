@@ -17,7 +17,8 @@ returns-in-Err-Failed-clause-ran g c =
 
 pub returns-in-Err-TooLong-clause-ran : goal.returns-in-Err-TooLong-clause-ran
 returns-in-Err-TooLong-clause-ran g c =
-    input_so (c.in-Err-TooLong.ensures.long (search rules)) (λ script over. over, nothing_done c.args.desk (g.W.Sink.taken c.args.sink.now))
+    input_so (c.in-Err-TooLong.ensures.long (search rules))
+    (λ script over. (over, nothing_done c.args.desk (g.W.Sink.taken c.args.sink.now)))
 
 pub returns-in-Err-Memory-default-clause-ran : goal.returns-in-Err-Memory-default-clause-ran
 returns-in-Err-Memory-default-clause-ran g c =
