@@ -15,8 +15,8 @@ use bt_base::{NoMemory, Shared, Text};
 use bt_rows::job::JobRow;
 use bt_rows::tables::{Change, Tables};
 use bt_rows::task::{Closed, JobAction, TaskRow};
-use job_rules::is_past;
 use std::alloc::Global;
+use table_scans::is_past;
 use task_requests::completed;
 use task_stops::{disable_after_put, terminate_after_put};
 

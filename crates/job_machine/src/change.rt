@@ -16,9 +16,9 @@ use bt_rows::job::{JobRow, JobState};
 use bt_rows::plan::Plan;
 use bt_rows::refusal::Refusal;
 use bt_rows::tables::{Change, Tables};
-use job_rules::is_past;
 use machine_plans::{accept_listed, accept_one};
 use std::alloc::Global;
+use table_scans::is_past;
 use task_stops::{close, disable, job_in};
 
 /// The job with the values that the change gives in place of the old ones.

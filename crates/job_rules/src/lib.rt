@@ -12,6 +12,4 @@ mod wall;
 pub use release::release_first;
 pub use removal::end_first;
 pub use rule::{disable_first, enable_first, terminate_first};
-pub use wall::{
-    is_past, is_undisturbed, time_out_job_first, time_out_release_first, time_out_task_first,
-};
+pub use wall::{is_undisturbed, time_out_job_first, time_out_release_first, time_out_task_first};

@@ -5,7 +5,6 @@ ghost use Rattle.std.specs.Prelude.{◌≡◌, Some, IfOk, find};
 ghost use Rattle.std.specs.Option.{option_copied};
 ghost use Rattle.bt_rows.specs.declared.due.Due.TheVariants.{TaskTimedOut};
 ghost use Rattle.batch_model.specs.Finding.{Each};
-ghost use Rattle.batch_model.specs.Jobs.{is_past};
 ghost use Rattle.batch_model.specs.Rows.{job_of, run_of};
 ghost use Rattle.batch_model.specs.Runs.{asked_to_stop};
 ghost use Rattle.batch_model.specs.Sound.{names_no_task};
@@ -26,18 +25,8 @@ use bt_rows::task::{TaskRow, Want};
 use machine_index::IndexedTables;
 use machine_plans::step_one;
 use std::alloc::Global;
-use table_scans::{has_passed, is_placed};
+use table_scans::{has_passed, is_past, is_placed};
 use task_stops::{close, stop_task};
-
-/// Whether the job is terminating, completed or deleting.
-pub fn is_past(state: JobState) -> bool
-    ensures { result ≡ is_past state }
-{
-    matches!(
-        state,
-        JobState::Terminating | JobState::Completed | JobState::Deleting
-    )
-}
 
 /// Whether no end of the task is wanted, and no ending counts in place of its main command's.
 pub fn is_undisturbed(task: &TaskRow) -> bool

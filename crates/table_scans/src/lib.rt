@@ -1,8 +1,9 @@
-//! Scans of the tables that planners and writers share: runs, attempts of tasks, nodes of pools, preparations, and the slots that are held.
-//! What each answers is defined in `batch_model`.
+//! Scans of the tables that planners and writers share: runs, attempts of tasks, states of jobs, nodes of pools, preparations, and the
+//! slots that are held. What each answers is defined in `batch_model`.
 #![tactic(auto)]
 
 mod attempts;
+mod jobs;
 mod nodes;
 mod preparations;
 mod runs;
@@ -11,6 +12,7 @@ mod states;
 mod times;
 
 pub use attempts::{ending_of, is_active, is_placed, is_success, is_unended, main_ending};
+pub use jobs::is_past;
 pub use nodes::{
     has_leaving, has_number_left, is_in_pool, is_resizing, is_usable, staying_count, stays,
 };

@@ -17,9 +17,9 @@ use bt_rows::refusal::Refusal;
 use bt_rows::reply::{Element, Reply};
 use bt_rows::tables::{Change, Tables};
 use bt_rows::task::TaskRow;
-use job_rules::is_past;
 use machine_plans::reply_listed;
 use std::alloc::Global;
+use table_scans::is_past;
 
 /// The answers to the elements so far, and the tasks that are added by them.
 #[derive(Drop)]

@@ -21,9 +21,9 @@ use bt_rows::plan::Plan;
 use bt_rows::refusal::{Refusal, Table};
 use bt_rows::tables::{Change, Tables};
 use bt_rows::task::{Given, TaskRow, TaskStage};
-use job_rules::is_past;
 use machine_plans::accept_one;
 use std::alloc::Global;
+use table_scans::is_past;
 
 /// Whether the job has a task with this id in the tables, whatever its case.
 fn has_row(tables: &Tables, job: &Id, id: &Id) -> bool

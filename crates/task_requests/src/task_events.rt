@@ -19,10 +19,9 @@ use bt_rows::plan::Plan;
 use bt_rows::refusal::Refusal;
 use bt_rows::tables::{Change, Tables};
 use bt_rows::task::{Closed, TaskRow, TaskStage, Want};
-use job_rules::is_past;
 use machine_plans::{accept_listed, accept_one};
 use std::alloc::Global;
-use table_scans::is_placed;
+use table_scans::{is_past, is_placed};
 use task_stops::stop_task_at;
 
 /// The plan that stops the task, if it is placed, with this end wanted of it.
