@@ -6,11 +6,11 @@ use Rattle.byte_streams.specs.Content.{Gains, GainsFront}
 use Rattle.byte_streams.proofs.Gaining.{gains_nothing}
 use Rattle.bt_rows.specs.declared.event.EventKind.{EventKind}
 use Rattle.bt_rows.specs.declared.refusal.Refusal.{Refusal}
-use Rattle.batch_wire.specs.LineRequest.{LineRequest}
-use Rattle.batch_wire.specs.LineRequest.TheVariants.{Skip, Call, Look}
-use Rattle.batch_wire.specs.Read.{Read}
-use Rattle.batch_wire.specs.TextLines.{numbered}
-use Rattle.batch_wire.specs.Refusals.{refusal_text}
+use Rattle.wire_lines.specs.declared.line.LineRequest.{LineRequest}
+use Rattle.wire_lines.specs.declared.line.LineRequest.TheVariants.{Skip, Call, Look}
+use Rattle.table_reads.specs.declared.request.Read.{Read}
+use Rattle.wire_texts.specs.Lines.{numbered}
+use Rattle.wire_texts.specs.Refusals.{refusal_text}
 use Rattle.batch_desk.specs.declared.entry.Entry.{Entry}
 use Rattle.batch_desk.specs.declared.answer.Answer.{Answer}
 use Rattle.batch_desk.specs.declared.answer.Answer.TheVariants.{Done, KeeperFault, JournalFull, Memory}

@@ -9,8 +9,8 @@ use Rattle.bt_rows.specs.declared.event.EventKind.{EventKind}
 use Rattle.bt_rows.specs.declared.refusal.Refusal.{Refusal}
 use Rattle.bt_rows.specs.declared.reply.Reply.TheVariants as replies
 use Rattle.batch_model.specs.Variants.{State}
-use Rattle.batch_wire.specs.TextLines.{numbered}
-use Rattle.batch_wire.specs.Replies.{reply_text}
+use Rattle.wire_texts.specs.Lines.{numbered}
+use Rattle.wire_texts.specs.Replies.{reply_text}
 use Rattle.batch_desk.specs.Exchanges.{Exchange, Called, Looked, Leads}
 use Rattle.batch_desk.specs.Desks.{IsExchange, IsCall, call_entries, entries_of}
 use Rattle.batch_desk.specs.declared.answer.Answer.{Answer}

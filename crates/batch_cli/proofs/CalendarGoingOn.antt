@@ -9,9 +9,9 @@ use Rattle.byte_streams.proofs.Gaining.{gains_nothing, gains_more}
 use Rattle.bt_rows.specs.declared.event.EventKind.{EventKind}
 use Rattle.bt_rows.specs.declared.refusal.Refusal.{Refusal}
 use Rattle.batch_model.specs.Variants.{State}
-use Rattle.batch_wire.specs.Tables.{tables_text}
-use Rattle.batch_wire.specs.TextLines.{numbered}
-use Rattle.batch_wire.specs.Refusals.{refusal_text}
+use Rattle.wire_texts.specs.Tables.{tables_text}
+use Rattle.wire_texts.specs.Lines.{numbered}
+use Rattle.wire_texts.specs.Refusals.{refusal_text}
 use Rattle.batch_desk.specs.declared.entry.Entry.{Entry}
 use Rattle.batch_desk.specs.Kept.{Desk}
 use Rattle.batch_desk.specs.History.{asked_of, fault_count}

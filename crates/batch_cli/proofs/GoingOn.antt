@@ -6,10 +6,10 @@ use Rattle.byte_streams.specs.Content.{Gains, GainsFront}
 use Rattle.byte_streams.proofs.Gaining.{gains_nothing, gains_more}
 use Rattle.bt_rows.specs.declared.event.EventKind.{EventKind}
 use Rattle.bt_rows.specs.declared.refusal.Refusal.{Refusal}
-use Rattle.batch_wire.specs.LineRequest.{LineRequest}
-use Rattle.batch_wire.specs.LineRequest.TheVariants.{Skip, Call, Look}
-use Rattle.batch_wire.specs.Lines.{line_of}
-use Rattle.batch_wire.specs.Tables.{tables_text}
+use Rattle.wire_lines.specs.declared.line.LineRequest.{LineRequest}
+use Rattle.wire_lines.specs.declared.line.LineRequest.TheVariants.{Skip, Call, Look}
+use Rattle.wire_lines.specs.Lines.{line_of}
+use Rattle.wire_texts.specs.Tables.{tables_text}
 use Rattle.batch_desk.specs.declared.entry.Entry.{Entry}
 use Rattle.batch_desk.specs.Kept.{Desk}
 use Rattle.batch_desk.specs.History.{asked_of, fault_count}

@@ -2,8 +2,8 @@
 use Rattle.std.proofs.Common.{◌≡◌, refl}
 use Rattle.bt_rows.specs.declared.refusal.Refusal.{Refusal}
 use Rattle.bt_rows.specs.declared.reply.Reply.TheVariants.{Refused}
-use Rattle.batch_wire.specs.Replies.{reply_text}
-use Rattle.batch_wire.specs.Refusals.{refusal_text}
+use Rattle.wire_texts.specs.Replies.{reply_text}
+use Rattle.wire_texts.specs.Refusals.{refusal_text}
 
 -- a refusal as a reply is shown as a refusal
 pub refusal_reply : (refusal : Refusal) → reply_text (Refused refusal) ≡ refusal_text refusal

@@ -4,8 +4,8 @@ use Rattle.byte_streams.specs.Content.{Gains, GainsFront}
 use Rattle.bt_rows.specs.declared.event.EventKind.{EventKind}
 use Rattle.bt_rows.specs.declared.refusal.Refusal.{Refusal}
 use Rattle.batch_model.specs.Variants.{State}
-use Rattle.batch_wire.specs.LineRequest.{LineRequest}
-use Rattle.batch_wire.specs.LineRequest.TheVariants.{Call}
+use Rattle.wire_lines.specs.declared.line.LineRequest.{LineRequest}
+use Rattle.wire_lines.specs.declared.line.LineRequest.TheVariants.{Call}
 use Rattle.batch_desk.specs.declared.entry.Entry.{Entry}
 use Rattle.batch_desk.specs.Kept.{Desk}
 use Rattle.batch_desk.specs.History.{asked_of, fault_count}

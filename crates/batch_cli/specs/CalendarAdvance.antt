@@ -10,8 +10,8 @@ use Rattle.batch_desk.specs.declared.entry.Entry.{Entry}
 use Rattle.batch_desk.specs.Kept.{Desk}
 use Rattle.batch_desk.specs.History.{asked_of, fault_count}
 use Rattle.batch_desk.specs.Answers.{HasSameOpening, IsInOrder}
-use Rattle.batch_wire.specs.TextLines.{numbered}
-use Rattle.batch_wire.specs.Replies.{reply_text}
+use Rattle.wire_texts.specs.Lines.{numbered}
+use Rattle.wire_texts.specs.Replies.{reply_text}
 use Rattle.batch_cli.specs.Advance.{room_of, RoseBy}
 use Rattle.batch_cli.specs.Shown.{answer_text, memory_stops, ran_out}
 use Rattle.batch_cli.specs.CalendarShown.{Remaining, line_told, texts_of, asks_of, fires_text, is_refused_line}

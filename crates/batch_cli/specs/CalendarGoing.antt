@@ -8,7 +8,7 @@ use Rattle.batch_desk.specs.declared.entry.Entry.{Entry}
 use Rattle.batch_desk.specs.Kept.{Desk}
 use Rattle.batch_desk.specs.History.{asked_of, fault_count}
 use Rattle.batch_desk.specs.Answers.{HasSameOpening, Begins}
-use Rattle.batch_wire.specs.Tables.{tables_text}
+use Rattle.wire_texts.specs.Tables.{tables_text}
 use Rattle.batch_cli.specs.Advance.{RoseBy, room_of}
 use Rattle.batch_cli.specs.CalendarShown.{cal_outputs, line_outputs, cal_questions, has_refused_line, lines_told, texts_of, asks_of}
 use Rattle.batch_cli.specs.EndStatus.{script_limit}

@@ -11,12 +11,12 @@ use Rattle.batch_desk.specs.declared.answer.Answer.{Answer}
 use Rattle.batch_desk.specs.declared.answer.Answer.TheVariants.{Done, KeeperFault, JournalFull, Memory}
 use Rattle.batch_desk.specs.History.{after_call}
 use Rattle.batch_desk.specs.Answers.{entry_answer}
-use Rattle.batch_wire.specs.Read.{Read}
-use Rattle.batch_wire.specs.Reads.{read_reply}
-use Rattle.batch_wire.specs.TextLines.{numbered}
-use Rattle.batch_wire.specs.Refusals.{refusal_text}
-use Rattle.batch_wire.specs.Replies.{reply_text}
-use Rattle.batch_wire.specs.Tables.{tables_text}
+use Rattle.table_reads.specs.declared.request.Read.{Read}
+use Rattle.table_reads.specs.Reads.{read_reply}
+use Rattle.wire_texts.specs.Lines.{numbered}
+use Rattle.wire_texts.specs.Refusals.{refusal_text}
+use Rattle.wire_texts.specs.Replies.{reply_text}
+use Rattle.wire_texts.specs.Tables.{tables_text}
 use Rattle.batch_cli.specs.Shown.{answer_text, due_lines, stop_line, fault_text, full_text, look_text}
 use Rattle.schedule_lines.specs.Lines.{cal_line_of}
 use Rattle.schedule_lines.specs.Refusals as calendar

@@ -14,7 +14,7 @@ use Rattle.batch_model.specs.Tasks.{is_active, is_completed, is_in_job}
 use Rattle.batch_model.specs.Variants.{State, Spread, TaskRow, RunRow, Closed, Code}
 use Rattle.batch_desk.specs.declared.entry.Entry.{Entry}
 use Rattle.batch_desk.specs.History.{asked_of, after_call, after_all}
-use Rattle.batch_wire.specs.TextLines.{line}
+use Rattle.wire_texts.specs.Lines.{line}
 use Rattle.run_index.specs.Queued.{lowest_queued}
 use Rattle.batch_cli.specs.declared.drill.limits.TheConstants.{DRILL_MOMENT_MS}
 use Rattle.batch_cli.specs.declared.drill.summary.DrillCounts.{DrillCounts}

@@ -9,7 +9,7 @@ use Rattle.batch_desk.specs.declared.entry.Entry.{Entry}
 use Rattle.batch_desk.specs.Kept.{Tells}
 use Rattle.batch_desk.specs.Laws.{KeepsLaws}
 use Rattle.batch_desk.specs.History.{IsLegal, after_all, asked_of, fault_count}
-use Rattle.batch_wire.specs.Tables.{tables_text}
+use Rattle.wire_texts.specs.Tables.{tables_text}
 use Rattle.batch_cli.specs.Shown.{outputs, calls_of, memory_stops, but_last, outputs_before}
 pub use Rattle.batch_cli.specs.Observed.{Observed, BeginsFrom, IsOnlyOpened, IsUnopened}
 use Rattle.batch_cli.specs.CalendarRuns.{CalendarRan}

@@ -12,16 +12,16 @@ use Rattle.batch_desk.specs.declared.answer.Answer.{Answer}
 use Rattle.batch_desk.specs.declared.answer.Answer.TheVariants.{Done, KeeperFault, JournalFull, Memory}
 use Rattle.batch_desk.specs.History.{after_call}
 use Rattle.batch_desk.specs.Answers.{entry_answer}
-use Rattle.batch_wire.specs.LineRequest.{LineRequest}
-use Rattle.batch_wire.specs.LineRequest.TheVariants.{Skip, Call, Look}
-use Rattle.batch_wire.specs.Lines.{line_of}
-use Rattle.batch_wire.specs.Read.{Read}
-use Rattle.batch_wire.specs.Reads.{read_reply}
-use Rattle.batch_wire.specs.TextLines.{numbered}
-use Rattle.batch_wire.specs.Dues.{due_text}
-use Rattle.batch_wire.specs.Refusals.{refusal_text}
-use Rattle.batch_wire.specs.Replies.{reply_text}
-use Rattle.batch_wire.specs.Tables.{tables_text}
+use Rattle.wire_lines.specs.declared.line.LineRequest.{LineRequest}
+use Rattle.wire_lines.specs.declared.line.LineRequest.TheVariants.{Skip, Call, Look}
+use Rattle.wire_lines.specs.Lines.{line_of}
+use Rattle.table_reads.specs.declared.request.Read.{Read}
+use Rattle.table_reads.specs.Reads.{read_reply}
+use Rattle.wire_texts.specs.Lines.{numbered}
+use Rattle.wire_texts.specs.Dues.{due_text}
+use Rattle.wire_texts.specs.Refusals.{refusal_text}
+use Rattle.wire_texts.specs.Replies.{reply_text}
+use Rattle.wire_texts.specs.Tables.{tables_text}
 
 -- a keeper fault that stopped the due steps
 unfoldable pub stop_text : List ℕ

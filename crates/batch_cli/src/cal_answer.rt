@@ -1,8 +1,8 @@
 //! Answers of a calendar, and the lines that show them.
 ghost use Rattle.std.specs.Prelude.{◌≡◌, ◌++◌, IfOk, OnOk, string_bytes};
 ghost use Rattle.std.specs.List.{list_any};
-ghost use Rattle.batch_wire.specs.TextLines.{numbered};
-ghost use Rattle.batch_wire.specs.Replies.{reply_text};
+ghost use Rattle.wire_texts.specs.Lines.{numbered};
+ghost use Rattle.wire_texts.specs.Replies.{reply_text};
 ghost use Rattle.batch_cli.specs.Shown.{fault_text, full_text, ran_out};
 ghost use Rattle.batch_cli.specs.CalendarShown.{fire_word, fire_line, fire_text, fires_text};
 ghost use Rattle.batch_cli.specs.CalendarAdvance.{ShowsAnswer, call_count, cal_text, first_count, first_ran_out, first_text, is_cut};
@@ -10,12 +10,12 @@ ghost use Rattle.schedule_lines.specs.Refusals as calendar;
 
 use crate::call::{push_dues, push_reply, push_stop, ran_out, show_answer};
 use batch_desk::Answer;
-use batch_wire::{push_line, write_reply};
 use bt_base::NoMemory;
 use bt_rows::reply::Reply;
 use schedule_lines::write_cal;
 use schedule_rows::{CalAnswer, CalRefusal, CalReply, Fire, FireWord};
 use std::alloc::Global;
+use wire_texts::{push_line, write_reply};
 
 /// The output of a call.
 #[derive(Drop)]

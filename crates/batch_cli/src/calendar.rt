@@ -4,8 +4,8 @@ ghost use Rattle.std.specs.Str.Lines.{lines};
 ghost use Rattle.bt_base.specs.Causes.{Rose};
 ghost use Rattle.byte_streams.specs.Content.{Gains, GainsFront};
 ghost use Rattle.batch_desk.specs.Answers.{IsInOrder, Begins};
-ghost use Rattle.batch_wire.specs.TextLines.{numbered};
-ghost use Rattle.batch_wire.specs.Refusals.{refusal_text};
+ghost use Rattle.wire_texts.specs.Lines.{numbered};
+ghost use Rattle.wire_texts.specs.Refusals.{refusal_text};
 ghost use Rattle.batch_cli.specs.EndStatus.{script_limit};
 ghost use Rattle.batch_cli.specs.Shown.{look_text, memory_stops};
 ghost use Rattle.batch_cli.specs.CalendarAdvance.{CalDid, CalHalts, CalShows, HaltsCalCall, KeepsDesk};
@@ -21,7 +21,6 @@ use crate::tally::Tally;
 use batch_desk::Desk;
 use batch_keeper::Keeper;
 use batch_schedule::Calendar;
-use batch_wire::split_line;
 use bt_base::{Fail, Moment, NoMemory};
 use bt_rows::refusal::Refusal;
 use byte_streams::{Sink, write_all};
@@ -29,6 +28,7 @@ use schedule_lines::{CalLine, read_cal_line};
 use schedule_rows::CalEvent;
 use std::alloc::Global;
 use table_reads::Read;
+use wire_lines::split_line;
 
 /// Makes a call, and returns its output. `NoMemory` comes if memory runs out in the call or for these lines.
 fn make_call<K: Keeper + Drop>(

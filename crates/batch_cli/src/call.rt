@@ -1,22 +1,23 @@
 //! Answers, and the lines that show them.
 ghost use Rattle.std.specs.Prelude.{◌≡◌, ◌≤◌, ◌++◌, false, IfOk, OnOk, OnErr, string_bytes};
 ghost use Rattle.batch_desk.specs.Answers.{IsInOrder, HasSameOpening};
-ghost use Rattle.batch_wire.specs.TextLines.{numbered};
-ghost use Rattle.batch_wire.specs.Dues.{due_text};
-ghost use Rattle.batch_wire.specs.Refusals.{refusal_text};
-ghost use Rattle.batch_wire.specs.Replies.{reply_text};
+ghost use Rattle.wire_texts.specs.Lines.{numbered};
+ghost use Rattle.wire_texts.specs.Dues.{due_text};
+ghost use Rattle.wire_texts.specs.Refusals.{refusal_text};
+ghost use Rattle.wire_texts.specs.Replies.{reply_text};
 ghost use Rattle.batch_cli.specs.Shown.{stop_text, fault_text, full_text, due_lines, stop_line, answer_text, look_text, ran_out};
 ghost use Rattle.batch_cli.specs.Advance.{ShowsCall, HaltsCall};
 
 use batch_desk::{Answer, Desk, Stop};
 use batch_keeper::Keeper;
-use batch_wire::{Read, push_line, write_due, write_reply};
 use bt_base::{Moment, NoMemory};
 use bt_rows::due::Due;
 use bt_rows::event::Event;
 use bt_rows::refusal::Refusal;
 use bt_rows::reply::Reply;
 use std::alloc::{AllocError, Global};
+use table_reads::Read;
+use wire_texts::{push_line, write_due, write_reply};
 
 /// Adds the line of a reply.
 pub fn push_reply(alloc: Global, out: &mut String, n: u64, reply: &Reply) -> Result<(), NoMemory>

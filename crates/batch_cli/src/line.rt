@@ -3,10 +3,10 @@ ghost use Rattle.std.specs.Prelude.{◌≡◌, ◌≤◌, Ok, Err, IfOk, OnOk, O
 ghost use Rattle.bt_base.specs.Causes.{Rose};
 ghost use Rattle.byte_streams.specs.Content.{Gains, GainsFront};
 ghost use Rattle.batch_desk.specs.Answers.{IsInOrder, HasSameOpening};
-ghost use Rattle.batch_wire.specs.LineRequest.TheVariants.{Call};
-ghost use Rattle.batch_wire.specs.Lines.{line_of};
-ghost use Rattle.batch_wire.specs.TextLines.{numbered};
-ghost use Rattle.batch_wire.specs.Refusals.{refusal_text};
+ghost use Rattle.wire_lines.specs.declared.line.LineRequest.TheVariants.{Call};
+ghost use Rattle.wire_lines.specs.Lines.{line_of};
+ghost use Rattle.wire_texts.specs.Lines.{numbered};
+ghost use Rattle.wire_texts.specs.Refusals.{refusal_text};
 ghost use Rattle.batch_cli.specs.Shown.{call_in, look_text, memory_stops};
 ghost use Rattle.batch_cli.specs.Advance.{Did, Halts, Counts};
 
@@ -15,12 +15,13 @@ use crate::stopped::Stopped;
 use crate::tally::Tally;
 use batch_desk::Desk;
 use batch_keeper::Keeper;
-use batch_wire::{LineRequest, Read, read_line};
 use bt_base::{Fail, Moment};
 use bt_rows::event::Event;
 use bt_rows::refusal::Refusal;
 use byte_streams::{Sink, write_all};
 use std::alloc::Global;
+use table_reads::Read;
+use wire_lines::{LineRequest, read_line};
 
 /// Makes a call, and writes what it was answered.
 fn do_call<K: Keeper + Drop, W: Sink>(

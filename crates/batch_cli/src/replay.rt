@@ -4,7 +4,7 @@ ghost use Rattle.std.specs.Str.Lines.{lines};
 ghost use Rattle.bt_base.specs.Causes.{Rose};
 ghost use Rattle.byte_streams.specs.Content.{Gains, GainsFront};
 ghost use Rattle.batch_desk.specs.Answers.{IsInOrder, Begins};
-ghost use Rattle.batch_wire.specs.Tables.{tables_text};
+ghost use Rattle.wire_texts.specs.Tables.{tables_text};
 ghost use Rattle.batch_cli.specs.EndStatus.{script_limit};
 ghost use Rattle.batch_cli.specs.Going.{Going, Whole, Part, CountsAll};
 ghost use Rattle.batch_cli.specs.Shown.{memory_stops};
@@ -14,10 +14,11 @@ use crate::stopped::Stopped;
 use crate::tally::Tally;
 use batch_desk::Desk;
 use batch_keeper::Keeper;
-use batch_wire::{split_line, write_tables};
 use bt_rows::tables::Tables;
 use byte_streams::{Sink, write_all};
 use std::alloc::Global;
+use wire_lines::split_line;
+use wire_texts::write_tables;
 
 /// Writes the tables text.
 pub fn finish<W: Sink>(alloc: Global, tables: &Tables, sink: &mut W) -> Result<(), Stopped>

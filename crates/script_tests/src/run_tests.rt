@@ -4,12 +4,12 @@ ghost use Rattle.batch_model.specs.WellFormed.{IsWellFormed};
 
 use batch_cli::{Status, run_words};
 use batch_keeper::{Keeper, MemoryKeeper};
-use batch_wire::write_tables;
 use bt_base::{Text, Word};
 use bt_rows::tables::Tables;
 use byte_streams::{MemorySink, MemorySource};
 use std::alloc::{AllocError, Global};
 use std::test::Fail;
+use wire_texts::write_tables;
 
 /// A keeper of empty tables, of which the calls of these numbers fail.
 fn keeper(alloc: Global, fails: &[u64]) -> Result<MemoryKeeper, AllocError> {

@@ -1,7 +1,7 @@
 use Rattle.std.proofs.Common.{subst, OnErr, IfOk}
 use Rattle.std.specs.Str.Lines.{lines}
 use Rattle.byte_streams.specs.Content.{GainsFront}
-use Rattle.batch_wire.specs.Tables.{tables_text}
+use Rattle.wire_texts.specs.Tables.{tables_text}
 use Rattle.batch_cli.specs.CalendarGoing.{CalPart, LinesDone}
 use Rattle.batch_cli.proofs.CalendarGoingOn.{done_cut}
 use Rattle.batch_cli.proofs.calendar.do_calendar.Goals as goal

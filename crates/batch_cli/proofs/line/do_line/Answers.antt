@@ -1,6 +1,6 @@
 use Rattle.std.proofs.Common.{sym, subst}
 use Rattle.bt_base.specs.Fails.{Fails}
-use Rattle.batch_wire.specs.Lines.{line_of}
+use Rattle.wire_lines.specs.Lines.{line_of}
 use Rattle.batch_cli.specs.Advance.{Did, Halts}
 use Rattle.batch_cli.proofs.Advancing.{did_refusal, cut_refusal, at_err_anyway}
 use Rattle.batch_cli.proofs.line.do_line.Goals as goal

@@ -1,6 +1,6 @@
 use Rattle.std.proofs.Common.{arith, refl}
 use Rattle.std.specs.Str.Lines.{lines}
-use Rattle.batch_wire.specs.Lines.{line_of}
+use Rattle.wire_lines.specs.Lines.{line_of}
 use Rattle.batch_cli.proofs.Advancing.{at_err_anyway}
 use Rattle.batch_cli.proofs.GoingOn.{going_start, going_on, going_halts, calls_next, refused_next, one_call}
 use Rattle.batch_cli.proofs.replay.do_lines.Goals as goal

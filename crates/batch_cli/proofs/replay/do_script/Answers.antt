@@ -1,6 +1,6 @@
 use Rattle.std.proofs.Common.{subst}
 use Rattle.byte_streams.specs.Content.{Gains, GainsFront}
-use Rattle.batch_wire.specs.Tables.{tables_text}
+use Rattle.wire_texts.specs.Tables.{tables_text}
 use Rattle.batch_cli.proofs.Advancing.{at_err_anyway}
 use Rattle.batch_cli.proofs.GoingOn.{going_ends, going_cut}
 use Rattle.batch_cli.proofs.replay.do_script.Goals as goal
