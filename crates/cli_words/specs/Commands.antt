@@ -5,7 +5,7 @@ use Rattle.std.specs.List.{find, list_all}
 use Rattle.std.specs.Str.{bytes_eq, is_utf8}
 use Rattle.bt_base.specs.Moments.{last_moment}
 use Rattle.option_words.specs.Options.{Setting, Text, settings_in, value_for}
-use Rattle.wire_numbers.specs.Numbers.{number_in}
+use Rattle.bt_base.specs.Digits.{number_in}
 use Rattle.bt_rows.specs.declared.limits.TheConstants.{SEAT_LIMIT, TARGET_LIMIT}
 use Rattle.cli_words.specs.declared.command.TheConstants.{DEFAULT_SEATS, DRILL_LIMIT, JOURNAL_LIMIT, DEFAULT_PORT, PORT_LIMIT}
 use Rattle.cli_words.specs.declared.command.TheConstants.{DEFAULT_DOORS, DOOR_LIMIT, CONNECTION_LIMIT}

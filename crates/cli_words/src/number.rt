@@ -3,7 +3,7 @@ ghost use Rattle.std.specs.Prelude.{◌≡◌, ◌≤◌, IfSome, option_map};
 ghost use Rattle.cli_words.specs.Commands.{number_from_to, number_or};
 ghost use Rattle.cli_words.specs.Ranges.{IsWithin};
 
-use wire_numbers::read_number;
+use bt_base::read_number;
 
 /// The greatest number of digits.
 pub const DIGIT_LIMIT: usize = 20;

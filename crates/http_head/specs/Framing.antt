@@ -1,7 +1,7 @@
 -- How many bytes a request's body has, by the fields of its head (RFC 9112, section 6, in this project's profile), and whether
 -- the request is the last one.
 use Rattle.std.specs.Prelude.{ℕ, Bool, ◌||◌, ◌&&◌, List, length, find, count_by, if◌then◌else◌, ◌==◌, nat_le, nat_lt, Option, Some, None}
-use Rattle.wire_numbers.specs.Numbers.{number_in}
+use Rattle.bt_base.specs.Digits.{number_in}
 use Rattle.http_head.specs.declared.framing.TheConstants.{BODY_LIMIT}
 use Rattle.http_head.specs.declared.framing.Framing.{Framing}
 use Rattle.http_head.specs.declared.framing.Framing.TheVariants.{Bad, TooLong, Body}

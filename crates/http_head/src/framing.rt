@@ -5,8 +5,8 @@ ghost use Rattle.http_head.specs.Framing.{length_in, stated_length, has_bad_fiel
 
 use crate::fields::{count_closing, count_with, first_with};
 use crate::names::FieldName;
+use bt_base::read_number;
 use httparse::spans::HeaderSpan;
-use wire_numbers::read_number;
 
 /// How a request's body is found in the bytes after its head (RFC 9112, section 6.3).
 #[derive(Clone, Copy, Debug, PartialEq, Eq)]

@@ -7,7 +7,7 @@ use Rattle.bt_base.specs.Ids.{within, read_id}
 use Rattle.bt_rows.specs.Names.{member_text}
 use Rattle.bt_rows.specs.declared.member.Member.TheVariants as names
 use Rattle.bt_rows.specs.declared.refusal.Refusal.{Refusal}
-use Rattle.wire_numbers.specs.Numbers.{number_in}
+use Rattle.bt_base.specs.Digits.{number_in}
 use Rattle.wire_members.specs.Members.{or_invalid}
 use Rattle.table_reads.specs.declared.request.Listing.{Listing}
 use Rattle.table_reads.specs.declared.request.TheConstants.{MAX_RESULTS}

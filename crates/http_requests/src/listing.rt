@@ -3,14 +3,13 @@ ghost use Rattle.std.specs.Prelude.{◌≡◌, option_map};
 ghost use Rattle.bt_base.specs.Fails.{Gives, IsAs};
 ghost use Rattle.http_requests.specs.Listings.{count_in, count_if, after_if, listing_of};
 
-use bt_base::{Fail, Id};
+use bt_base::{Fail, Id, read_number};
 use bt_rows::member::Member;
 use bt_rows::refusal::Refusal;
 use http_routes::query_value;
 use std::alloc::Global;
 use table_reads::{Listing, MAX_RESULTS};
 use wire_members::invalid_property;
-use wire_numbers::read_number;
 
 /// The most digits of a number in a query.
 pub const DIGIT_LIMIT: usize = 20;

@@ -4,7 +4,7 @@ use Rattle.std.specs.Str.{bytes_eq}
 use Rattle.bt_base.specs.Moments.{moment_of}
 use Rattle.bt_rows.specs.declared.run.Ending.{Ending}
 use Rattle.bt_rows.specs.declared.run.Ending.TheVariants.{Code, NoCode, NotStarted}
-use Rattle.wire_numbers.specs.Numbers.{number_in}
+use Rattle.bt_base.specs.Digits.{number_in}
 
 -- digits, up to the end of the year 9999
 abbrev pub moment_in : List ℕ → Option ℕ

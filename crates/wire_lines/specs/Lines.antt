@@ -17,7 +17,7 @@ use Rattle.wire_lines.specs.Reads.{read_word_in, read_with}
 use Rattle.wire_lines.specs.Endings.{moment_in, ending_in}
 use Rattle.wire_lines.specs.Arguments.{or_unreadable, id_and_body, job_and_task}
 use Rattle.wire_lines.specs.Samples.{pool_and_percentage}
-use Rattle.wire_numbers.specs.Numbers.{number_in}
+use Rattle.bt_base.specs.Digits.{number_in}
 use Rattle.wire_operations.specs.declared.operation.Asked.TheVariants as asks
 use Rattle.wire_operations.specs.declared.operation.Operation.{Operation}
 use Rattle.wire_operations.specs.declared.operation.Operation.TheVariants.{Service, Pool, Job, Task}

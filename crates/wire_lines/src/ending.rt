@@ -2,9 +2,8 @@
 ghost use Rattle.std.specs.Prelude.{◌≡◌};
 ghost use Rattle.wire_lines.specs.Endings.{moment_in, code_in, ending_in, code_below, code_above};
 
-use bt_base::Moment;
+use bt_base::{Moment, read_number};
 use bt_rows::run::Ending;
-use wire_numbers::read_number;
 
 /// A moment, as the digits of its milliseconds since 1970. It does not allocate.
 pub fn read_moment(text: &[u8]) -> Option<Moment>

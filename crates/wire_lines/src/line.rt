@@ -8,12 +8,11 @@ use crate::ending::{read_ending, read_moment};
 use crate::look::{ReadWord, read_with};
 use crate::parts::{split_just_two, split_two, split_word};
 use crate::sample::pool_and_percentage;
-use bt_base::{Fail, Moment};
+use bt_base::{Fail, Moment, read_number};
 use bt_rows::event::{Event, EventKind};
 use bt_rows::refusal::Refusal;
 use std::alloc::Global;
 use table_reads::Read;
-use wire_numbers::read_number;
 use wire_operations::{Asked, Operation, read_operation};
 
 /// The word of a line, which names the kind of its event.

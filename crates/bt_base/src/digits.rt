@@ -1,10 +1,10 @@
-//! Numbers of 64 bits.
+//! Numbers as decimal digits, as the lines of a script and the options of the command line have them.
 ghost use Rattle.std.specs.Prelude.{◌≡◌};
 ghost use Rattle.std.specs.List.{list_all};
 ghost use Rattle.std.specs.Char.{is_ascii_digit};
-ghost use Rattle.wire_numbers.specs.Numbers.{number_in};
+ghost use Rattle.bt_base.specs.Digits.{number_in};
 
-use bt_base::text_of;
+use crate::text_of;
 
 /// Whether the text has digits alone.
 fn has_digits(text: &[u8]) -> bool
