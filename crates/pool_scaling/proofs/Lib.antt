@@ -1,0 +1,5 @@
+pub mod Gathered
+pub mod Evaluated
+pub mod ScalePuts
+pub mod Enabled
+pub mod Scaled
