@@ -2,7 +2,7 @@ use Rattle.std.proofs.Common.{◌≡◌, true, refl, sym, ◌∙◌, ap, arith}
 use Rattle.std.specs.List.{list_all}
 use Rattle.std.specs.Char.{is_ascii_digit}
 use Rattle.bt_base.specs.Digits.{number_in}
-use Rattle.bt_base.proofs.Digits.{text_of_digits, number_parsed}
+use Rattle.bt_base.proofs.ReadNumbers.{text_of_digits, number_parsed}
 use Rattle.bt_base.proofs.digits.read_number.Goals as goal
 
 pub returns-then-not-has_digits : goal.returns-then-not-has_digits
