@@ -1,19 +1,24 @@
 -- Tables after automatic scaling is enabled, and what `enable-autoscale` answers by its refusals.
-use Rattle.std.proofs.Common.{◌≡◌, ℕ, Bool, true, false, ◌∷◌, [], List, Option, Some, None, is_some, is_none, not, ◌&&◌, unwrap_or, refl, sym, ◌∙◌, ap}
+use Rattle.std.proofs.Common.{◌≡◌, ℕ, Bool, true, false, ◌∷◌, [], List, Option, Some, None, Result, Err, is_some, is_none, not, ◌&&◌, unwrap_or, refl, sym, ◌∙◌, ap}
 use Rattle.std.specs.Option.{option_and_then}
+use Rattle.bt_base.specs.declared.fail.Fail.{Fail}
+use Rattle.bt_base.specs.declared.fail.Fail.TheVariants.{Memory, Why}
 use Rattle.bt_rows.specs.Changes.{apply_change, apply_changes}
 use Rattle.bt_rows.specs.declared.event.ScaleSpec.{ScaleSpec}
 use Rattle.bt_rows.specs.declared.refusal.Refusal.{Refusal}
-use Rattle.bt_rows.specs.declared.refusal.Refusal.TheVariants.{PoolDoesNotScale}
+use Rattle.bt_rows.specs.declared.refusal.Refusal.TheVariants.{PoolBeingDeleted, PoolBeingResized, PoolDoesNotScale}
 use Rattle.bt_rows.specs.declared.tables.Change.TheVariants.{PutPool, PutScale}
-use Rattle.batch_model.specs.Answers.{accept, refuse}
+use Rattle.batch_model.specs.Answers.{accept, answer, refuse}
 use Rattle.batch_model.specs.Formulas.{formula_refusal}
 use Rattle.batch_model.specs.Pools.{is_steady}
-use Rattle.batch_model.specs.Rows.{pool_of}
+use Rattle.batch_model.specs.Rows.{pool_of, put_pool}
 use Rattle.batch_model.specs.Scaling.{autoscale_enabled, enable_autoscale, enabled_now, lacks_formula, new_scale, rescaled, scale_of, scaled_by, too_soon, usual_interval}
+use Rattle.batch_model.specs.Steps.{refuse_if}
 use Rattle.batch_model.specs.WellFormed.{KeysAreDistinct, scales}
 use Rattle.batch_model.specs.Variants.{State, PoolRow, ScaleRow}
-use Rattle.pool_scaling.specs.Rows.{given_row}
+use Rattle.machine_plans.specs.Plans.{IsAnswer, with_moment}
+use Rattle.pool_scaling.specs.Evaluations.{IsChecked}
+use Rattle.pool_scaling.specs.Rows.{IsGivenRow, given_row}
 use Rattle.pool_scaling.proofs.ScalePuts.{pool_put_after, scale_added, scale_changed, scales_by_row}
 
 module _ (spec : ScaleSpec) (pool : PoolRow) (s : State) where
@@ -49,8 +54,9 @@ module _ (spec : ScaleSpec) (pool : PoolRow) (s : State) where
       → apply_changes (PutScale row ∷ PutPool (enabled_now s.moment pool) ∷ []) s ≡ autoscale_enabled s spec pool
   enabled row keys there given =
       let alone : (rows : List ScaleRow) × (scaled_by spec pool.id (scale_of s pool.id) s ≡ record s { scales = rows }) = scales_alone (scale_of s pool.id) in
-      ap (apply_change (PutPool (enabled_now s.moment pool))) (scale_put row keys given)
-      ∙ rw alone.1 (pool_put_after pool (enabled_now s.moment pool) s alone.0 keys there refl)
+      ap (apply_change (PutPool (enabled_now s.moment pool))) (scale_put row keys given ∙ alone.1)
+      ∙ pool_put_after pool (enabled_now s.moment pool) s alone.0 keys there refl
+      ∙ sym (ap (put_pool (enabled_now s.moment pool)) alone.1)
 
   -- a formula lacks exactly if there is no row
   row_if_formula : (row : ScaleRow) → given_row s.moment spec pool.id (scale_of s pool.id) ≡ Some row → lacks_formula s spec pool ≡ false
@@ -73,20 +79,44 @@ module _ (spec : ScaleSpec) (pool : PoolRow) (s : State) where
       by_row None None g = refl
       by_row None (Some formula) g = cc
 
-  -- answers
+  -- the answer by what refuses
+  answered : (deleting steady lacks : Bool) (soon checked : Option Refusal) → pool.deleting ≡ deleting → is_steady pool.alloc ≡ steady
+      → option_and_then (too_soon s.moment) pool.enabled ≡ soon → lacks_formula s spec pool ≡ lacks → option_and_then formula_refusal spec.formula ≡ checked
+      → enable_autoscale s spec pool
+      ≡ answer s
+      (refuse_if deleting PoolBeingDeleted
+      ∷ refuse_if (not steady) PoolBeingResized
+      ∷ soon
+      ∷ refuse_if lacks PoolDoesNotScale
+      ∷ checked
+      ∷ []) 200 (autoscale_enabled s spec pool)
+  answered deleting steady lacks soon checked a b c d e = rw (← a, ← b, ← c, ← d, ← e) refl
 
   module _ (not_deleted : pool.deleting ≡ false) (steady : is_steady pool.alloc ≡ true) (in_time : option_and_then (too_soon s.moment) pool.enabled ≡ None) where
     pub accepted : (row : ScaleRow) → option_and_then formula_refusal spec.formula ≡ None → given_row s.moment spec pool.id (scale_of s pool.id) ≡ Some row
         → enable_autoscale s spec pool ≡ accept 200 (autoscale_enabled s spec pool)
-    accepted row checked given = rw (not_deleted, steady, in_time, row_if_formula row given, checked) refl
+    accepted row checked given = answered false true false None None not_deleted steady in_time (row_if_formula row given) checked
 
     pub lacking : given_row s.moment spec pool.id (scale_of s pool.id) ≡ None → enable_autoscale s spec pool ≡ refuse PoolDoesNotScale s
-    lacking given = rw (not_deleted, steady, in_time, none_if_lacking given) refl
+    lacking given = answered false true true None (option_and_then formula_refusal spec.formula) not_deleted steady in_time (none_if_lacking given) refl
 
     -- a formula that is refused is given, so that none lacks
     pub refused : (refusal : Refusal) → option_and_then formula_refusal spec.formula ≡ Some refusal → enable_autoscale s spec pool ≡ refuse refusal s
-    refused refusal checked = rw (not_deleted, steady, in_time, given spec.formula checked, checked) refl
+    refused refusal checked = answered false true false None (Some refusal) not_deleted steady in_time (given spec.formula checked) checked
       where
         given : (formula : Option (List ℕ)) → option_and_then formula_refusal formula ≡ Some refusal → (is_none formula && not (scales s pool.id)) ≡ false
         given None e = cc
         given (Some text) e = refl
+
+-- the same for what is returned, if neither the pool nor the moment refuses
+module _ (spec : ScaleSpec) (pool : PoolRow) (now : ℕ) (s : State) (not_deleted : pool.deleting ≡ false) (steady : is_steady pool.alloc ≡ true)
+    (in_time : option_and_then (too_soon now) pool.enabled ≡ None) where
+  pub refused_by : (fail : Fail Refusal) → IsChecked (option_and_then formula_refusal spec.formula) (Err fail)
+      → IsAnswer now (enable_autoscale (with_moment now s) spec pool) s (Err fail)
+  refused_by Memory h = tt
+  refused_by (Why refusal) h = refused spec pool (with_moment now s) not_deleted steady in_time refusal h
+
+  pub lacking_by : (fail : Fail Refusal) → IsGivenRow (given_row now spec pool.id (scale_of s pool.id)) (Err fail)
+      → IsAnswer now (enable_autoscale (with_moment now s) spec pool) s (Err fail)
+  lacking_by Memory h = tt
+  lacking_by (Why refusal) h = rw h.1 (lacking spec pool (with_moment now s) not_deleted steady in_time h.0)

@@ -1,5 +1,5 @@
 -- Tables after an evaluation, and that the next evaluation has a moment.
-use Rattle.std.proofs.Common.{◌≡◌, ℕ, ◌+◌, ◌<◌, ◌≤◌, ◌^◌, Bool, true, false, nat_eq, ◌∷◌, [], List, Option, Some, None, cond, find, refl, ◌∙◌, ap, arith}
+use Rattle.std.proofs.Common.{◌≡◌, ℕ, ◌+◌, ◌<◌, ◌≤◌, ◌^◌, Bool, true, false, nat_eq, ◌∷◌, [], List, Option, Some, None, cond, refl, ◌∙◌, ap, arith}
 use Rattle.std.proofs.lemmas.Bool.Decides.{nat_tests}
 use Rattle.bt_base.specs.Moments.{last_moment}
 use Rattle.bt_rows.specs.Changes.{apply_change, apply_changes}
@@ -7,7 +7,7 @@ use Rattle.bt_rows.specs.Ranges.{is_formula_text, is_interval}
 use Rattle.bt_rows.specs.declared.tables.Change.TheVariants.{PutPool, PutScale}
 use Rattle.formula_eval.specs.declared.outcome.Targets.{Targets}
 use Rattle.batch_model.specs.Pools.{resizing_from, staying_count}
-use Rattle.batch_model.specs.Rows.{is_pool, pool_of, put_pool}
+use Rattle.batch_model.specs.Rows.{pool_of}
 use Rattle.batch_model.specs.Scaling.{evaluated_now, is_scale, pool_after, put_scale, resized_unless_reached, retargeted_to, scale_of, scaled_after}
 use Rattle.batch_model.specs.WellFormed.{KeysAreDistinct, RowsAreValid, is_scale_in_range}
 use Rattle.batch_model.specs.Variants.{State, PoolRow, Dealloc, ScaleRow}
@@ -41,4 +41,3 @@ module _ (s : State) where
   scaled pool scale text given keys there found =
       ap (apply_change (PutPool (pool_after s pool given))) (scale_changed pool.id scale (evaluated_now s.moment text scale) s keys found refl)
       ∙ pool_put_after pool (pool_after s pool given) s (put_scale (evaluated_now s.moment text scale) s).scales keys there (same_id pool given)
-      ∙ ap (λ id. record (put_scale (evaluated_now s.moment text scale) s) { pools = change_where (is_pool id) (λ old. pool_after s pool given) s.pools }) refl

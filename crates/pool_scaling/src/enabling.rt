@@ -127,7 +127,14 @@ fn put_enabled(
 {
     let scale = Shared::new(alloc, scale)?;
     let row = Shared::new(alloc, enabled_now(now, pool)?)?;
-    accept_two(alloc, tables, now, 200, Change::PutScale(scale), Change::PutPool(row))
+    accept_two(
+        alloc,
+        tables,
+        now,
+        200,
+        Change::PutScale(scale),
+        Change::PutPool(row),
+    )
 }
 
 /// The answer to `enable-autoscale` of the pool that was found.

@@ -26,7 +26,6 @@ use machine_plans::{accept_one, reply_listed};
 use std::alloc::Global;
 
 /// Whether the pool scales automatically.
-#[tactic(auto, using(crate::proofs::ScalePuts::scales_by_row))]
 pub fn scales(tables: &Tables, pool: &Id) -> bool
     ensures { result ≡ scales tables.now.state pool.now }
 {
@@ -34,12 +33,7 @@ pub fn scales(tables: &Tables, pool: &Id) -> bool
 }
 
 /// The plan by which the pool no longer scales automatically.
-fn drop_found(
-    alloc: Global,
-    tables: &Tables,
-    now: u64,
-    pool: &PoolRow,
-) -> Result<Plan, NoMemory>
+fn drop_found(alloc: Global, tables: &Tables, now: u64, pool: &PoolRow) -> Result<Plan, NoMemory>
     requires { KeysAreDistinct tables.now.state }
     ensures { IfOk result (IsPlanOf (accept 200 (drop_scale pool.now.id (with_moment now tables.now.state))) tables.now.state) }
 {
@@ -95,7 +89,13 @@ fn show(
     ensures { IfOk result (IsPlanOf (record { reply = Results (ran_text (or_error (evaluated formula.now.text (statements_of formula.now.statements.items) (pool_metrics indexed.now.state pool.now) now (start_targets pool.now)))); state = with_moment now indexed.now.state }) indexed.now.state) }
 {
     let ran = evaluate_formula(alloc, indexed, moment_of(now), pool, formula)?;
-    reply_listed(alloc, indexed.tables(), now, Reply::Results(ran.text.copy()?), Vec::new(alloc))
+    reply_listed(
+        alloc,
+        indexed.tables(),
+        now,
+        Reply::Results(ran.text.copy()?),
+        Vec::new(alloc),
+    )
 }
 
 /// The answer to `evaluate-autoscale` of the pool that was found.

@@ -61,11 +61,7 @@ fn evaluated_now(now: u64, text: &Text, scale: &ScaleRow) -> Result<ScaleRow, No
 }
 
 /// The pool, with these targets and this option.
-fn retargeted_to(
-    targets: Targets,
-    option: Dealloc,
-    pool: &PoolRow,
-) -> Result<PoolRow, NoMemory>
+fn retargeted_to(targets: Targets, option: Dealloc, pool: &PoolRow) -> Result<PoolRow, NoMemory>
     ensures { IfOk result (λ row. row ≡ retargeted_to (targets, option) pool.now) }
 {
     let mut row = pool.copy()?;
