@@ -1,28 +1,26 @@
 -- What an evaluation gives, by what the text is compiled to.
-use Rattle.std.proofs.Common.{◌≡◌, ℕ, List, Some, None, Result, Ok, Err, refl, sym, ◌∙◌, ap}
+use Rattle.std.proofs.Common.{◌≡◌, ℕ, List, Some, None, Ok, Err, sym, ap}
 use Rattle.bt_base.specs.FormulaFaults.{name_of, place_of}
 use Rattle.bt_base.specs.declared.formula_fault.FormulaFault.{FormulaFault}
 use Rattle.bt_rows.specs.declared.refusal.Refusal.TheVariants.{FormulaRefused}
-use Rattle.formula_metrics.specs.declared.metrics.Metrics.{Metrics}
 use Rattle.formula_trees.specs.Formula.{StatementTree}
 use Rattle.formula_types.specs.Compiling.{compiled}
-use Rattle.formula_values.specs.Faults.{fault_name}
-use Rattle.formula_eval.specs.declared.fault.EvalFault.{EvalFault}
-use Rattle.formula_eval.specs.declared.outcome.Outcome.{Outcome}
-use Rattle.formula_eval.specs.Results.{error_text, results_text}
+use Rattle.formula_eval.specs.Results.{error_text}
 use Rattle.formula_eval.specs.Statements.{evaluated}
 use Rattle.batch_model.specs.Formulas.{formula_ran, formula_refusal, or_error, pool_metrics, refused_fault, start_targets, statements_ran}
-use Rattle.batch_model.specs.Variants.{State, PoolRow, CpuPercent}
+use Rattle.batch_model.specs.Variants.{State, PoolRow}
 use Rattle.machine_plans.specs.Plans.{with_moment}
-use Rattle.pool_samples.specs.Counts.{metrics_of, value_of}
-use Rattle.pool_scaling.specs.Evaluations.{ran_of}
-use Rattle.pool_scaling.specs.Gathering.{sampled, with_values}
 
 -- what statements give is what the text gives that is compiled to them
 pub ran_if_compiled : (s : State) (pool : PoolRow) (text : List ℕ) (ss : List StatementTree) → compiled text ≡ Ok ss
     → or_error (evaluated text ss (pool_metrics s pool) s.moment (start_targets pool)) ≡ formula_ran s pool text
 unfolding formula_ran
 ran_if_compiled s pool text ss e = ap (statements_ran s pool text) (sym e)
+
+-- also at another moment, of which the metrics know nothing
+pub ran_over : (s : State) (now : ℕ) (pool : PoolRow) (text : List ℕ) (ss : List StatementTree) → compiled text ≡ Ok ss
+    → or_error (evaluated text ss (pool_metrics s pool) now (start_targets pool)) ≡ formula_ran (with_moment now s) pool text
+ran_over s now pool text ss e = ran_if_compiled (with_moment now s) pool text ss e
 
 -- and a fault gives its text
 pub ran_if_fault : (s : State) (pool : PoolRow) (text : List ℕ) (fault : FormulaFault) → compiled text ≡ Err fault

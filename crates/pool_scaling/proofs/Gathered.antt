@@ -1,6 +1,8 @@
 -- Going once over the samples gathers the metrics of a pool.
-use Rattle.std.proofs.Common.{◌≡◌, ℕ, ◌-◌, ◌≤◌, Bool, true, false, ◌&&◌, nat_eq, nat_le, nat_lt, List, [], ◌∷◌, ◌++◌, length, filter, find, map, drop, cond, Some, None, refl, sym, ◌∙◌, ap, subst, arith}
-use Rattle.std.specs.List.{list_any, list_all}
+use Rattle.std.proofs.Common.{◌≡◌, ℕ, ◌-◌, ◌≤◌, Bool, true, false, ◌&&◌, nat_eq, nat_le, nat_lt, List, [], ◌∷◌, ◌++◌, length, filter, find, map, drop, take, reverse, cond, Some, None, refl, sym, ◌∙◌, ap, subst, arith}
+use Rattle.std.specs.Prelude.{slice_get, option_map}
+use Rattle.std.specs.List.{list_any, list_all, last_or}
+use mathlib.Core.List.{reverse_aux}
 use Rattle.std.proofs.lemmas.Bool.Decides.{Decides-eqb, nat_tests}
 use Rattle.std.proofs.lemmas.List.{append_assoc, length-map}
 use Rattle.std.proofs.lemmas.List.Sums.{length-filter}
@@ -9,24 +11,25 @@ use Rattle.bt_base.specs.declared.pool_metric.Metric.TheVariants.{RunningTasks, 
 use Rattle.bt_base.specs.declared.pool_metric.Metric.TheVariants.{CurrentDedicatedNodes, CurrentLowPriorityNodes, PreemptedNodeCount}
 use Rattle.bt_base.proofs.SameIds.{same_equiv}
 use Rattle.bt_samples.specs.declared.history.Sample.{Sample}
-use Rattle.bt_samples.specs.Histories.{last_kept}
+use Rattle.bt_samples.specs.Histories.{last_kept, last_values, values}
 use Rattle.bt_samples.specs.KeptSamples.{is_before, pushed_all, taken_after}
 use Rattle.bt_samples.proofs.LastTaken.{holds_the_last_taken}
 use Rattle.bt_rows.specs.Lists.{AreDistinct}
 use Rattle.bt_rows.specs.Metrics.{place_of_metric, same_metric, metric_equiv}
 use Rattle.formula_metrics.specs.declared.metrics.MetricPart.{MetricPart}
 use Rattle.formula_metrics.specs.declared.metrics.Metrics.{Metrics}
-use Rattle.formula_metrics.specs.Parts.{blank_metrics, part_of, with_part, with_sample}
+use Rattle.formula_metrics.specs.Parts.{blank_metrics, part_of, with_current, with_part, with_sample}
 use Rattle.batch_model.specs.Finding.{Each}
-use Rattle.batch_model.specs.Formulas.{bare_sample, history_of}
+use Rattle.batch_model.specs.Formulas.{bare_sample, history_of, newest_value, pool_metrics}
 use Rattle.batch_model.specs.Samples.{sample_limit, is_sample_of, samples_of}
 use Rattle.batch_model.specs.WellFormed.{PoolsAreFitting, are_labels_out_of_order, has_kept}
-use Rattle.batch_model.specs.Variants.{State, Metric, CpuPercent, ActiveTasks, SampleRow}
+use Rattle.batch_model.specs.Variants.{State, PoolRow, Metric, CpuPercent, ActiveTasks, SampleRow}
 use Rattle.model_lists.proofs.NextNumbers.{ordered}
 use Rattle.model_lists.proofs.RowLists.{any_none, each_found, filter_agree, find_any, find_test}
 use Rattle.model_lists.proofs.RowSums.{count_none}
 use Rattle.model_lists.proofs.Tests.{and_first, and_second, and_true, or_false, or_false_first, or_false_second}
-use Rattle.pool_scaling.specs.Gathering.{sampled, sampled_part, with_row, with_rows}
+use Rattle.pool_samples.specs.Counts.{metrics_of}
+use Rattle.pool_scaling.specs.Gathering.{sampled, sampled_part, with_row, with_rows, with_values}
 
 -- metrics by their parts
 
@@ -287,5 +290,38 @@ module _ (pool : List ℕ) (metric : Metric) where
 pub gathered : (s : State) (pool : List ℕ) → PoolsAreFitting s → with_rows pool s.samples blank_metrics ≡ sampled s pool
 gathered s pool h =
     let part : (metric : Metric) → part_of (with_rows pool s.samples blank_metrics) metric ≡ sampled_part s pool metric = λ metric. gathered_part pool metric s h in
-    rw (part CpuPercent, part ActiveTasks, part RunningTasks, part PendingTasks, part SucceededTasks, part FailedTasks, part TaskSlotsPerNode, part CurrentDedicatedNodes,
-    part CurrentLowPriorityNodes, part PreemptedNodeCount) refl
+    rw (
+      ← part CpuPercent,
+      ← part ActiveTasks,
+      ← part RunningTasks,
+      ← part PendingTasks,
+      ← part SucceededTasks,
+      ← part FailedTasks,
+      ← part TaskSlotsPerNode,
+      ← part CurrentDedicatedNodes,
+      ← part CurrentLowPriorityNodes,
+      ← part PreemptedNodeCount,
+    ) refl
+
+-- the newest sample
+
+-- the first of a list in reverse order that is followed by another is its last one
+first_of_reversed : (samples after : List Sample) → slice_get (reverse_aux samples after) 0 ≡ last_or (slice_get after 0) samples
+first_of_reversed [] after = refl
+first_of_reversed (sample ∷ samples) after = first_of_reversed samples (sample ∷ after)
+
+-- the value of the newest sample is the only one of the newest values, at most one
+pub newest_first : (samples : List Sample) → slice_get (last_values samples 1) 0 ≡ newest_value samples
+newest_first samples = first_taken (reverse samples) ∙ ap (option_map (λ (sample : Sample). sample.value)) (first_of_reversed samples [])
+  where
+    first_taken : (newest : List Sample) → slice_get (take 1 (values newest)) 0 ≡ option_map (λ (sample : Sample). sample.value) (slice_get newest 0)
+    first_taken [] = refl
+    first_taken (sample ∷ newest) = refl
+
+-- the samples of each metric and the values now are the metrics of the pool
+pub all_set : (s : State) (pool : PoolRow)
+    → with_values (metrics_of s pool)
+    (with_part (sampled s pool.id) CpuPercent
+    (with_current (part_of (sampled s pool.id) CpuPercent) (newest_value (part_of (sampled s pool.id) CpuPercent).history)))
+    ≡ pool_metrics s pool
+all_set s pool = refl

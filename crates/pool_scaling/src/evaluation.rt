@@ -1,8 +1,8 @@
 //! Formulas of pools: compiled, and evaluated over a pool.
-ghost use Rattle.std.specs.Prelude.{◌≡◌, ◌≤◌, None, Some, IfOk};
+ghost use Rattle.std.specs.Prelude.{◌≡◌, ◌≤◌, Ok, Err, IfOk};
 ghost use Rattle.bt_base.specs.Moments.{last_moment};
 ghost use Rattle.formula_trees.specs.View.{statements_of};
-ghost use Rattle.formula_eval.specs.Results.{error_text, results_text};
+ghost use Rattle.formula_eval.specs.Results.{error_text};
 ghost use Rattle.formula_eval.specs.Statements.{evaluated};
 ghost use Rattle.batch_model.specs.Formulas.{formula_ran, formula_refusal, or_error, pool_metrics, start_targets};
 ghost use Rattle.machine_plans.specs.Plans.{with_moment};
@@ -36,6 +36,7 @@ impl Drop for Ran {
 }
 
 /// The formula of a text. A text with a fault is refused with its first one.
+#[tactic(auto, using(crate::proofs::Evaluated::refused_if_fault))]
 pub fn formula_of(alloc: Global, text: &str) -> Result<Formula, Fail<Refusal>>
     ensures { IsCompiled text.now result }
 {
@@ -47,6 +48,7 @@ pub fn formula_of(alloc: Global, text: &str) -> Result<Formula, Fail<Refusal>>
 }
 
 /// Refuses a text that is not a formula, as `FormulaRefused` with its first fault. The only other error is out of memory.
+#[tactic(auto, using(crate::proofs::Evaluated::taken_if_compiled))]
 pub fn check_formula(alloc: Global, text: &str) -> Result<(), Fail<Refusal>>
     ensures { IsChecked (formula_refusal text.now) result }
 {
@@ -56,8 +58,7 @@ pub fn check_formula(alloc: Global, text: &str) -> Result<(), Fail<Refusal>>
 
 /// What results gave.
 fn of_outcome(alloc: Global, outcome: &Outcome) -> Result<Ran, NoMemory>
-    ensures text { IfOk result (λ ran. ran.text ≡ results_text outcome.now) }
-    ensures given { IfOk result (λ ran. ran.given ≡ Some (outcome.now.targets, outcome.now.option)) }
+    ensures { IfOk result (λ ran. ran ≡ ran_of (Ok outcome.now)) }
 {
     Ok(Ran {
         text: results_text(alloc, outcome)?,
@@ -67,8 +68,7 @@ fn of_outcome(alloc: Global, outcome: &Outcome) -> Result<Ran, NoMemory>
 
 /// What the fault of this name at this place gave.
 fn of_fault(alloc: Global, name: &str, place: usize) -> Result<Ran, NoMemory>
-    ensures text { IfOk result (λ ran. ran.text ≡ error_text name.now place) }
-    ensures given { IfOk result (λ ran. ran.given ≡ None) }
+    ensures { IfOk result (λ ran. ran ≡ ran_of (Err (error_text name.now place))) }
 {
     Ok(Ran {
         text: error_text(alloc, name, place)?,
@@ -95,11 +95,15 @@ pub fn evaluate_formula(
     match evaluate(alloc, formula, &metrics, now, start) {
         Ok(outcome) => of_outcome(alloc, &outcome),
         Err(Fail::Memory) => Err(NoMemory),
-        Err(Fail::Why(fault)) => of_fault(alloc, fault.name(), fault.place()),
+        Err(Fail::Why(fault)) => {
+            let place = fault.place;
+            of_fault(alloc, fault.name(), place)
+        }
     }
 }
 
 /// What the text gives over the pool at this moment, as a formula. The only error is out of memory.
+#[tactic(auto, using(crate::proofs::Evaluated::ran_over, crate::proofs::Evaluated::ran_if_fault))]
 pub fn evaluate_text(
     alloc: Global,
     indexed: &IndexedTables,

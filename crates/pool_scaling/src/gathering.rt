@@ -34,6 +34,7 @@ fn push_samples(metrics: &mut Metrics, tables: &Tables, pool: &Id)
 }
 
 /// The samples of each metric of the pool, without current values. It goes once over the samples.
+#[tactic(auto, using(crate::proofs::Gathered::gathered))]
 fn sampled(alloc: Global, tables: &Tables, pool: &Id) -> Result<Metrics, NoMemory>
     requires { PoolsAreFitting tables.now.state }
     ensures { IfOk result (λ metrics. metrics ≡ sampled tables.now.state pool.now) }
@@ -44,6 +45,7 @@ fn sampled(alloc: Global, tables: &Tables, pool: &Id) -> Result<Metrics, NoMemor
 }
 
 /// The value of the newest sample, if there is one.
+#[tactic(auto, using(crate::proofs::Gathered::newest_first))]
 fn newest_value(history: &History) -> Result<Option<Num>, NoMemory>
     ensures { IfOk result (λ value. value ≡ newest_value history.now) }
 {
@@ -56,17 +58,39 @@ fn set_values(metrics: &mut Metrics, values: &PoolMetrics)
     ensures { metrics.new ≡ with_values values.now metrics.old }
 {
     metrics.set_current(Metric::ActiveTasks, Some(values.value(Metric::ActiveTasks)));
-    metrics.set_current(Metric::RunningTasks, Some(values.value(Metric::RunningTasks)));
-    metrics.set_current(Metric::PendingTasks, Some(values.value(Metric::PendingTasks)));
-    metrics.set_current(Metric::SucceededTasks, Some(values.value(Metric::SucceededTasks)));
+    metrics.set_current(
+        Metric::RunningTasks,
+        Some(values.value(Metric::RunningTasks)),
+    );
+    metrics.set_current(
+        Metric::PendingTasks,
+        Some(values.value(Metric::PendingTasks)),
+    );
+    metrics.set_current(
+        Metric::SucceededTasks,
+        Some(values.value(Metric::SucceededTasks)),
+    );
     metrics.set_current(Metric::FailedTasks, Some(values.value(Metric::FailedTasks)));
-    metrics.set_current(Metric::TaskSlotsPerNode, Some(values.value(Metric::TaskSlotsPerNode)));
-    metrics.set_current(Metric::CurrentDedicatedNodes, Some(values.value(Metric::CurrentDedicatedNodes)));
-    metrics.set_current(Metric::CurrentLowPriorityNodes, Some(values.value(Metric::CurrentLowPriorityNodes)));
-    metrics.set_current(Metric::PreemptedNodeCount, Some(values.value(Metric::PreemptedNodeCount)));
+    metrics.set_current(
+        Metric::TaskSlotsPerNode,
+        Some(values.value(Metric::TaskSlotsPerNode)),
+    );
+    metrics.set_current(
+        Metric::CurrentDedicatedNodes,
+        Some(values.value(Metric::CurrentDedicatedNodes)),
+    );
+    metrics.set_current(
+        Metric::CurrentLowPriorityNodes,
+        Some(values.value(Metric::CurrentLowPriorityNodes)),
+    );
+    metrics.set_current(
+        Metric::PreemptedNodeCount,
+        Some(values.value(Metric::PreemptedNodeCount)),
+    );
 }
 
 /// The metrics of the pool. The only error is out of memory.
+#[tactic(auto, using(crate::proofs::Gathered::all_set))]
 pub fn metrics_of(
     alloc: Global,
     indexed: &IndexedTables,
