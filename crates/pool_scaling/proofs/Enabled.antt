@@ -1,5 +1,5 @@
 -- Tables after automatic scaling is enabled, and what `enable-autoscale` answers by its refusals.
-use Rattle.std.proofs.Common.{◌≡◌, ℕ, Bool, true, false, ◌∷◌, [], List, Option, Some, None, Result, Err, is_some, is_none, not, ◌&&◌, unwrap_or, refl, sym, ◌∙◌, ap}
+use Rattle.std.proofs.Common.{◌≡◌, ℕ, Bool, true, false, ◌∷◌, [], List, Option, Some, None, Err, is_some, is_none, not, ◌&&◌, unwrap_or, refl, sym, ◌∙◌, ap}
 use Rattle.std.specs.Option.{option_and_then}
 use Rattle.bt_base.specs.declared.fail.Fail.{Fail}
 use Rattle.bt_base.specs.declared.fail.Fail.TheVariants.{Memory, Why}

@@ -1,9 +1,8 @@
 -- What puts and drops of rows that say how pools scale make of the tables.
-use Rattle.std.proofs.Common.{◌≡◌, ℕ, Bool, true, false, not, List, [], ◌∷◌, ◌++◌, Option, Some, None, cond, filter, is_some, refl, sym, ◌∙◌, ap}
+use Rattle.std.proofs.Common.{◌≡◌, ℕ, Bool, true, false, not, List, [], ◌∷◌, Option, Some, None, cond, filter, is_some, refl, sym, ◌∙◌, ap}
 use Rattle.std.specs.List.{list_any, find}
-use Rattle.bt_base.specs.Ids.{same}
 use Rattle.bt_base.proofs.SameIds.{same_equiv}
-use Rattle.bt_rows.specs.Changes.{apply_change, apply_changes}
+use Rattle.bt_rows.specs.Changes.{apply_change}
 use Rattle.bt_rows.specs.Keys.{same_scale, same_scale_equiv}
 use Rattle.bt_rows.specs.Lists.{AreDistinct, drop_row}
 use Rattle.bt_rows.specs.declared.tables.Change.TheVariants.{DropScale, PutPool, PutScale}

@@ -8,7 +8,7 @@ use Rattle.bt_rows.specs.declared.tables.Change.TheVariants.{PutPool, PutScale}
 use Rattle.formula_eval.specs.declared.outcome.Targets.{Targets}
 use Rattle.batch_model.specs.Pools.{resizing_from, staying_count}
 use Rattle.batch_model.specs.Rows.{pool_of}
-use Rattle.batch_model.specs.Scaling.{evaluated_now, is_scale, pool_after, put_scale, resized_unless_reached, retargeted_to, scale_of, scaled_after}
+use Rattle.batch_model.specs.Scaling.{evaluated_now, is_scale, pool_after, put_scale, retargeted_to, scale_of, scaled_after}
 use Rattle.batch_model.specs.WellFormed.{KeysAreDistinct, RowsAreValid, is_scale_in_range}
 use Rattle.batch_model.specs.Variants.{State, PoolRow, Dealloc, ScaleRow}
 use Rattle.model_lists.proofs.RowLists.{each_found}
