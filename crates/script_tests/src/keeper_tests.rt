@@ -2,6 +2,7 @@
 //! hand.
 use crate::formula_tests::{SCALED, SCALED_OUTPUT};
 use crate::run_tests::{ENDED, Run, TAKEN, gives, outcome_after, outcome_anew, sure};
+use crate::scaling_tests::FOLLOWING;
 use batch_cli::Status;
 use std::alloc::{AllocError, Global};
 use std::test::Fail;
@@ -236,16 +237,39 @@ const NOT_LOADED: &[Case] = &[
 /// Lines after the opening of the tables of a taken run.
 const LATER: &str = "20 tick\n21 end 1 0\n";
 
-/// A script over the tables of a taken run.
-const OPENED: &[Case] = &[Case {
-    before: TAKEN,
-    words: SCRIPT,
-    input: LATER,
-    fails: [&[], &[], &[]],
-    status: Status::Done,
-    output: OPENED_OUTPUT,
-    kept: OPENED_TABLES,
-}];
+/// Lines after the opening of the tables of a pool that scales: its nodes are made anew, and its samples and its formula are there.
+const SCALED_LATER: &str = "930000 tick\n930000 sample p 1.9\n1800000 tick\n";
+
+const SCALED_LATER_OUTPUT: &str =
+    "1 200\n1 U1 p 930000\n1 U15 p 4 1\n1 U15 p 5 2\n1 U15 p 6 3\n1 U11 p steady\n2 200\n3 200\n\
+    3 U1 p 1800000\n3 U12 p $TargetDedicatedNodes=1;$TargetLowPriorityNodes=0;\
+    $NodeDeallocationOption=requeue\n3 U13 6\n3 U13 5\n3 U14 5\n3 U14 6\n3 U11 p steady\n\
+    tables 1800000\npool p active steady 1 0 1 spread\nnode 4 p 1 idle\nscale p 900000 2700000\n";
+
+const SCALED_LATER_TABLES: &str =
+    "tables 1800000\npool p active steady 1 0 1 spread\nnode 4 p 1 idle\nscale p 900000 2700000\n";
+
+/// Scripts over the tables of a taken run, and over those of a pool that scales.
+const OPENED: &[Case] = &[
+    Case {
+        before: TAKEN,
+        words: SCRIPT,
+        input: LATER,
+        fails: [&[], &[], &[]],
+        status: Status::Done,
+        output: OPENED_OUTPUT,
+        kept: OPENED_TABLES,
+    },
+    Case {
+        before: FOLLOWING,
+        words: SCRIPT,
+        input: SCALED_LATER,
+        fails: [&[], &[], &[]],
+        status: Status::Done,
+        output: SCALED_LATER_OUTPUT,
+        kept: SCALED_LATER_TABLES,
+    },
+];
 
 #[test]
 fn runs_leave_tables(rt: HostRuntime) -> Result<(), Fail> {

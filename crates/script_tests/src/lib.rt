@@ -10,6 +10,8 @@ mod resize_tests;
 #[cfg(test)]
 mod run_tests;
 #[cfg(test)]
+mod scaling_tests;
+#[cfg(test)]
 mod script_tests;
 #[cfg(test)]
 mod store_tests;

@@ -50,7 +50,7 @@ const ALL_WORDS: &str = "#7 take 1\n7 add-pool {\"id\":\"P\",\"targetDedicatedNo
     7 add-job {\"poolInfo\":{\"poolId\":\"P\"},\"id\":\"j\"}\n\
     7 add-task j {\"id\":\"t\",\"commandLine\":\"a \\\"b c\\\"\"}\n\
     7 add-tasks j {\"value\":[]}\n007 take 1\n7 end 1 2147483648\n7 end 1 -7\n007 tick\n\
-    7 disable-autoscale P\n7 add-task j! {\n7 add-job {\"id\":\"k\"}\n";
+    7 scale P\n7 add-task j! {\n7 add-job {\"id\":\"k\"}\n";
 
 const ALL_WORDS_OUTPUT: &str =
     "2 201\n2 U15 P 1 1\n3 201\n4 201\n4 U16 j t 1 1\n5 200\n6 200\n7 400 UnreadableBody\n\

@@ -117,6 +117,45 @@ const LATER_SHOWN: [Shown; 9] = [
     (PLACED_LINES, "2 409 RunWithdrawn\n", LATER_TABLES),
 ];
 
+/// A pool that is sampled, and whose formula has a fault until there is a sample of its processors.
+const SCALING: &str = "0 add-pool {\"id\":\"p\",\"enableAutoScale\":true,\
+    \"autoScaleFormula\":\"$TargetDedicatedNodes = $CPUPercent;\"}\n0 sample p 3.5\n";
+
+const SCALED_LINES: &str = "2 200\n2 U12 p $TargetDedicatedNodes=3;$TargetLowPriorityNodes=0;\
+    $NodeDeallocationOption=requeue\n2 U15 p 1 1\n2 U15 p 2 2\n2 U15 p 3 3\n2 U11 p steady\n";
+
+const SAMPLED_LINES: &str =
+    "2 200\n2 U1 p 0\n2 U12 p $TargetDedicatedNodes=3;$TargetLowPriorityNodes=0;\
+    $NodeDeallocationOption=requeue\n2 U15 p 1 1\n2 U15 p 2 2\n2 U15 p 3 3\n2 U11 p steady\n";
+
+const SCALED_TABLES: &str = "tables 0\npool p active steady 3 0 1 spread\nnode 1 p 1 idle\n\
+    node 2 p 2 idle\nnode 3 p 3 idle\nscale p 900000 900000\n";
+
+const UNSCALED_TABLES: &str =
+    "tables 0\npool p active steady 0 0 1 spread\nscale p 900000 900000\n";
+
+/// The pool, if the first call fails, the second, and so on up to the fifth, and if none fails.
+const SCALING_SHOWN: [Shown; 6] = [
+    ("", "", "tables 0\n"),
+    ("1 fault\n", "2 404 PoolNotFound\n", "tables 0\n"),
+    ("1 201\n1 stop fault\n", SAMPLED_LINES, SCALED_TABLES),
+    (
+        "1 201\n1 U1 p 0\n1 stop fault\n",
+        SCALED_LINES,
+        SCALED_TABLES,
+    ),
+    (
+        "1 201\n1 U1 p 0\n1 U12 p error EmptyVector 24\n",
+        "2 fault\n",
+        UNSCALED_TABLES,
+    ),
+    (
+        "1 201\n1 U1 p 0\n1 U12 p error EmptyVector 24\n",
+        "2 200\n",
+        UNSCALED_TABLES,
+    ),
+];
+
 /// A store of this content, of which this call fails.
 fn store_of(alloc: Global, stored: Stored, call: u64) -> Result<MemoryStore, AllocError> {
     match vec![in alloc; call] {
@@ -215,5 +254,6 @@ fn each_call_of_a_store_fails_in_turn(rt: HostRuntime) -> Result<(), Fail> {
     let alloc = rt.alloc();
     assert_eq!(rt; first_other(alloc, "", ENDED, &ENDED_SHOWN)?, None);
     assert_eq!(rt; first_other(alloc, TAKEN, LATER, &LATER_SHOWN)?, None);
+    assert_eq!(rt; first_other(alloc, "", SCALING, &SCALING_SHOWN)?, None);
     Ok(())
 }

@@ -22,6 +22,8 @@ mod origin_tests;
 #[cfg(test)]
 mod scaling_bodies_tests;
 #[cfg(test)]
+mod scaling_http_tests;
+#[cfg(test)]
 mod wire_bodies_tests;
 #[cfg(test)]
 mod wire_json_tests;
