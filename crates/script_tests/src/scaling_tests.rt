@@ -257,17 +257,15 @@ fn a_pool_follows_its_waiting_tasks(rt: HostRuntime) -> Result<(), Fail> {
     Ok(())
 }
 
-/// A pool that is sampled for a day and a minute, and then asked for its history of a metric.
+/// Samples of the processors for a day and half a minute, and then a formula that asks for their history.
 fn sampled_for_a_day(alloc: Global) -> Result<String, AllocError> {
-    let mut script = format!(in alloc;
-        "0 add-pool {{\"id\":\"p\",\"enableAutoScale\":true,\"autoScaleFormula\":\"\",\
-        \"autoScaleEvaluationInterval\":\"P7D\"}}\n"
-    )?;
+    let mut script = String::from_str(alloc, "0 add-pool {\"id\":\"p\"}\n")?;
     for half in 1..=2_881_u64 {
-        writeln!(script, "{} tick", half * 30_000)?;
+        let label = half * 30_000;
+        writeln!(script, "{label} sample p 1")?;
     }
     script.push_str(
-        "0 evaluate-autoscale p {\"autoScaleFormula\":\"x = $ActiveTasks.Count(); y = $ActiveTasks.HistoryBeginTime();\"}\n",
+        "0 enable-autoscale p {\"autoScaleFormula\":\"x = $CPUPercent.Count(); y = $CPUPercent.HistoryBeginTime();\"}\n",
     )?;
     Ok(script)
 }
@@ -281,14 +279,14 @@ fn shows_in_a_day(alloc: Global, wanted: &[u8]) -> Result<bool, AllocError>
     Ok(status == Status::Done && output.windows(wanted.len()).any(|part| part == wanted))
 }
 
-/// The last multiples of 30 seconds are 2 to 2,881: the two oldest samples went.
+/// Of the 2,881 samples the oldest one went.
 #[test]
 fn the_newest_2880_samples_are_kept(rt: HostRuntime) -> Result<(), Fail> {
-    let wanted =
-        b"\n2882 U1 p 86430000\n2883 200 $TargetDedicatedNodes=0;$TargetLowPriorityNodes=0;\
-        $NodeDeallocationOption=requeue;$x=2880;$y=1970-01-01T00:01:00.0000000Z\ntables 86430000\n\
-        pool p active steady 0 0 1 spread\nscale p 604800000 604800000\n"
-            .as_slice();
+    let wanted = b"\n2882 200\n2883 200\n2883 U1 p 86430000\n2883 U12 p $TargetDedicatedNodes=0;\
+        $TargetLowPriorityNodes=0;$NodeDeallocationOption=requeue;$x=2880;\
+        $y=1970-01-01T00:01:00.0000000Z\ntables 86430000\npool p active steady 0 0 1 spread\n\
+        scale p 900000 87330000\n"
+        .as_slice();
     assert!(rt; shows_in_a_day(rt.alloc(), wanted)?);
     Ok(())
 }
