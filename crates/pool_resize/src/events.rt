@@ -4,11 +4,10 @@ ghost use Rattle.std.specs.Option.{option_copied};
 ghost use Rattle.bt_rows.specs.Changes.{apply_changes};
 ghost use Rattle.bt_rows.specs.declared.refusal.Refusal.TheVariants.{PoolNotFound};
 ghost use Rattle.batch_model.specs.Answers.{accept, for_row};
-ghost use Rattle.batch_model.specs.Pools.{is_steady};
 ghost use Rattle.batch_model.specs.PoolEvents.{delete_pool, deleted_pool, pool_deleted, resize_pool, resized_pool, stop_resize, stopping};
 ghost use Rattle.batch_model.specs.Rows.{pool_of, put_pool};
 ghost use Rattle.batch_model.specs.Sound.{RunsNameTheirs};
-ghost use Rattle.batch_model.specs.WellFormed.{KeysAreDistinct, scales};
+ghost use Rattle.batch_model.specs.WellFormed.{KeysAreDistinct};
 ghost use Rattle.machine_plans.specs.Plans.{IsAnswer, IsPlanOf, with_moment};
 ghost use Rattle.row_changes.specs.Puts.{changes_where, scale_drop};
 ghost use Rattle.pool_resize.specs.Changes.{deletion, is_scale_of};
@@ -21,6 +20,7 @@ use bt_rows::refusal::Refusal;
 use bt_rows::tables::{Change, Tables};
 use machine_plans::{accept_listed, accept_one};
 use node_stops::{LeavingNodes, leave};
+use pool_scaling::{is_steady, scales};
 use std::alloc::Global;
 use table_scans::is_resizing;
 
@@ -38,20 +38,6 @@ fn put_pool(
     ensures { IfOk result (IsPlanOf (accept 202 (put_pool row (with_moment now tables.now.state))) tables.now.state) }
 {
     accept_one(alloc, tables, now, 202, Change::PutPool(row))
-}
-
-/// Whether the number of the pool's nodes is not changing.
-fn is_steady(alloc: Alloc) -> bool
-    ensures { result ≡ is_steady alloc }
-{
-    alloc == Alloc::Steady
-}
-
-/// Whether the pool scales automatically.
-fn scales(tables: &Tables, pool: &Id) -> bool
-    ensures { result ≡ scales tables.now.state pool.now }
-{
-    tables.scales().any(|scale| scale.pool.same(pool))
 }
 
 /// The pool, which resizes from `now`, in milliseconds since 1970. Targets that are not given stay.

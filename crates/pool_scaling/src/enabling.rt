@@ -58,7 +58,7 @@ fn check_given(alloc: Global, formula: &Option<Text>) -> Result<(), Fail<Refusal
 }
 
 /// How a pool scales that did not, by a formula that is to be evaluated at `now`.
-fn new_scale(now: u64, pool: &Id, formula: &Text, interval: u64) -> Result<ScaleRow, NoMemory>
+pub fn new_scale(now: u64, pool: &Id, formula: &Text, interval: u64) -> Result<ScaleRow, NoMemory>
     ensures { IfOk result (λ row. row ≡ new_scale now pool.now formula.now interval) }
 {
     Ok(ScaleRow {

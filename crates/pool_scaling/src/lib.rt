@@ -8,7 +8,7 @@ mod gathering;
 mod requests;
 mod scaling;
 
-pub use enabling::enable_autoscale;
+pub use enabling::{enable_autoscale, is_steady, new_scale};
 pub use evaluation::{Ran, check_formula};
 pub use requests::{disable_autoscale, evaluate_autoscale, scales};
 pub use scaling::scale_first;
