@@ -32,8 +32,11 @@ fn answer_event(
     ensures tick { event.now ≡ Tick → IfOk result (λ plan. plan.changes ≡ moved_to now indexed.now.state) }
     ensures ranges { is_event_in_range event.now ≡ true }
 {
-    let tables = indexed.tables();
-    let view = View { tables, seats, now };
+    let view = View {
+        tables: indexed.tables(),
+        seats,
+        now,
+    };
     match event.kind() {
         EventKind::AddPool(_)
         | EventKind::DeletePool(_)
@@ -53,7 +56,7 @@ fn answer_event(
         | EventKind::DeleteTask(_, _)
         | EventKind::TerminateTask(_, _)
         | EventKind::ReactivateTask(_, _) => job_machine::plan_event(alloc, &view, event),
-        EventKind::End(number, _) if !is_start_number(tables, *number) => {
+        EventKind::End(number, _) if !is_start_number(view.tables, *number) => {
             job_machine::plan_event(alloc, &view, event)
         }
         EventKind::Take(_) | EventKind::End(_, _) | EventKind::Sample(_, _) | EventKind::Tick =>

@@ -1,3 +1,4 @@
 pub mod FirstToLeave
 pub mod FoundPools
+pub mod PoolAdded
 pub mod PoolChanges
