@@ -2,7 +2,7 @@
 use bt_base::{Fail, Moment, NoMemory, Num, Text};
 use formula_eval::{Targets, evaluate, results_text};
 use formula_metrics::Metrics;
-use formula_names::Metric;
+use formula_trees::Metric;
 use formula_types::compile;
 use std::alloc::Global;
 use std::test::Fail as TestFail;

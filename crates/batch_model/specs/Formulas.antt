@@ -10,11 +10,7 @@ use Rattle.bt_base.specs.declared.pool_metric.Metric.TheVariants.{CurrentDedicat
 use Rattle.bt_samples.specs.declared.history.Sample.{Sample}
 use Rattle.bt_rows.specs.declared.refusal.Refusal.{Refusal}
 use Rattle.bt_rows.specs.declared.refusal.Refusal.TheVariants.{FormulaRefused}
-use Rattle.formula_trees.specs.Formula.{StatementTree}
-use Rattle.formula_types.specs.Compiling.{compiled}
-use Rattle.formula_values.specs.Faults.{fault_name}
-use Rattle.formula_metrics.specs.declared.metrics.MetricPart.{MetricPart}
-use Rattle.formula_metrics.specs.declared.metrics.Metrics.{Metrics}
+use Rattle.formula_eval.specs.Interface.{StatementTree, compiled, fault_name, MetricPart, Metrics}
 use Rattle.formula_eval.specs.declared.fault.EvalFault.{EvalFault}
 use Rattle.formula_eval.specs.declared.outcome.Targets.{Targets}
 use Rattle.formula_eval.specs.declared.outcome.Outcome.{Outcome}

@@ -4,13 +4,13 @@ use Rattle.std.specs.declared.alloc.Global.{Global}
 use Rattle.std.specs.declared.boxed.Box.{Box}
 use Rattle.std.specs.declared.vec.Vec.{Vec}
 use Rattle.bt_base.specs.Fails.{◌>>=◌}
-use Rattle.formula_lex.specs.declared.token.Span.{Span}
+use Rattle.formula_trees.specs.declared.token.Span.{Span}
 use Rattle.formula_trees.specs.declared.tree.Expr.{Expr}
 use Rattle.formula_trees.specs.declared.tree.Expr.TheVariants.{Call, List as Items, Method}
 use Rattle.formula_trees.specs.Tree as tree
 use Rattle.formula_trees.specs.View.{tree_of, trees_of}
 use Rattle.formula_trees.proofs.Rows.{tree_of-Call, tree_of-List, row_items}
-use Rattle.formula_names.specs.Names.{function_named, method_named}
+use Rattle.formula_trees.specs.Names.{function_named, method_named}
 use Rattle.formula_types.specs.Scopes.{part}
 use Rattle.formula_values.specs.declared.value.Value.{Value}
 use Rattle.formula_values.specs.declared.value.Value.TheVariants.{DoubleVec}

@@ -1,10 +1,10 @@
 -- Values in a context: of a text, with these metrics, at this moment, and if this is set.
 use Rattle.std.specs.Prelude.{List, Option, Result}
-use Rattle.formula_lex.specs.declared.token.Span.{Span}
-use Rattle.formula_lex.specs.declared.token.BinaryOperator.{BinaryOperator}
+use Rattle.formula_trees.specs.declared.token.Span.{Span}
+use Rattle.formula_trees.specs.declared.token.BinaryOperator.{BinaryOperator}
 use Rattle.formula_trees.specs.Tree.{Tree, Trees}
 use Rattle.bt_base.specs.declared.pool_metric.Metric.{Metric}
-use Rattle.formula_names.specs.Names.{method_named}
+use Rattle.formula_trees.specs.Names.{method_named}
 use Rattle.formula_types.specs.Scopes.{part}
 use Rattle.formula_values.specs.declared.value.Value.{Value}
 use Rattle.formula_eval.specs.declared.fault.Interrupt.{Interrupt}

@@ -2,16 +2,16 @@
 -- place is the beginning of the node's token: an operator, or the name of a function, a method or a metric.
 use Rattle.std.specs.Prelude.{ℕ, ◌-◌, true, false, List, [], ◌∷◌, ◌++◌, length, take, drop, Option, Some, None, Result, Ok, Err, if◌then◌else◌}
 use Rattle.bt_base.specs.Fails.{◌>>=◌}
-use Rattle.formula_lex.specs.declared.token.Span.{Span}
-use Rattle.formula_lex.specs.declared.token.BinaryOperator.{BinaryOperator}
-use Rattle.formula_lex.specs.declared.token.BinaryOperator.TheVariants.{Or, And}
+use Rattle.formula_trees.specs.declared.token.Span.{Span}
+use Rattle.formula_trees.specs.declared.token.BinaryOperator.{BinaryOperator}
+use Rattle.formula_trees.specs.declared.token.BinaryOperator.TheVariants.{Or, And}
 use Rattle.formula_trees.specs.Tree.{Tree, Numeral, Quoted, Variable, Call, Vector, Member, Method, Unary, Binary, Ternary, Trees, none, more}
-use Rattle.formula_names.specs.declared.names.Function.{Function}
-use Rattle.formula_names.specs.declared.names.Function.TheVariants as functions
-use Rattle.formula_names.specs.declared.names.Member.{Member as AMember}
-use Rattle.formula_names.specs.declared.names.Method.{Method as AMethod}
+use Rattle.formula_trees.specs.declared.names.Function.{Function}
+use Rattle.formula_trees.specs.declared.names.Function.TheVariants as functions
+use Rattle.formula_trees.specs.declared.names.Member.{Member as AMember}
+use Rattle.formula_trees.specs.declared.names.Method.{Method as AMethod}
 use Rattle.bt_base.specs.declared.pool_metric.Metric.{Metric}
-use Rattle.formula_names.specs.Names.{metric_named, function_named, method_named, member_named}
+use Rattle.formula_trees.specs.Names.{metric_named, function_named, method_named, member_named}
 use Rattle.formula_types.specs.Scopes.{part}
 use Rattle.formula_values.specs.declared.fault.ValueFault.{ValueFault}
 use Rattle.formula_values.specs.declared.value.Value.{Value}

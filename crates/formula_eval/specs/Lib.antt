@@ -1,5 +1,6 @@
 pub mod Contexts
 pub mod Evaluation
+pub mod Interface
 pub mod Names
 pub mod Outcomes
 pub mod Results

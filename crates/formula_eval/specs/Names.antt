@@ -2,9 +2,9 @@
 use Rattle.std.specs.Prelude.{ℕ, pos, List, Option, Some, None, Result, Ok}
 use Rattle.bt_base.specs.declared.dealloc_option.Dealloc.{Dealloc}
 use Rattle.bt_base.specs.declared.pool_metric.Metric.{Metric}
-use Rattle.formula_names.specs.declared.names.Setting.{Setting}
-use Rattle.formula_names.specs.declared.names.Setting.TheVariants.{DedicatedNodes, LowPriorityNodes, Deallocation}
-use Rattle.formula_names.specs.Names.{metric_named, interval_named, setting_named}
+use Rattle.formula_trees.specs.declared.names.Setting.{Setting}
+use Rattle.formula_trees.specs.declared.names.Setting.TheVariants.{DedicatedNodes, LowPriorityNodes, Deallocation}
+use Rattle.formula_trees.specs.Names.{metric_named, interval_named, setting_named}
 use Rattle.formula_values.specs.declared.fault.ValueFault.{ValueFault}
 use Rattle.formula_values.specs.declared.value.Value.{Value}
 use Rattle.formula_values.specs.declared.value.Value.TheVariants.{Text}

@@ -2,12 +2,12 @@
 use Rattle.std.specs.Prelude.{ℕ, nat_le, ℤ, pos, negsuc, List, [], ◌∷◌, Option, Some, None, Result, Ok, Err, if◌then◌else◌}
 use Rattle.bt_base.specs.Fails.{◌>>=◌}
 use Rattle.bt_base.specs.declared.dealloc_option.Dealloc.{Dealloc}
-use Rattle.formula_lex.specs.declared.token.Span.{Span}
+use Rattle.formula_trees.specs.declared.token.Span.{Span}
 use Rattle.formula_trees.specs.Tree.{Tree}
 use Rattle.formula_trees.specs.Formula.{StatementTree, Sets, Drops}
-use Rattle.formula_names.specs.declared.names.Setting.{Setting}
-use Rattle.formula_names.specs.declared.names.Setting.TheVariants.{DedicatedNodes, LowPriorityNodes, Deallocation}
-use Rattle.formula_names.specs.Names.{setting_named}
+use Rattle.formula_trees.specs.declared.names.Setting.{Setting}
+use Rattle.formula_trees.specs.declared.names.Setting.TheVariants.{DedicatedNodes, LowPriorityNodes, Deallocation}
+use Rattle.formula_trees.specs.Names.{setting_named}
 use Rattle.formula_types.specs.Scopes.{part}
 use Rattle.formula_values.specs.declared.fault.ValueFault.{ValueFault}
 use Rattle.formula_values.specs.declared.fault.ValueFault.TheVariants.{NegativeTarget, TargetTooLarge, NotAnOption}

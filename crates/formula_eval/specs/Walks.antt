@@ -6,13 +6,13 @@ use Rattle.bt_base.specs.Fails.{◌>>=◌}
 use Rattle.bt_base.specs.declared.fail.Fail.{Fail}
 use Rattle.bt_base.specs.declared.fail.Fail.TheVariants.{Memory, Why}
 use Rattle.formula_trees.specs.declared.tree.Expr.{Expr}
-use Rattle.formula_lex.specs.declared.token.Span.{Span}
-use Rattle.formula_lex.specs.declared.token.BinaryOperator.{BinaryOperator}
+use Rattle.formula_trees.specs.declared.token.Span.{Span}
+use Rattle.formula_trees.specs.declared.token.BinaryOperator.{BinaryOperator}
 use Rattle.formula_trees.specs.Tree.{Tree, Trees, Member, Unary, Binary, Ternary}
 use Rattle.formula_trees.specs.Formula.{StatementTree}
 use Rattle.formula_trees.specs.View.{tree_of}
 use Rattle.bt_base.specs.declared.pool_metric.Metric.{Metric}
-use Rattle.formula_names.specs.Names.{function_named, member_named, method_named}
+use Rattle.formula_trees.specs.Names.{function_named, member_named, method_named}
 use Rattle.formula_types.specs.Scopes.{part}
 use Rattle.formula_values.specs.declared.value.Value.{Value}
 use Rattle.formula_values.specs.declared.value.Value.TheVariants.{DoubleVec}

@@ -1,7 +1,7 @@
 //! The value at a token, once its operands or arguments have values.
 ghost use Rattle.std.specs.Prelude.{◌≡◌};
 ghost use Rattle.bt_base.specs.Fails.{Gives};
-ghost use Rattle.formula_names.specs.Names.{function_named, member_named};
+ghost use Rattle.formula_trees.specs.Names.{function_named, member_named};
 ghost use Rattle.formula_types.specs.Scopes.{part as part_of};
 ghost use Rattle.formula_trees.specs.View.{tree_of};
 ghost use Rattle.formula_values.specs.Operators.{unary_value, binary_value};
@@ -13,9 +13,7 @@ use crate::context::EvalContext;
 use crate::fault::{EvalFault, Interrupt};
 use crate::names::name_value;
 use bt_base::{Fail, Moment};
-use formula_lex::{BinaryOperator, Span};
-use formula_names::{Function, Metric, function_named, member_named, method_named, metric_named};
-use formula_trees::{Expr, UnaryOperator};
+use formula_trees::{BinaryOperator, Expr, Function, Metric, Span, UnaryOperator, function_named, member_named, method_named, metric_named};
 use formula_types::part;
 use formula_values::{Value, ValueFault, binary, call, is_true, member, truth, unary, whole};
 use std::alloc::Global;

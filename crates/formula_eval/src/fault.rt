@@ -3,7 +3,7 @@ ghost use Rattle.std.specs.Prelude.{◌≡◌};
 ghost use Rattle.formula_values.specs.Faults.{fault_name};
 
 use bt_base::Fail;
-use formula_lex::Span;
+use formula_trees::Span;
 use formula_values::ValueFault;
 
 /// The first fault of a formula's evaluation, with its place, which counts the text's bytes from 0: that of the operator, of the name

@@ -1,7 +1,7 @@
 //! The values of names.
 ghost use Rattle.std.specs.Prelude.{◌≡◌, IfOk, OnErr};
 ghost use Rattle.bt_base.specs.Fails.{Gives};
-ghost use Rattle.formula_names.specs.Names.{setting_named};
+ghost use Rattle.formula_trees.specs.Names.{setting_named};
 ghost use Rattle.formula_eval.specs.Names.{setting_value, setting_or, variable_or, constant_value, name_value};
 ghost use Rattle.formula_eval.specs.Outcomes.{value_among};
 ghost use Rattle.formula_values.specs.Values.{no_value};
@@ -10,7 +10,7 @@ use crate::outcome::Outcome;
 use crate::strings::copied;
 use bt_base::{Duplicate, Fail, NoMemory, option_named, option_word};
 use formula_metrics::Metrics;
-use formula_names::{Setting, interval_named, metric_named, setting_named};
+use formula_trees::{Setting, interval_named, metric_named, setting_named};
 use formula_values::{Value, ValueFault, interval_value, whole};
 use std::alloc::Global;
 

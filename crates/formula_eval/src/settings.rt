@@ -1,7 +1,7 @@
 //! What a statement sets.
 ghost use Rattle.std.specs.Prelude.{◌≡◌};
 ghost use Rattle.bt_base.specs.Fails.{GivesAs, IsAs};
-ghost use Rattle.formula_names.specs.Names.{setting_named};
+ghost use Rattle.formula_trees.specs.Names.{setting_named};
 ghost use Rattle.formula_types.specs.Scopes.{part as part_of};
 ghost use Rattle.formula_trees.specs.View.{statement_of};
 ghost use Rattle.formula_eval.specs.Statements.{target_within, target_of, chosen_or, with_setting, with_name, assigned, settled};
@@ -11,9 +11,7 @@ use crate::fault::EvalFault;
 use crate::outcome::Outcome;
 use crate::strings::text_in;
 use bt_base::{Fail, Num, option_named};
-use formula_lex::Span;
-use formula_names::{Setting, setting_named};
-use formula_trees::Statement;
+use formula_trees::{Setting, Span, Statement, setting_named};
 use formula_types::part;
 use formula_values::{Value, ValueFault, floor_of};
 use std::alloc::Global;

@@ -4,11 +4,11 @@ use Rattle.std.specs.Prelude.{◌||◌, ℤ, pos, codes, option_map, bytes_eq}
 use Rattle.std.specs.Cmp.Lexicographic.{bytes_decides}
 use Rattle.bt_base.specs.declared.dealloc_option.Dealloc.{Dealloc}
 use Rattle.bt_base.specs.declared.pool_metric.Metric.{Metric}
-use Rattle.formula_names.specs.declared.names.Setting.{Setting}
-use Rattle.formula_names.specs.declared.names.Setting.TheVariants.{DedicatedNodes, LowPriorityNodes, Deallocation}
-use Rattle.formula_names.specs.declared.value_types.ValueType.{ValueType}
-use Rattle.formula_names.specs.declared.value_types.ValueType.TheVariants as types
-use Rattle.formula_names.specs.Names.{metric_named, interval_named, is_option_word, setting_named, setting_type, fixed_type}
+use Rattle.formula_trees.specs.declared.names.Setting.{Setting}
+use Rattle.formula_trees.specs.declared.names.Setting.TheVariants.{DedicatedNodes, LowPriorityNodes, Deallocation}
+use Rattle.formula_trees.specs.declared.value_types.ValueType.{ValueType}
+use Rattle.formula_trees.specs.declared.value_types.ValueType.TheVariants as types
+use Rattle.formula_trees.specs.Names.{metric_named, interval_named, is_option_word, setting_named, setting_type, fixed_type}
 use Rattle.formula_types.specs.Scopes.{Variables, nothing, or_else, name_type, with_variable}
 use Rattle.formula_values.specs.declared.fault.ValueFault.{ValueFault}
 use Rattle.formula_values.specs.declared.fault.ValueFault.TheVariants.{TimeOutOfRange}

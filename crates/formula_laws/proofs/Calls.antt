@@ -3,14 +3,14 @@ use Rattle.std.proofs.Common.{◌≡◌, ◌||◌, ℕ, ℤ, true, List, [], ◌
 use Rattle.std.specs.Prelude.{pos, negsuc, int_lt, unsigned_abs, slice_get}
 use Rattle.bt_base.specs.declared.fail.Fail.TheVariants.{Memory, Why}
 use Rattle.bt_base.specs.Numbers.{bounded}
-use Rattle.formula_lex.specs.declared.token.Span.{Span}
-use Rattle.formula_names.specs.declared.names.Function.{Function}
-use Rattle.formula_names.specs.declared.names.Function.TheVariants.{Avg, Max, Min, Sum, Range, Len, Norm, Percentile, Val, Ceil, Floor, Round, Time, Stop}
-use Rattle.formula_names.specs.declared.names.Member.{Member}
-use Rattle.formula_names.specs.declared.value_types.ExprType.TheVariants.{Value as V}
-use Rattle.formula_names.specs.declared.value_types.ValueType.{ValueType}
-use Rattle.formula_names.specs.declared.value_types.ValueType.TheVariants as types
-use Rattle.formula_names.specs.Signatures.{function_takes, function_result}
+use Rattle.formula_trees.specs.declared.token.Span.{Span}
+use Rattle.formula_trees.specs.declared.names.Function.{Function}
+use Rattle.formula_trees.specs.declared.names.Function.TheVariants.{Avg, Max, Min, Sum, Range, Len, Norm, Percentile, Val, Ceil, Floor, Round, Time, Stop}
+use Rattle.formula_trees.specs.declared.names.Member.{Member}
+use Rattle.formula_trees.specs.declared.value_types.ExprType.TheVariants.{Value as V}
+use Rattle.formula_trees.specs.declared.value_types.ValueType.{ValueType}
+use Rattle.formula_trees.specs.declared.value_types.ValueType.TheVariants as types
+use Rattle.formula_trees.specs.Signatures.{function_takes, function_result}
 use Rattle.formula_values.specs.declared.fault.ValueFault.{ValueFault}
 use Rattle.formula_values.specs.declared.fault.ValueFault.TheVariants.{IndexOutOfRange}
 use Rattle.formula_values.specs.declared.value.Value.{Value}

@@ -2,18 +2,18 @@
 use Rattle.std.proofs.Common.{◌≡◌, ℕ, Bool, true, false, cond, List, [], ◌∷◌, ◌++◌, map, Option, Some, None, Result, Ok, refl, sym, ap, ◌∙◌}
 use Rattle.std.specs.List.{list_all}
 use Rattle.bt_base.specs.Fails.{◌>>=◌}
-use Rattle.formula_lex.specs.declared.token.Span.{Span}
-use Rattle.formula_lex.specs.declared.token.BinaryOperator.{BinaryOperator}
+use Rattle.formula_trees.specs.declared.token.Span.{Span}
+use Rattle.formula_trees.specs.declared.token.BinaryOperator.{BinaryOperator}
 use Rattle.formula_trees.specs.Tree.{Tree, Numeral, Quoted, Variable, Call, Vector, Member, Method, Unary, Binary, Ternary, Trees, none, more}
 use Rattle.bt_base.specs.declared.pool_metric.Metric.{Metric}
-use Rattle.formula_names.specs.declared.value_types.ValueType.{ValueType}
-use Rattle.formula_names.specs.declared.value_types.ValueType.TheVariants as types
-use Rattle.formula_names.specs.declared.value_types.ExprType.{ExprType}
-use Rattle.formula_names.specs.declared.value_types.ExprType.TheVariants.{Value as V, Stop}
-use Rattle.formula_names.specs.Names.{metric_named, function_named, method_named, member_named}
-use Rattle.formula_names.specs.Operators as names
-use Rattle.formula_names.specs.Operators.{valued, unary_type, binary_type, ternary_type, branch_type, common_type}
-use Rattle.formula_names.specs.Signatures.{is_double, function_takes, method_takes}
+use Rattle.formula_trees.specs.declared.value_types.ValueType.{ValueType}
+use Rattle.formula_trees.specs.declared.value_types.ValueType.TheVariants as types
+use Rattle.formula_trees.specs.declared.value_types.ExprType.{ExprType}
+use Rattle.formula_trees.specs.declared.value_types.ExprType.TheVariants.{Value as V, Stop}
+use Rattle.formula_trees.specs.Names.{metric_named, function_named, method_named, member_named}
+use Rattle.formula_trees.specs.Operators as names
+use Rattle.formula_trees.specs.Operators.{valued, unary_type, binary_type, ternary_type, branch_type, common_type}
+use Rattle.formula_trees.specs.Signatures.{is_double, function_takes, method_takes}
 use Rattle.formula_types.specs.Scopes.{Variables, part, name_type}
 use Rattle.formula_types.specs.Typing as typing
 use Rattle.formula_types.specs.Typing.{type_of, types_of, or_mismatch, name_at, list_at, is_metric}

@@ -1,16 +1,16 @@
 -- Before each statement of a formula the variables have values of their types.
 use Rattle.std.proofs.Common.{◌≡◌, ℕ, Bool, true, false, cond, List, [], ◌∷◌, ◌++◌, Option, Some, None, Result, Ok, Err, is_some, refl, sym, ap, ◌∙◌, subst}
 use Rattle.std.specs.Prelude.{◌||◌, option_map}
-use Rattle.formula_lex.specs.declared.token.Span.{Span}
+use Rattle.formula_trees.specs.declared.token.Span.{Span}
 use Rattle.formula_trees.specs.Tree.{Tree}
 use Rattle.formula_trees.specs.Formula.{StatementTree, Sets, Drops}
-use Rattle.formula_names.specs.declared.names.Setting.{Setting}
-use Rattle.formula_names.specs.declared.names.Setting.TheVariants.{DedicatedNodes, LowPriorityNodes, Deallocation}
-use Rattle.formula_names.specs.declared.value_types.ValueType.{ValueType}
-use Rattle.formula_names.specs.declared.value_types.ValueType.TheVariants as types
-use Rattle.formula_names.specs.declared.value_types.ExprType.{ExprType}
-use Rattle.formula_names.specs.Names.{metric_named, interval_named, is_option_word, setting_named, setting_type, function_named, fixed_type, is_read_only}
-use Rattle.formula_names.specs.Operators.{common_type}
+use Rattle.formula_trees.specs.declared.names.Setting.{Setting}
+use Rattle.formula_trees.specs.declared.names.Setting.TheVariants.{DedicatedNodes, LowPriorityNodes, Deallocation}
+use Rattle.formula_trees.specs.declared.value_types.ValueType.{ValueType}
+use Rattle.formula_trees.specs.declared.value_types.ValueType.TheVariants as types
+use Rattle.formula_trees.specs.declared.value_types.ExprType.{ExprType}
+use Rattle.formula_trees.specs.Names.{metric_named, interval_named, is_option_word, setting_named, setting_type, function_named, fixed_type, is_read_only}
+use Rattle.formula_trees.specs.Operators.{common_type}
 use Rattle.formula_types.specs.declared.fault.TypeFault.TheVariants.{TypeMismatch, ReadOnly}
 use Rattle.formula_types.specs.Compiled.{IsFormula}
 use Rattle.formula_types.specs.Scopes.{Variables, nothing, part, or_else, name_type, with_variable}

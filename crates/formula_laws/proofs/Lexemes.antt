@@ -4,18 +4,18 @@ use Rattle.std.proofs.Common.{ap, ◌∙◌, subst}
 use Rattle.std.specs.Prelude.{◌==◌, ℤ}
 use Rattle.std.specs.Char.{is_ascii_digit}
 use Rattle.std.proofs.lemmas.List.{drop-drop}
-use Rattle.formula_lex.specs.declared.fault.LexFault.{LexFault}
-use Rattle.formula_lex.specs.declared.piece.Piece.{Piece}
-use Rattle.formula_lex.specs.declared.piece.Piece.TheVariants.{Gap, Lexeme, Wrong}
-use Rattle.formula_lex.specs.declared.token.BinaryOperator.TheVariants.{Or, And, Equal, NotEqual, Less, AtMost, Greater, AtLeast, Add, Subtract, Multiply}
-use Rattle.formula_lex.specs.declared.token.BinaryOperator.TheVariants.{Divide}
-use Rattle.formula_lex.specs.declared.token.Kind.{Kind}
-use Rattle.formula_lex.specs.declared.token.Kind.TheVariants.{Number, Text, Name, Infix, Bang, Question, Colon, Comma, Semicolon, Assign, Dot, OpenGroup}
-use Rattle.formula_lex.specs.declared.token.Kind.TheVariants.{CloseGroup, OpenList, CloseList}
-use Rattle.formula_lex.specs.declared.token.Token.{Token}
-use Rattle.formula_lex.specs.Lexing.{prepended, token_at, with_piece, tokens_in, lexed}
-use Rattle.formula_lex.specs.Pieces.{is_blank, is_line_end, is_name_byte, next_byte, up_to, begins_comment, begins_name, number_or_fault, number_at, string_at}
-use Rattle.formula_lex.specs.Pieces.{mark_of, mark_at, two_marks, one_mark, one_operator, other_mark, or_else, piece_at}
+use Rattle.formula_trees.specs.declared.lex_fault.LexFault.{LexFault}
+use Rattle.formula_trees.specs.declared.piece.Piece.{Piece}
+use Rattle.formula_trees.specs.declared.piece.Piece.TheVariants.{Gap, Lexeme, Wrong}
+use Rattle.formula_trees.specs.declared.token.BinaryOperator.TheVariants.{Or, And, Equal, NotEqual, Less, AtMost, Greater, AtLeast, Add, Subtract, Multiply}
+use Rattle.formula_trees.specs.declared.token.BinaryOperator.TheVariants.{Divide}
+use Rattle.formula_trees.specs.declared.token.Kind.{Kind}
+use Rattle.formula_trees.specs.declared.token.Kind.TheVariants.{Number, Text, Name, Infix, Bang, Question, Colon, Comma, Semicolon, Assign, Dot, OpenGroup}
+use Rattle.formula_trees.specs.declared.token.Kind.TheVariants.{CloseGroup, OpenList, CloseList}
+use Rattle.formula_trees.specs.declared.token.Token.{Token}
+use Rattle.formula_trees.specs.Lexing.{prepended, token_at, with_piece, tokens_in, lexed}
+use Rattle.formula_trees.specs.Pieces.{is_blank, is_line_end, is_name_byte, next_byte, up_to, begins_comment, begins_name, number_or_fault, number_at, string_at}
+use Rattle.formula_trees.specs.Pieces.{mark_of, mark_at, two_marks, one_mark, one_operator, other_mark, or_else, piece_at}
 
 -- an operator or another mark
 abbrev pub is_mark : Kind → Bool

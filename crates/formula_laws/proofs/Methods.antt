@@ -1,11 +1,11 @@
 -- Methods of metrics keep types: their results have the types that were found.
 use Rattle.std.proofs.Common.{◌≡◌, ℕ, ℤ, Bool, true, false, ◌&&◌, List, [], ◌∷◌, map, Option, Some, None, Ok, refl, ap}
 use Rattle.std.specs.Prelude.{◌*◌, pos, negsuc, int_lt}
-use Rattle.formula_names.specs.declared.names.Method.{Method}
-use Rattle.formula_names.specs.declared.names.Method.TheVariants.{GetSample, GetSamplePercent, GetSamplePeriod, Count, HistoryBeginTime}
-use Rattle.formula_names.specs.declared.value_types.ExprType.TheVariants.{Value as V}
-use Rattle.formula_names.specs.declared.value_types.ValueType.TheVariants as types
-use Rattle.formula_names.specs.Signatures.{method_takes, method_result}
+use Rattle.formula_trees.specs.declared.names.Method.{Method}
+use Rattle.formula_trees.specs.declared.names.Method.TheVariants.{GetSample, GetSamplePercent, GetSamplePeriod, Count, HistoryBeginTime}
+use Rattle.formula_trees.specs.declared.value_types.ExprType.TheVariants.{Value as V}
+use Rattle.formula_trees.specs.declared.value_types.ValueType.TheVariants as types
+use Rattle.formula_trees.specs.Signatures.{method_takes, method_result}
 use Rattle.formula_values.specs.declared.value.Value.{Value}
 use Rattle.formula_values.specs.declared.value.Value.TheVariants.{Double, DoubleVec}
 use Rattle.formula_values.specs.Functions.{floor_of}

@@ -10,13 +10,13 @@ use Rattle.std.proofs.lemmas.List.{drop-drop}
 use Rattle.std.proofs.lemmas.List.Sums.{prefix_len-le-length}
 use Rattle.std.proofs.lemmas.Str.{IsUtf8-from_ascii}
 use Rattle.bt_base.proofs.Utf8Texts.{of_text}
-use Rattle.formula_lex.specs.declared.fault.LexFault.TheVariants.{OpenString}
-use Rattle.formula_lex.specs.declared.piece.Piece.TheVariants.{Lexeme, Wrong}
-use Rattle.formula_lex.specs.declared.token.Kind.{Kind}
-use Rattle.formula_lex.specs.declared.token.Kind.TheVariants.{Number, Text, Name, Semicolon}
-use Rattle.formula_lex.specs.declared.token.Span.{Span}
-use Rattle.formula_lex.specs.declared.token.Token.{Token}
-use Rattle.formula_lex.specs.Pieces.{is_name_byte, next_byte, or_all, up_to, begins_name, string_with}
+use Rattle.formula_trees.specs.declared.lex_fault.LexFault.TheVariants.{OpenString}
+use Rattle.formula_trees.specs.declared.piece.Piece.TheVariants.{Lexeme, Wrong}
+use Rattle.formula_trees.specs.declared.token.Kind.{Kind}
+use Rattle.formula_trees.specs.declared.token.Kind.TheVariants.{Number, Text, Name, Semicolon}
+use Rattle.formula_trees.specs.declared.token.Span.{Span}
+use Rattle.formula_trees.specs.declared.token.Token.{Token}
+use Rattle.formula_trees.specs.Pieces.{is_name_byte, next_byte, or_all, up_to, begins_name, string_with}
 use Rattle.formula_trees.specs.Tree.{Tree}
 use Rattle.formula_trees.specs.Grammar.{at}
 use Rattle.formula_trees.specs.Formula.{StatementTree, Sets, ReadsStatement, sets, drops, ReadsFormula, empty, last, then}

@@ -3,17 +3,17 @@ use Rattle.std.proofs.Common.{◌≡◌, ℕ, List, [], ◌∷◌, ◌++◌, Opt
 use Rattle.std.specs.Prelude.{option_map}
 use Rattle.std.specs.List.{list_all}
 use Rattle.bt_base.specs.Fails.{◌>>=◌}
-use Rattle.formula_lex.specs.declared.token.BinaryOperator.{BinaryOperator}
+use Rattle.formula_trees.specs.declared.token.BinaryOperator.{BinaryOperator}
 use Rattle.formula_trees.specs.declared.tree.UnaryOperator.{UnaryOperator}
 use Rattle.formula_trees.specs.Tree.{Tree, Numeral, Quoted, Variable, Call, Vector, Member, Method, Unary, Binary, Ternary, Trees, none, more}
-use Rattle.formula_names.specs.declared.value_types.ValueType.{ValueType}
-use Rattle.formula_names.specs.declared.value_types.ValueType.TheVariants as types
-use Rattle.formula_names.specs.declared.value_types.ExprType.{ExprType}
-use Rattle.formula_names.specs.declared.value_types.ExprType.TheVariants.{Value as V}
-use Rattle.formula_names.specs.Names.{fixed_type, function_named, method_named, member_named}
-use Rattle.formula_names.specs.Operators as names
-use Rattle.formula_names.specs.Operators.{unary_type, binary_type, ternary_type}
-use Rattle.formula_names.specs.Signatures.{is_double, function_takes, method_takes}
+use Rattle.formula_trees.specs.declared.value_types.ValueType.{ValueType}
+use Rattle.formula_trees.specs.declared.value_types.ValueType.TheVariants as types
+use Rattle.formula_trees.specs.declared.value_types.ExprType.{ExprType}
+use Rattle.formula_trees.specs.declared.value_types.ExprType.TheVariants.{Value as V}
+use Rattle.formula_trees.specs.Names.{fixed_type, function_named, method_named, member_named}
+use Rattle.formula_trees.specs.Operators as names
+use Rattle.formula_trees.specs.Operators.{unary_type, binary_type, ternary_type}
+use Rattle.formula_trees.specs.Signatures.{is_double, function_takes, method_takes}
 use Rattle.formula_types.specs.Scopes.{Variables, part, or_else, name_type}
 use Rattle.formula_types.specs.Typing as typing
 use Rattle.formula_types.specs.Typing.{type_of, types_of, or_mismatch, list_at, is_metric}

@@ -4,15 +4,15 @@ use Rattle.std.specs.Prelude.{◌==◌, pos, ◌+ℤ◌, ◌-ℤ◌, ◌*ℤ◌}
 use Rattle.std.specs.Ordering.{int_eq}
 use Rattle.bt_base.specs.declared.number.NumFault.{NumFault}
 use Rattle.bt_base.specs.Numbers.{cut, sum_of, difference_of, product_of, quotient_of}
-use Rattle.formula_lex.specs.declared.token.BinaryOperator.{BinaryOperator}
-use Rattle.formula_lex.specs.declared.token.BinaryOperator.TheVariants.{Or, And, Equal, NotEqual, Less, AtMost, Greater, AtLeast, Add, Subtract, Multiply}
-use Rattle.formula_lex.specs.declared.token.BinaryOperator.TheVariants.{Divide}
+use Rattle.formula_trees.specs.declared.token.BinaryOperator.{BinaryOperator}
+use Rattle.formula_trees.specs.declared.token.BinaryOperator.TheVariants.{Or, And, Equal, NotEqual, Less, AtMost, Greater, AtLeast, Add, Subtract, Multiply}
+use Rattle.formula_trees.specs.declared.token.BinaryOperator.TheVariants.{Divide}
 use Rattle.formula_trees.specs.declared.tree.UnaryOperator.{UnaryOperator}
 use Rattle.formula_trees.specs.declared.tree.UnaryOperator.TheVariants.{Negate, Invert}
-use Rattle.formula_names.specs.declared.value_types.ValueType.{ValueType}
-use Rattle.formula_names.specs.declared.value_types.ValueType.TheVariants as types
-use Rattle.formula_names.specs.Operators as names
-use Rattle.formula_names.specs.Operators.{numeric_type, sum_type, difference_type, product_type, quotient_type, common_type, comparison_type, logic_type}
+use Rattle.formula_trees.specs.declared.value_types.ValueType.{ValueType}
+use Rattle.formula_trees.specs.declared.value_types.ValueType.TheVariants as types
+use Rattle.formula_trees.specs.Operators as names
+use Rattle.formula_trees.specs.Operators.{numeric_type, sum_type, difference_type, product_type, quotient_type, common_type, comparison_type, logic_type}
 use Rattle.formula_values.specs.declared.fault.ValueFault.{ValueFault}
 use Rattle.formula_values.specs.declared.value.Value.{Value}
 use Rattle.formula_values.specs.declared.value.Value.TheVariants.{Double, DoubleVec, Timestamp, TimeInterval}

@@ -12,15 +12,15 @@ use Rattle.std.proofs.Math.Seq.{take-append_seam, take-append-add, drop-append-a
 use Rattle.std.proofs.lemmas.List.{get_or-append-add}
 use Rattle.std.proofs.lemmas.Str.{IsUtf8-between, IsCharBoundary-before_ascii, IsCharBoundary-after_ascii}
 use Rattle.bt_base.proofs.Utf8Texts.{of_text}
-use Rattle.formula_lex.specs.declared.piece.Piece.TheVariants.{Lexeme, Wrong}
-use Rattle.formula_lex.specs.declared.fault.LexFault.TheVariants.{OpenString}
-use Rattle.formula_lex.specs.declared.token.Kind.{Kind}
-use Rattle.formula_lex.specs.declared.token.Kind.TheVariants.{Number, Text, Name}
-use Rattle.formula_lex.specs.declared.token.Span.{Span}
-use Rattle.formula_lex.specs.declared.token.Token.{Token}
-use Rattle.formula_lex.specs.Lexing.{lexed, token_at}
-use Rattle.formula_lex.specs.Pieces.{is_string_end, next_byte, or_all, up_to, string_with, string_at}
-use Rattle.formula_lex.specs.Spans.{span_of}
+use Rattle.formula_trees.specs.declared.piece.Piece.TheVariants.{Lexeme, Wrong}
+use Rattle.formula_trees.specs.declared.lex_fault.LexFault.TheVariants.{OpenString}
+use Rattle.formula_trees.specs.declared.token.Kind.{Kind}
+use Rattle.formula_trees.specs.declared.token.Kind.TheVariants.{Number, Text, Name}
+use Rattle.formula_trees.specs.declared.token.Span.{Span}
+use Rattle.formula_trees.specs.declared.token.Token.{Token}
+use Rattle.formula_trees.specs.Lexing.{lexed, token_at}
+use Rattle.formula_trees.specs.Pieces.{is_string_end, next_byte, or_all, up_to, string_with, string_at}
+use Rattle.formula_trees.specs.Spans.{span_of}
 use Rattle.formula_trees.specs.Tree.{Quoted}
 use Rattle.formula_types.specs.Scopes.{part}
 use Rattle.formula_values.specs.declared.value.Value.TheVariants as values

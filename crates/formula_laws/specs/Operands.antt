@@ -3,17 +3,17 @@
 use Rattle.std.specs.Prelude.{◌≡◌, ℕ, true, List, map, Some, None, Ok, IsSome}
 use Rattle.std.specs.List.{list_all}
 use Rattle.formula_trees.specs.Tree.{Tree, Numeral, Quoted, Variable, Call, Vector, Member, Method, Unary, Binary, Ternary, Trees, none, more}
-use Rattle.formula_names.specs.declared.names.Function.{Function}
-use Rattle.formula_names.specs.declared.names.Member.{Member as AMember}
-use Rattle.formula_names.specs.declared.names.Method.{Method as AMethod}
+use Rattle.formula_trees.specs.declared.names.Function.{Function}
+use Rattle.formula_trees.specs.declared.names.Member.{Member as AMember}
+use Rattle.formula_trees.specs.declared.names.Method.{Method as AMethod}
 use Rattle.bt_base.specs.declared.pool_metric.Metric.{Metric}
-use Rattle.formula_names.specs.declared.value_types.ExprType.{ExprType}
-use Rattle.formula_names.specs.declared.value_types.ExprType.TheVariants as exprs
-use Rattle.formula_names.specs.declared.value_types.ValueType.{ValueType}
-use Rattle.formula_names.specs.declared.value_types.ValueType.TheVariants as types
-use Rattle.formula_names.specs.Names.{fixed_type, function_named, member_named, method_named}
-use Rattle.formula_names.specs.Operators as names
-use Rattle.formula_names.specs.Signatures.{is_double, function_takes, method_takes}
+use Rattle.formula_trees.specs.declared.value_types.ExprType.{ExprType}
+use Rattle.formula_trees.specs.declared.value_types.ExprType.TheVariants as exprs
+use Rattle.formula_trees.specs.declared.value_types.ValueType.{ValueType}
+use Rattle.formula_trees.specs.declared.value_types.ValueType.TheVariants as types
+use Rattle.formula_trees.specs.Names.{fixed_type, function_named, member_named, method_named}
+use Rattle.formula_trees.specs.Operators as names
+use Rattle.formula_trees.specs.Signatures.{is_double, function_takes, method_takes}
 use Rattle.formula_types.specs.Scopes.{part}
 use Rattle.formula_values.specs.declared.value.Value.{Value}
 use Rattle.formula_metrics.specs.declared.metrics.Metrics.{Metrics}

@@ -1,8 +1,8 @@
 -- The strings in a formula's text.
 use Rattle.std.specs.Prelude.{◌≡◌, ℕ, ◌+◌, true, not, List, ◌∷◌, ◌++◌, length}
 use Rattle.std.specs.List.{list_all}
-use Rattle.formula_lex.specs.declared.token.Span.{Span}
-use Rattle.formula_lex.specs.Pieces.{is_string_end}
+use Rattle.formula_trees.specs.declared.token.Span.{Span}
+use Rattle.formula_trees.specs.Pieces.{is_string_end}
 
 -- this part of a text is a `"`, these bytes, of which none is a `"` or LF, and a `"`
 pub record IsQuoted (text : List ℕ) (span : Span) (bytes : List ℕ) : Type 0 where

@@ -1,10 +1,10 @@
 //! The value of a string.
 ghost use Rattle.std.specs.Prelude.{◌≡◌, ◌∷◌, ◌++◌, ℕ, List, Ok};
 ghost use Rattle.std.specs.Str.{IsUtf8};
-ghost use Rattle.formula_lex.specs.declared.token.Token.{Token as AToken};
-ghost use Rattle.formula_lex.specs.declared.token.Kind.TheVariants as kinds;
-ghost use Rattle.formula_lex.specs.Lexing.{lexed};
-ghost use Rattle.formula_lex.specs.Spans.{span_of};
+ghost use Rattle.formula_trees.specs.declared.token.Token.{Token as AToken};
+ghost use Rattle.formula_trees.specs.declared.token.Kind.TheVariants as kinds;
+ghost use Rattle.formula_trees.specs.Lexing.{lexed};
+ghost use Rattle.formula_trees.specs.Spans.{span_of};
 ghost use Rattle.formula_trees.specs.Tree.{Quoted};
 ghost use Rattle.formula_values.specs.declared.value.Value.TheVariants as values;
 ghost use Rattle.formula_metrics.specs.declared.metrics.Metrics.{Metrics as AllMetrics};

@@ -1,12 +1,12 @@
 //! Each value has the type that was found for its expression.
 ghost use Rattle.std.specs.Prelude.{◌≡◌, ◌⊎◌, ◌++◌, ℕ, List, Some, Ok};
 ghost use Rattle.formula_trees.specs.Tree.{Tree};
-ghost use Rattle.formula_lex.specs.declared.token.Span.{Span as ASpan};
+ghost use Rattle.formula_trees.specs.declared.token.Span.{Span as ASpan};
 ghost use Rattle.formula_trees.specs.Formula.{StatementTree, Sets};
-ghost use Rattle.formula_names.specs.declared.value_types.ExprType.{ExprType as AType};
-ghost use Rattle.formula_names.specs.declared.value_types.ExprType.TheVariants.{Value};
-ghost use Rattle.formula_names.specs.declared.names.Setting.{Setting as ASetting};
-ghost use Rattle.formula_names.specs.Names.{setting_named, setting_type};
+ghost use Rattle.formula_trees.specs.declared.value_types.ExprType.{ExprType as AType};
+ghost use Rattle.formula_trees.specs.declared.value_types.ExprType.TheVariants.{Value};
+ghost use Rattle.formula_trees.specs.declared.names.Setting.{Setting as ASetting};
+ghost use Rattle.formula_trees.specs.Names.{setting_named, setting_type};
 ghost use Rattle.formula_types.specs.Scopes.{Variables, nothing, part};
 ghost use Rattle.formula_types.specs.Typing.{type_of, statement_typed, typed};
 ghost use Rattle.formula_types.specs.Compiled.{IsFormula};

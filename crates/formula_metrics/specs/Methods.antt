@@ -3,8 +3,8 @@ use Rattle.std.specs.Prelude.{ℕ, ◌*◌, ℤ, pos, negsuc, ◌-ℤ◌, int_lt
 use Rattle.bt_base.specs.Numbers.{cut}
 use Rattle.bt_samples.specs.declared.history.Sample.{Sample}
 use Rattle.bt_samples.specs.Histories.{last_values, values_within, percent_within, oldest}
-use Rattle.formula_names.specs.declared.names.Method.{Method}
-use Rattle.formula_names.specs.declared.names.Method.TheVariants.{GetSample, GetSamplePercent, GetSamplePeriod, Count, HistoryBeginTime}
+use Rattle.formula_trees.specs.declared.names.Method.{Method}
+use Rattle.formula_trees.specs.declared.names.Method.TheVariants.{GetSample, GetSamplePercent, GetSamplePeriod, Count, HistoryBeginTime}
 use Rattle.formula_values.specs.declared.fault.ValueFault.{ValueFault}
 use Rattle.formula_values.specs.declared.fault.ValueFault.TheVariants.{EmptyVector, IndexOutOfRange, NotEnoughSamples}
 use Rattle.formula_values.specs.declared.value.Value.{Value}

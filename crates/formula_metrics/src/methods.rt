@@ -8,7 +8,7 @@ use crate::metrics::MetricPart;
 use crate::samples::{percent_value, sample_value};
 use bt_base::{Fail, Moment};
 use bt_samples::History;
-use formula_names::Method;
+use formula_trees::Method;
 use formula_values::{TimeInterval, Value, ValueFault, timestamp_value, whole};
 use std::alloc::Global;
 

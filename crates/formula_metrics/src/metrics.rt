@@ -5,7 +5,7 @@ ghost use Rattle.formula_metrics.specs.Parts.{blank, blank_metrics, part_of, wit
 
 use bt_base::{NoMemory, Num};
 use bt_samples::{History, SampleTooOld};
-use formula_names::Metric;
+use formula_trees::Metric;
 use std::alloc::Global;
 
 /// One metric: its value now, if it has one, and its last samples.

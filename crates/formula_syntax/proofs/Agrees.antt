@@ -4,15 +4,15 @@ use Rattle.std.proofs.Common.{⊎_elim, arith, lit≤}
 use Rattle.std.specs.Prelude.{nat_lt, if◌then◌else◌}
 use Rattle.std.specs.Option.{option_map}
 use Rattle.std.proofs.lemmas.Bool.{cases_lt}
-use Rattle.formula_lex.specs.declared.token.Span.{Span}
-use Rattle.formula_lex.specs.Spans.{span_of}
-use Rattle.formula_lex.specs.declared.token.BinaryOperator.{BinaryOperator}
-use Rattle.formula_lex.specs.declared.token.BinaryOperator.TheVariants.{Or, And, Equal, NotEqual, Less, AtMost, Greater, AtLeast, Add, Subtract, Multiply}
-use Rattle.formula_lex.specs.declared.token.BinaryOperator.TheVariants.{Divide}
-use Rattle.formula_lex.specs.declared.token.Kind.{Kind}
-use Rattle.formula_lex.specs.declared.token.Kind.TheVariants.{Number, Text, Name, Infix, Bang, Question, Colon, Comma, Semicolon, Assign, Dot, OpenGroup}
-use Rattle.formula_lex.specs.declared.token.Kind.TheVariants.{CloseGroup, OpenList, CloseList}
-use Rattle.formula_lex.specs.declared.token.Token.{Token}
+use Rattle.formula_trees.specs.declared.token.Span.{Span}
+use Rattle.formula_trees.specs.Spans.{span_of}
+use Rattle.formula_trees.specs.declared.token.BinaryOperator.{BinaryOperator}
+use Rattle.formula_trees.specs.declared.token.BinaryOperator.TheVariants.{Or, And, Equal, NotEqual, Less, AtMost, Greater, AtLeast, Add, Subtract, Multiply}
+use Rattle.formula_trees.specs.declared.token.BinaryOperator.TheVariants.{Divide}
+use Rattle.formula_trees.specs.declared.token.Kind.{Kind}
+use Rattle.formula_trees.specs.declared.token.Kind.TheVariants.{Number, Text, Name, Infix, Bang, Question, Colon, Comma, Semicolon, Assign, Dot, OpenGroup}
+use Rattle.formula_trees.specs.declared.token.Kind.TheVariants.{CloseGroup, OpenList, CloseList}
+use Rattle.formula_trees.specs.declared.token.Token.{Token}
 use Rattle.formula_trees.specs.declared.fault.SyntaxFault.{SyntaxFault}
 use Rattle.formula_trees.specs.declared.fault.TheConstants.{DEEPEST}
 use Rattle.formula_trees.specs.declared.fault.SyntaxFault.TheVariants.{UnexpectedToken, TooDeep}

@@ -1,9 +1,9 @@
 -- The faults of the parser are those of the table.
 use Rattle.std.proofs.Common.{◌≡◌, ℕ, suc, ◌<◌, length, get_or, drop, drop-cons, List, [], ◌∷◌, Option, Some, None, Result, Ok, Err, cond, refl, sym, ap, ◌∙◌}
 use Rattle.std.proofs.Common.{subst}
-use Rattle.formula_lex.specs.declared.token.Span.{Span}
-use Rattle.formula_lex.specs.Spans.{span_of}
-use Rattle.formula_lex.specs.declared.token.Token.{Token}
+use Rattle.formula_trees.specs.declared.token.Span.{Span}
+use Rattle.formula_trees.specs.Spans.{span_of}
+use Rattle.formula_trees.specs.declared.token.Token.{Token}
 use Rattle.formula_trees.specs.declared.tree.Statement.{Statement}
 use Rattle.formula_trees.specs.declared.fault.SyntaxFault.{SyntaxFault}
 use Rattle.formula_trees.specs.declared.fault.SyntaxFault.TheVariants.{TooDeep}
@@ -12,8 +12,8 @@ use Rattle.bt_base.specs.declared.fail.Fail.TheVariants.{Memory, Why}
 use Rattle.formula_trees.specs.Formula.{StatementTree}
 use Rattle.formula_trees.specs.TheFormula.{fault_in}
 use Rattle.std.specs.Option.{option_map}
-use Rattle.formula_lex.specs.declared.token.Kind.{Kind}
-use Rattle.formula_lex.specs.declared.token.Kind.TheVariants.{Semicolon}
+use Rattle.formula_trees.specs.declared.token.Kind.{Kind}
+use Rattle.formula_trees.specs.declared.token.Kind.TheVariants.{Semicolon}
 use Rattle.formula_syntax.specs.Parser.{State, step}
 use Rattle.formula_syntax.specs.Whole.{Whole, Between, Inside, Target, inside_whole, step_whole, on_token, parsed}
 use Rattle.formula_syntax.specs.Wholes.{FaultAt, TakesShallow, AnswersParsed}

@@ -1,12 +1,12 @@
 -- What is read as a tree, the parser takes, and it then has the tree.
 use Rattle.std.proofs.Common.{◌≡◌, ℕ, ◌≤◌, ◌≢◌, suc, List, [], ◌∷◌, ◌++◌, Option, Some, None, refl, sym, ap, ◌∙◌, subst, arith, lit≤}
-use Rattle.formula_lex.specs.declared.token.Span.{Span}
-use Rattle.formula_lex.specs.declared.token.BinaryOperator.{BinaryOperator}
+use Rattle.formula_trees.specs.declared.token.Span.{Span}
+use Rattle.formula_trees.specs.declared.token.BinaryOperator.{BinaryOperator}
 use Rattle.formula_trees.specs.declared.tree.UnaryOperator.{UnaryOperator}
 use Rattle.formula_trees.specs.declared.tree.UnaryOperator.TheVariants.{Negate, Invert}
-use Rattle.formula_lex.specs.declared.token.Kind.{Kind}
-use Rattle.formula_lex.specs.declared.token.Kind.TheVariants.{Name, Infix, Question, Colon, Comma, Dot, OpenGroup, CloseGroup, CloseList}
-use Rattle.formula_lex.specs.declared.token.Token.{Token}
+use Rattle.formula_trees.specs.declared.token.Kind.{Kind}
+use Rattle.formula_trees.specs.declared.token.Kind.TheVariants.{Name, Infix, Question, Colon, Comma, Dot, OpenGroup, CloseGroup, CloseList}
+use Rattle.formula_trees.specs.declared.token.Token.{Token}
 use Rattle.formula_trees.specs.Tree.{Tree, Numeral, Quoted, Call, Vector, Method, Unary, Binary, Ternary, Trees, none, more}
 use Rattle.formula_trees.specs.Grammar.{level_of, sign_of, at, Reads, number, text, name, group, call, vector, member, method, unary, binary, ternary, stronger}
 use Rattle.formula_trees.specs.Grammar.{ReadsItems, no_items, items, ReadsSome, first, next}

@@ -2,11 +2,11 @@
 use Rattle.std.proofs.Common.{◌≡◌, List, [], ◌∷◌, ◌++◌, Option, Some, None, refl, sym, ap, ◌∙◌, lit≤, append_assoc, append-nil}
 use Rattle.std.specs.Option.{option_map}
 use Rattle.std.proofs.lemmas.Option.{same_Some}
-use Rattle.formula_lex.specs.declared.token.Span.{Span}
-use Rattle.formula_lex.specs.Spans.{span_of}
-use Rattle.formula_lex.specs.declared.token.Kind.{Kind}
-use Rattle.formula_lex.specs.declared.token.Kind.TheVariants.{Name, Semicolon, Assign}
-use Rattle.formula_lex.specs.declared.token.Token.{Token}
+use Rattle.formula_trees.specs.declared.token.Span.{Span}
+use Rattle.formula_trees.specs.Spans.{span_of}
+use Rattle.formula_trees.specs.declared.token.Kind.{Kind}
+use Rattle.formula_trees.specs.declared.token.Kind.TheVariants.{Name, Semicolon, Assign}
+use Rattle.formula_trees.specs.declared.token.Token.{Token}
 use Rattle.formula_trees.specs.Tree.{Tree}
 use Rattle.formula_trees.specs.Grammar.{at}
 use Rattle.formula_trees.specs.Formula.{StatementTree, ReadsStatement, sets, drops, ReadsFormula, empty, last, then}

@@ -2,10 +2,10 @@
 use Rattle.std.proofs.Common.{◌≡◌, List, [], ◌∷◌, ◌++◌, Option, Some, None, refl, sym, ap, ◌∙◌, subst, append_assoc, append-nil}
 use Rattle.std.specs.Option.{option_map}
 use Rattle.std.proofs.lemmas.Option.{same_Some}
-use Rattle.formula_lex.specs.declared.token.Span.{Span}
-use Rattle.formula_lex.specs.declared.token.Kind.{Kind}
-use Rattle.formula_lex.specs.declared.token.Kind.TheVariants.{Name, Semicolon, Assign}
-use Rattle.formula_lex.specs.declared.token.Token.{Token}
+use Rattle.formula_trees.specs.declared.token.Span.{Span}
+use Rattle.formula_trees.specs.declared.token.Kind.{Kind}
+use Rattle.formula_trees.specs.declared.token.Kind.TheVariants.{Name, Semicolon, Assign}
+use Rattle.formula_trees.specs.declared.token.Token.{Token}
 use Rattle.formula_trees.specs.Tree.{Tree}
 use Rattle.formula_trees.specs.Grammar.{at, Reads}
 use Rattle.formula_trees.specs.Formula.{StatementTree, Drops, ReadsStatement, sets, drops, ReadsFormula, empty, last, then}

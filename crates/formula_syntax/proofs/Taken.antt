@@ -2,8 +2,8 @@
 use Rattle.std.proofs.Common.{◌≡◌, ◌⊎◌, ℕ, Bool, true, false, List, [], ◌∷◌, Option, Some, None, Result, Err, cond, inl, inr, ⊎_elim, refl, ap, ◌∙◌}
 use Rattle.std.specs.Prelude.{nat_lt}
 use Rattle.std.proofs.lemmas.Option.{same_Some}
-use Rattle.formula_lex.specs.Spans.{span_of}
-use Rattle.formula_lex.specs.declared.token.Token.{Token}
+use Rattle.formula_trees.specs.Spans.{span_of}
+use Rattle.formula_trees.specs.declared.token.Token.{Token}
 use Rattle.formula_trees.specs.declared.fault.SyntaxFault.{SyntaxFault}
 use Rattle.formula_trees.specs.declared.fault.TheConstants.{DEEPEST}
 use Rattle.formula_trees.specs.declared.fault.SyntaxFault.TheVariants.{TooDeep}

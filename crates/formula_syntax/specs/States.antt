@@ -1,5 +1,5 @@
 -- The states that the program's values represent.
-use Rattle.formula_lex.specs.declared.token.Span.{Span}
+use Rattle.formula_trees.specs.declared.token.Span.{Span}
 use Rattle.std.specs.Prelude.{◌≡◌, ℕ, Option, Some, None, Result, Ok, Err, [], ◌∷◌, true}
 use Rattle.formula_syntax.specs.declared.expression.Position.{Position}
 use Rattle.formula_syntax.specs.declared.expression.Position.TheVariants.{Want, First, Named, Have, Dotted}

@@ -1,6 +1,6 @@
 //! From tokens to the tree of an expression, in one pass with a stack.
 ghost use Rattle.std.specs.Prelude.{◌≡◌, ◌∷◌, ◌↔◌, true, false, IfOk, IsTrue, MatchOption};
-ghost use Rattle.formula_lex.specs.Spans.{span_of};
+ghost use Rattle.formula_trees.specs.Spans.{span_of};
 ghost use Rattle.formula_trees.specs.Grammar.{level_of};
 ghost use Rattle.formula_syntax.specs.Parser.{close as closed, begin as begun, begin_first as begun_first, act as acted, act_on, strength, step as stepped, select as selected, bare as bared, applied, grips, joined, on_comma, on_colon, on_close_group, on_close_list, no_arguments, no_items_in};
 ghost use Rattle.formula_syntax.specs.Parser as parser;
@@ -14,8 +14,7 @@ ghost use Rattle.formula_syntax.specs.States.{Takes, state_of, CompletesLast};
 
 use crate::stack::{Callee, Frame, Stack};
 use bt_base::{Fail, Num};
-use formula_lex::{BinaryOperator, Kind, Span, Token};
-use formula_trees::{Expr, SyntaxFault, UnaryOperator};
+use formula_trees::{BinaryOperator, Expr, Kind, Span, SyntaxFault, Token, UnaryOperator};
 use std::alloc::{AllocError, Global};
 
 /// The place in an expression: where an operand has to begin, where the first item or none may follow, after a name, after an operand,

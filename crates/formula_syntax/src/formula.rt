@@ -4,10 +4,10 @@ ghost use Rattle.formula_trees.specs.declared.fault.SyntaxFault.{SyntaxFault as 
 ghost use Rattle.bt_base.specs.declared.fail.Fail.TheVariants.{Why as AWhy};
 ghost use Rattle.formula_trees.specs.declared.fault.SyntaxFault.TheVariants.{UnexpectedToken, TooDeep};
 ghost use Rattle.std.specs.Option.{option_map};
-ghost use Rattle.formula_lex.specs.Spans.{span_of};
+ghost use Rattle.formula_trees.specs.Spans.{span_of};
 ghost use Rattle.formula_syntax.specs.Parser as parser;
 ghost use Rattle.formula_syntax.specs.Whole as whole;
-ghost use Rattle.formula_lex.specs.declared.token.Token.{Token as AToken};
+ghost use Rattle.formula_trees.specs.declared.token.Token.{Token as AToken};
 ghost use Rattle.formula_trees.specs.Formula.{StatementTree as AStep, ReadsFormula};
 ghost use Rattle.formula_syntax.specs.Parser.{depth_of, step as stepped, settled};
 ghost use Rattle.formula_syntax.specs.Parser.{Have};
@@ -21,8 +21,7 @@ ghost use Rattle.formula_syntax.specs.Wholes.{AnswersParsed, Ends, TakesShallow,
 use crate::expression::{Position, bare, close, step};
 use crate::stack::{Callee, Stack};
 use bt_base::Fail;
-use formula_lex::{Kind, Span, Token};
-use formula_trees::{DEEPEST, Expr, Statement, SyntaxFault};
+use formula_trees::{DEEPEST, Expr, Kind, Span, Statement, SyntaxFault, Token};
 use std::alloc::{AllocError, Global};
 
 /// The name that a statement sets.

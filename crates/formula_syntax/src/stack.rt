@@ -3,8 +3,7 @@ ghost use Rattle.formula_syntax.specs.Parser.{depth_of};
 ghost use Rattle.formula_syntax.specs.Frames.{frames_of};
 ghost use Rattle.std.specs.Prelude.{◌≡◌, ◌≤◌, [], ◌∷◌, OnOk, MatchOption, IsTrue, ◌↔◌};
 
-use formula_lex::{BinaryOperator, Span};
-use formula_trees::{Expr, UnaryOperator};
+use formula_trees::{BinaryOperator, Expr, Span, UnaryOperator};
 use std::alloc::{AllocError, Global};
 
 /// A name that was read, of itself or of a member.

@@ -1,6 +1,6 @@
 -- The trees of the items of a call, a method or a list.
 use Rattle.std.proofs.Common.{◌≡◌, List, [], ◌∷◌, ◌++◌, refl, ap, ◌∙◌}
-use Rattle.formula_lex.specs.declared.token.Span.{Span}
+use Rattle.formula_trees.specs.declared.token.Span.{Span}
 use Rattle.std.specs.declared.alloc.Global.{Global}
 use Rattle.std.specs.declared.vec.Vec.{Vec}
 use mathlib.Core.Former.{Count}

@@ -1,8 +1,8 @@
 -- A formula: statements that are separated by `;`, with one more `;` after the last or not. It may be empty.
 use Rattle.std.specs.Prelude.{List, [], ◌∷◌, ◌++◌}
-use Rattle.formula_lex.specs.declared.token.Span.{Span}
-use Rattle.formula_lex.specs.declared.token.Kind.TheVariants.{Name, Assign, Semicolon}
-use Rattle.formula_lex.specs.declared.token.Token.{Token}
+use Rattle.formula_trees.specs.declared.token.Span.{Span}
+use Rattle.formula_trees.specs.declared.token.Kind.TheVariants.{Name, Assign, Semicolon}
+use Rattle.formula_trees.specs.declared.token.Token.{Token}
 use Rattle.formula_trees.specs.Tree.{Tree}
 use Rattle.formula_trees.specs.Grammar.{at, Reads}
 

@@ -1,3 +1,9 @@
+pub mod Lexing
+pub mod Pieces
+pub mod Spans
+pub mod Names
+pub mod Operators
+pub mod Signatures
 pub mod Formula
 pub mod Grammar
 pub mod Table

@@ -1,6 +1,6 @@
 -- The one reading of the tokens, and the first fault of a text.
 use Rattle.std.specs.Prelude.{◌≡◌, ℕ, List, [], Option}
-use Rattle.formula_lex.specs.declared.token.Token.{Token}
+use Rattle.formula_trees.specs.declared.token.Token.{Token}
 use Rattle.formula_trees.specs.declared.fault.SyntaxFault.{SyntaxFault}
 use Rattle.formula_trees.specs.Formula.{StatementTree, ReadsFormula}
 use Rattle.formula_trees.specs.Table.{Start, first_fault}

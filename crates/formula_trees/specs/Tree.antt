@@ -1,8 +1,8 @@
 -- The tree of an expression. A node has the part of the text that is its token: its literal, its name, its operator or its
 -- `[`; a ternary has its `?`. A group has no node of its own.
 use Rattle.std.specs.Prelude.{ℤ}
-use Rattle.formula_lex.specs.declared.token.Span.{Span}
-use Rattle.formula_lex.specs.declared.token.BinaryOperator.{BinaryOperator}
+use Rattle.formula_trees.specs.declared.token.Span.{Span}
+use Rattle.formula_trees.specs.declared.token.BinaryOperator.{BinaryOperator}
 use Rattle.formula_trees.specs.declared.tree.UnaryOperator.{UnaryOperator}
 
 mutual

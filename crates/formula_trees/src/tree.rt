@@ -1,7 +1,7 @@
 //! Trees of expressions and statements.
 
+use crate::token::{BinaryOperator, Span};
 use bt_base::Num;
-use formula_lex::{BinaryOperator, Span};
 
 /// A unary operator.
 #[derive(Clone, Copy, PartialEq, Eq, Debug)]

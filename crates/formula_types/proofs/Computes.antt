@@ -4,8 +4,8 @@ use Rattle.bt_base.specs.Fails.{◌>>=◌, GivesAs}
 use Rattle.bt_base.specs.declared.fail.Fail.{Fail}
 use Rattle.bt_base.specs.declared.fail.Fail.TheVariants.{Memory, Why}
 use Rattle.bt_base.specs.declared.formula_fault.FormulaFault.{FormulaFault}
-use Rattle.formula_lex.specs.declared.token.Token.{Token}
-use Rattle.formula_lex.specs.Lexing.{lexed}
+use Rattle.formula_trees.specs.declared.token.Token.{Token}
+use Rattle.formula_trees.specs.Lexing.{lexed}
 use Rattle.formula_trees.specs.declared.fault.SyntaxFault.{SyntaxFault}
 use Rattle.formula_trees.specs.Formula.{StatementTree}
 use Rattle.formula_trees.specs.TheFormula.{fault_in}

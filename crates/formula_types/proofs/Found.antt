@@ -1,16 +1,16 @@
 -- The parts of a step whose result is a value or a type.
 use Rattle.std.proofs.Common.{◌≡◌, Bool, true, false, cond, List, Option, Some, None, Result, Ok, Err, is_some, refl, ap}
 use Rattle.bt_base.specs.Fails.{◌>>=◌}
-use Rattle.formula_lex.specs.declared.token.Span.{Span}
-use Rattle.formula_names.specs.declared.names.Function.{Function}
-use Rattle.formula_names.specs.declared.names.Member.{Member as AMember}
-use Rattle.formula_names.specs.declared.names.Method.{Method as AMethod}
+use Rattle.formula_trees.specs.declared.token.Span.{Span}
+use Rattle.formula_trees.specs.declared.names.Function.{Function}
+use Rattle.formula_trees.specs.declared.names.Member.{Member as AMember}
+use Rattle.formula_trees.specs.declared.names.Method.{Method as AMethod}
 use Rattle.bt_base.specs.declared.pool_metric.Metric.{Metric}
-use Rattle.formula_names.specs.declared.value_types.ValueType.{ValueType}
-use Rattle.formula_names.specs.declared.value_types.ValueType.TheVariants.{Double, DoubleVec, Text, Timestamp, TimeInterval}
-use Rattle.formula_names.specs.declared.value_types.ExprType.{ExprType}
-use Rattle.formula_names.specs.declared.value_types.ExprType.TheVariants.{Value, Stop}
-use Rattle.formula_names.specs.Signatures.{is_timestamp, function_takes, function_result, method_takes, method_result}
+use Rattle.formula_trees.specs.declared.value_types.ValueType.{ValueType}
+use Rattle.formula_trees.specs.declared.value_types.ValueType.TheVariants.{Double, DoubleVec, Text, Timestamp, TimeInterval}
+use Rattle.formula_trees.specs.declared.value_types.ExprType.{ExprType}
+use Rattle.formula_trees.specs.declared.value_types.ExprType.TheVariants.{Value, Stop}
+use Rattle.formula_trees.specs.Signatures.{is_timestamp, function_takes, function_result, method_takes, method_result}
 use Rattle.formula_types.specs.Typing.{or_mismatch, name_at, call_at, member_at, method_at}
 
 abbrev value_or : {A E : Type 0} → A → Result A E → A

@@ -9,7 +9,7 @@ use Rattle.bt_base.specs.Fails.{◌>>=◌, Fails}
 use Rattle.formula_trees.specs.declared.tree.Expr.{Expr}
 use Rattle.formula_trees.specs.Tree.{Tree, Numeral, Quoted, Variable, Call, Vector, Member, Method, Unary, Binary, Ternary, Trees, none, more}
 use Rattle.formula_trees.specs.View.{tree_of, trees_after, trees_of}
-use Rattle.formula_names.specs.declared.value_types.ExprType.{ExprType}
+use Rattle.formula_trees.specs.declared.value_types.ExprType.{ExprType}
 use Rattle.formula_types.specs.Scopes as scopes
 use Rattle.formula_types.specs.Typing.{type_of, types_of}
 use Rattle.formula_types.specs.Nodes.{first_of, node_type, through, types_after}

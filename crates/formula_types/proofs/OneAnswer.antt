@@ -1,8 +1,8 @@
 -- A text is one formula, or it has one first fault.
 use Rattle.std.proofs.Common.{◌≡◌, ◌⊎◌, ℕ, List, length, Option, Some, None, Result, Ok, Err, inl, inr, is_ok, refl, ap}
-use Rattle.formula_lex.specs.declared.token.Token.{Token}
-use Rattle.formula_lex.specs.declared.fault.LexFault.{LexFault}
-use Rattle.formula_lex.specs.Lexing.{lexed}
+use Rattle.formula_trees.specs.declared.token.Token.{Token}
+use Rattle.formula_trees.specs.declared.lex_fault.LexFault.{LexFault}
+use Rattle.formula_trees.specs.Lexing.{lexed}
 use Rattle.formula_trees.specs.declared.fault.SyntaxFault.{SyntaxFault}
 use Rattle.formula_trees.specs.Formula.{StatementTree}
 use Rattle.formula_trees.specs.TheFormula.{fault_in}

@@ -2,16 +2,16 @@
 use Rattle.std.proofs.Common.{◌≡◌, ℕ, Bool, true, cond, List, [], ◌∷◌, ◌++◌, Some, Ok, Err, is_some, refl, ap, ◌∙◌, subst}
 use Rattle.std.specs.List.{list_all}
 use Rattle.bt_base.specs.Fails.{◌>>=◌}
-use Rattle.formula_lex.specs.declared.token.Span.{Span}
+use Rattle.formula_trees.specs.declared.token.Span.{Span}
 use Rattle.formula_trees.specs.Tree.{Tree, Numeral, Quoted, Variable, Call, Vector, Member, Method, Unary, Binary, Ternary, Trees, none, more}
-use Rattle.formula_names.specs.declared.names.Method.{Method as AMethod}
+use Rattle.formula_trees.specs.declared.names.Method.{Method as AMethod}
 use Rattle.bt_base.specs.declared.pool_metric.Metric.{Metric}
-use Rattle.formula_names.specs.declared.value_types.ValueType.TheVariants.{Double, DoubleVec, Timestamp}
-use Rattle.formula_names.specs.declared.value_types.ExprType.{ExprType}
-use Rattle.formula_names.specs.declared.value_types.ExprType.TheVariants.{Value}
-use Rattle.formula_names.specs.Names.{metric_named, function_named, method_named, member_named, fixed_type}
-use Rattle.formula_names.specs.Operators.{unary_type, binary_type, ternary_type}
-use Rattle.formula_names.specs.Signatures.{is_double, function_takes, function_result, method_takes, method_result}
+use Rattle.formula_trees.specs.declared.value_types.ValueType.TheVariants.{Double, DoubleVec, Timestamp}
+use Rattle.formula_trees.specs.declared.value_types.ExprType.{ExprType}
+use Rattle.formula_trees.specs.declared.value_types.ExprType.TheVariants.{Value}
+use Rattle.formula_trees.specs.Names.{metric_named, function_named, method_named, member_named, fixed_type}
+use Rattle.formula_trees.specs.Operators.{unary_type, binary_type, ternary_type}
+use Rattle.formula_trees.specs.Signatures.{is_double, function_takes, function_result, method_takes, method_result}
 use Rattle.formula_types.specs.declared.fault.TypeFault.TheVariants.{TypeMismatch, WrongArguments}
 use Rattle.formula_types.specs.Scopes as scopes
 use Rattle.formula_types.specs.Scopes.{part, name_type, or_else}

@@ -2,10 +2,10 @@
 use Rattle.std.specs.Prelude.{◌≡◌, ℕ, Bool, true, List, length, Some, None, Result, Ok, Err, is_ok}
 use Rattle.bt_base.specs.declared.fail.Fail.{Fail}
 use Rattle.bt_base.specs.declared.fail.Fail.TheVariants.{Memory, Why}
-use Rattle.formula_lex.specs.declared.fault.LexFault.{LexFault}
-use Rattle.formula_lex.specs.declared.fault.LexFault.TheVariants as lexical
-use Rattle.formula_lex.specs.declared.token.Token.{Token}
-use Rattle.formula_lex.specs.Lexing.{lexed}
+use Rattle.formula_trees.specs.declared.lex_fault.LexFault.{LexFault}
+use Rattle.formula_trees.specs.declared.lex_fault.LexFault.TheVariants as lexical
+use Rattle.formula_trees.specs.declared.token.Token.{Token}
+use Rattle.formula_trees.specs.Lexing.{lexed}
 use Rattle.formula_trees.specs.declared.fault.SyntaxFault.{SyntaxFault}
 use Rattle.formula_trees.specs.declared.fault.SyntaxFault.TheVariants as syntactic
 use Rattle.formula_trees.specs.Formula.{StatementTree}

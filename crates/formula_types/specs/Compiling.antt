@@ -3,8 +3,8 @@
 use Rattle.std.specs.Prelude.{◌≡◌, ℕ, List, [], length, Result, Ok, Err}
 use Rattle.bt_base.specs.Fails.{◌>>=◌}
 use Rattle.bt_base.specs.declared.formula_fault.FormulaFault.{FormulaFault}
-use Rattle.formula_lex.specs.declared.token.Token.{Token}
-use Rattle.formula_lex.specs.Lexing.{lexed}
+use Rattle.formula_trees.specs.declared.token.Token.{Token}
+use Rattle.formula_trees.specs.Lexing.{lexed}
 use Rattle.formula_trees.specs.Formula.{StatementTree}
 use Rattle.formula_syntax.specs.Whole.{Between, parsed}
 use Rattle.formula_types.specs.Scopes.{nothing}

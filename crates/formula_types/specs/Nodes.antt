@@ -5,9 +5,9 @@ use Rattle.bt_base.specs.Fails.{◌>>=◌}
 use Rattle.formula_trees.specs.declared.tree.Expr.{Expr}
 use Rattle.formula_trees.specs.Tree.{Tree, Member, Method, Unary, Binary, Ternary}
 use Rattle.formula_trees.specs.View.{tree_of}
-use Rattle.formula_names.specs.declared.value_types.ExprType.{ExprType}
-use Rattle.formula_names.specs.Names.{member_named, method_named}
-use Rattle.formula_names.specs.Operators.{unary_type, binary_type, ternary_type}
+use Rattle.formula_trees.specs.declared.value_types.ExprType.{ExprType}
+use Rattle.formula_trees.specs.Names.{member_named, method_named}
+use Rattle.formula_trees.specs.Operators.{unary_type, binary_type, ternary_type}
 use Rattle.formula_types.specs.Scopes as scopes
 use Rattle.formula_types.specs.Scopes.{part}
 use Rattle.formula_types.specs.Typing.{type_of, types_of, or_mismatch, member_at, method_at, is_metric}

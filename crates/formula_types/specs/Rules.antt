@@ -1,21 +1,21 @@
 -- The types of expressions as rules, one for each kind of node.
 use Rattle.std.specs.Prelude.{◌≡◌, ℕ, ℤ, true, List, [], ◌∷◌, ◌++◌, Some}
 use Rattle.std.specs.List.{list_all}
-use Rattle.formula_lex.specs.declared.token.Span.{Span}
-use Rattle.formula_lex.specs.declared.token.BinaryOperator.{BinaryOperator}
+use Rattle.formula_trees.specs.declared.token.Span.{Span}
+use Rattle.formula_trees.specs.declared.token.BinaryOperator.{BinaryOperator}
 use Rattle.formula_trees.specs.declared.tree.UnaryOperator.{UnaryOperator}
 use Rattle.formula_trees.specs.Tree.{Tree, Numeral, Quoted, Variable, Call, Vector, Member, Method, Unary, Binary, Ternary, Trees, none, more}
-use Rattle.formula_names.specs.declared.names.Function.{Function}
-use Rattle.formula_names.specs.declared.names.Member.{Member as AMember}
-use Rattle.formula_names.specs.declared.names.Method.{Method as AMethod}
+use Rattle.formula_trees.specs.declared.names.Function.{Function}
+use Rattle.formula_trees.specs.declared.names.Member.{Member as AMember}
+use Rattle.formula_trees.specs.declared.names.Method.{Method as AMethod}
 use Rattle.bt_base.specs.declared.pool_metric.Metric.{Metric}
-use Rattle.formula_names.specs.declared.value_types.ValueType.{ValueType}
-use Rattle.formula_names.specs.declared.value_types.ValueType.TheVariants.{Double, DoubleVec, Text, Timestamp}
-use Rattle.formula_names.specs.declared.value_types.ExprType.{ExprType}
-use Rattle.formula_names.specs.declared.value_types.ExprType.TheVariants.{Value}
-use Rattle.formula_names.specs.Names.{metric_named, function_named, method_named, member_named}
-use Rattle.formula_names.specs.Operators.{unary_type, binary_type, ternary_type}
-use Rattle.formula_names.specs.Signatures.{is_double, function_takes, function_result, method_takes, method_result}
+use Rattle.formula_trees.specs.declared.value_types.ValueType.{ValueType}
+use Rattle.formula_trees.specs.declared.value_types.ValueType.TheVariants.{Double, DoubleVec, Text, Timestamp}
+use Rattle.formula_trees.specs.declared.value_types.ExprType.{ExprType}
+use Rattle.formula_trees.specs.declared.value_types.ExprType.TheVariants.{Value}
+use Rattle.formula_trees.specs.Names.{metric_named, function_named, method_named, member_named}
+use Rattle.formula_trees.specs.Operators.{unary_type, binary_type, ternary_type}
+use Rattle.formula_trees.specs.Signatures.{is_double, function_takes, function_result, method_takes, method_result}
 use Rattle.formula_types.specs.Scopes as scopes
 use Rattle.formula_types.specs.Scopes.{part, name_type}
 

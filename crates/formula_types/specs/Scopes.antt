@@ -1,9 +1,9 @@
 -- The parts of a formula's text, and the names that were set in it so far.
 use Rattle.std.specs.Prelude.{ℕ, ◌-◌, List, take, drop, Option, Some, None, if◌then◌else◌}
 use Rattle.std.specs.Str.{bytes_eq}
-use Rattle.formula_lex.specs.declared.token.Span.{Span}
-use Rattle.formula_names.specs.declared.value_types.ValueType.{ValueType}
-use Rattle.formula_names.specs.Names.{fixed_type}
+use Rattle.formula_trees.specs.declared.token.Span.{Span}
+use Rattle.formula_trees.specs.declared.value_types.ValueType.{ValueType}
+use Rattle.formula_trees.specs.Names.{fixed_type}
 
 -- a part of a text
 abbrev pub part : List ℕ → Span → List ℕ

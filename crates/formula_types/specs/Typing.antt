@@ -3,19 +3,19 @@
 use Rattle.std.specs.Prelude.{ℕ, Bool, true, false, List, [], ◌∷◌, ◌++◌, Option, Some, None, Result, Ok, Err, is_some, if◌then◌else◌}
 use Rattle.std.specs.List.{list_all}
 use Rattle.bt_base.specs.Fails.{◌>>=◌}
-use Rattle.formula_lex.specs.declared.token.Span.{Span}
+use Rattle.formula_trees.specs.declared.token.Span.{Span}
 use Rattle.formula_trees.specs.Tree.{Tree, Numeral, Quoted, Variable, Call, Vector, Member, Method, Unary, Binary, Ternary, Trees, none, more}
 use Rattle.formula_trees.specs.Formula.{StatementTree, Sets, Drops}
-use Rattle.formula_names.specs.declared.names.Function.{Function}
-use Rattle.formula_names.specs.declared.names.Method.{Method as AMethod}
-use Rattle.formula_names.specs.declared.names.Member.{Member as AMember}
-use Rattle.formula_names.specs.declared.value_types.ValueType.{ValueType}
-use Rattle.formula_names.specs.declared.value_types.ValueType.TheVariants.{Double, DoubleVec, Text}
-use Rattle.formula_names.specs.declared.value_types.ExprType.{ExprType}
-use Rattle.formula_names.specs.declared.value_types.ExprType.TheVariants.{Value, Stop}
-use Rattle.formula_names.specs.Names.{metric_named, function_named, method_named, member_named, is_read_only}
-use Rattle.formula_names.specs.Operators.{unary_type, binary_type, ternary_type, common_type}
-use Rattle.formula_names.specs.Signatures.{is_double, is_timestamp, function_takes, function_result, method_takes, method_result}
+use Rattle.formula_trees.specs.declared.names.Function.{Function}
+use Rattle.formula_trees.specs.declared.names.Method.{Method as AMethod}
+use Rattle.formula_trees.specs.declared.names.Member.{Member as AMember}
+use Rattle.formula_trees.specs.declared.value_types.ValueType.{ValueType}
+use Rattle.formula_trees.specs.declared.value_types.ValueType.TheVariants.{Double, DoubleVec, Text}
+use Rattle.formula_trees.specs.declared.value_types.ExprType.{ExprType}
+use Rattle.formula_trees.specs.declared.value_types.ExprType.TheVariants.{Value, Stop}
+use Rattle.formula_trees.specs.Names.{metric_named, function_named, method_named, member_named, is_read_only}
+use Rattle.formula_trees.specs.Operators.{unary_type, binary_type, ternary_type, common_type}
+use Rattle.formula_trees.specs.Signatures.{is_double, is_timestamp, function_takes, function_result, method_takes, method_result}
 use Rattle.formula_types.specs.Scopes as scopes
 use Rattle.formula_types.specs.Scopes.{part, name_type, with_variable}
 use Rattle.formula_types.specs.declared.fault.TypeFault.{TypeFault}

@@ -1,7 +1,7 @@
 //! From a text to its formula, or to its first fault.
 ghost use Rattle.std.specs.Prelude.{◌≡◌, ◌⊎◌, ℕ, List, Ok, IfOk, true};
-ghost use Rattle.formula_lex.specs.Lexing.{lexed};
-ghost use Rattle.formula_lex.specs.declared.token.Token.{Token as AToken};
+ghost use Rattle.formula_trees.specs.Lexing.{lexed};
+ghost use Rattle.formula_trees.specs.declared.token.Token.{Token as AToken};
 ghost use Rattle.formula_trees.specs.Formula.{StatementTree};
 ghost use Rattle.formula_trees.specs.View.{statements_of};
 ghost use Rattle.bt_base.specs.Fails.{GivesAs};
@@ -13,9 +13,8 @@ use crate::fault::{FormulaFault, of_lexical, of_syntax, of_type};
 use crate::formula::Formula;
 use crate::statement::check;
 use bt_base::{Fail, NoMemory, Text};
-use formula_lex::{Token, lex};
+use formula_trees::{Statement, Token, lex};
 use formula_syntax::parse;
-use formula_trees::Statement;
 use std::alloc::Global;
 
 /// The tokens of a text.

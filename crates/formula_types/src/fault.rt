@@ -3,8 +3,7 @@ ghost use Rattle.std.specs.Prelude.{◌≡◌};
 ghost use Rattle.formula_types.specs.Compiled.{of_lexical, of_syntax, of_type};
 
 pub use bt_base::FormulaFault;
-use formula_lex::LexFault;
-use formula_trees::SyntaxFault;
+use formula_trees::{LexFault, SyntaxFault};
 
 /// The first fault of a formula's types, with its place, which counts the text's bytes from 0.
 #[derive(Clone, Copy, PartialEq, Eq, Debug)]

@@ -3,8 +3,7 @@ ghost use Rattle.std.specs.Prelude.{◌≡◌, OnOk};
 ghost use Rattle.formula_types.specs.Scopes.{part, nothing, name_type, with_variable};
 
 use bt_base::NoMemory;
-use formula_lex::Span;
-use formula_names::{ValueType, fixed_type};
+use formula_trees::{Span, ValueType, fixed_type};
 use std::alloc::Global;
 use std::collections::BTreeMap;
 

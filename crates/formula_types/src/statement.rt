@@ -3,16 +3,14 @@ ghost use Rattle.bt_base.specs.Fails.{GivesAs};
 ghost use Rattle.formula_trees.specs.View.{statement_of, statements_of};
 ghost use Rattle.formula_types.specs.Typing.{assigned, set_to, statement_typed, typed};
 ghost use Rattle.formula_types.specs.View.{types_in};
-ghost use Rattle.formula_names.specs.declared.value_types.ExprType.TheVariants.{Value};
+ghost use Rattle.formula_trees.specs.declared.value_types.ExprType.TheVariants.{Value};
 ghost use Rattle.formula_types.specs.Scopes.{nothing};
 
 use crate::fault::TypeFault;
 use crate::scope::{Scope, part};
 use crate::typing::type_of;
 use bt_base::Fail;
-use formula_lex::Span;
-use formula_names::{ExprType, ValueType, common_type, is_read_only};
-use formula_trees::Statement;
+use formula_trees::{ExprType, Span, Statement, ValueType, common_type, is_read_only};
 use std::alloc::Global;
 
 /// Sets the name at this part of the text to a value of this type. Before, it has to have no value or one of that type.

@@ -3,8 +3,8 @@ ghost use Rattle.std.specs.Prelude.{◌≡◌, ◌↔◌, ◌<◌, ◌≤◌, �
 ghost use Rattle.bt_base.specs.Fails.{Gives, GivesAs};
 ghost use Rattle.formula_trees.specs.declared.tree.Expr.{size-Expr};
 ghost use Rattle.formula_trees.specs.View.{tree_of, trees_of};
-ghost use Rattle.formula_names.specs.declared.value_types.ExprType.{ExprType as AType};
-ghost use Rattle.formula_names.specs.Names.{function_named, member_named, method_named};
+ghost use Rattle.formula_trees.specs.declared.value_types.ExprType.{ExprType as AType};
+ghost use Rattle.formula_trees.specs.Names.{function_named, member_named, method_named};
 ghost use Rattle.formula_types.specs.Scopes as scopes;
 ghost use Rattle.formula_types.specs.Scopes.{part as part_of};
 ghost use Rattle.formula_types.specs.Typing.{type_of, types_of, or_mismatch, name_at, call_at, list_at, member_at, method_at, is_metric};
@@ -16,13 +16,7 @@ ghost use Rattle.formula_trees.specs.Tree.{Tree};
 use crate::fault::TypeFault;
 use crate::scope::{Scope, part};
 use bt_base::Fail;
-use formula_lex::Span;
-use formula_names::{
-    ExprType, ValueType, are_doubles, binary_type, function_named, function_result, function_takes,
-    is_timestamp, member_named, method_named, method_result, method_takes, metric_named,
-    ternary_type, unary_type,
-};
-use formula_trees::Expr;
+use formula_trees::{Expr, ExprType, Span, ValueType, are_doubles, binary_type, function_named, function_result, function_takes, is_timestamp, member_named, method_named, method_result, method_takes, metric_named, ternary_type, unary_type};
 use std::alloc::{AllocError, Global};
 
 /// The type of an operator's result, unless its operands do not go together.

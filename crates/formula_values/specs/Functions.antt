@@ -7,8 +7,8 @@ use Rattle.bt_base.specs.Numbers.{bounded, cut, whole_number, difference_of}
 use Rattle.bt_times.specs.declared.fault.TimeFault.{TimeFault}
 use Rattle.bt_times.specs.declared.fault.TimeFault.TheVariants.{OutOfRange}
 use Rattle.bt_times.specs.Instants.{read_instant}
-use Rattle.formula_names.specs.declared.names.Function.{Function}
-use Rattle.formula_names.specs.declared.names.Function.TheVariants as functions
+use Rattle.formula_trees.specs.declared.names.Function.{Function}
+use Rattle.formula_trees.specs.declared.names.Function.TheVariants as functions
 use Rattle.formula_values.specs.declared.fault.ValueFault.{ValueFault}
 use Rattle.formula_values.specs.declared.fault.ValueFault.TheVariants.{EmptyVector, IndexOutOfRange, BadTimeText, TimeOutOfRange}
 use Rattle.formula_values.specs.declared.value.Value.{Value}

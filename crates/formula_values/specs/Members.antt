@@ -2,8 +2,8 @@
 use Rattle.std.specs.Prelude.{ℕ, unsigned_abs}
 use Rattle.bt_times.specs.declared.parts.Civil.{Civil}
 use Rattle.bt_times.specs.Civils.{civil_of}
-use Rattle.formula_names.specs.declared.names.Member.{Member}
-use Rattle.formula_names.specs.declared.names.Member.TheVariants.{Year, Month, Day, Weekday, Hour, Minute, Second}
+use Rattle.formula_trees.specs.declared.names.Member.{Member}
+use Rattle.formula_trees.specs.declared.names.Member.TheVariants.{Year, Month, Day, Weekday, Hour, Minute, Second}
 use Rattle.formula_values.specs.declared.value.Value.{Value}
 use Rattle.formula_values.specs.declared.value.Value.TheVariants.{Timestamp}
 use Rattle.formula_values.specs.Values.{whole_value}

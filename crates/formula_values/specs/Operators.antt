@@ -7,8 +7,8 @@ use Rattle.std.specs.Cmp.Lexicographic.{slice_cmp}
 use Rattle.bt_base.specs.Fails.{◌>>=◌}
 use Rattle.bt_base.specs.Numbers.{cut, sum_of, difference_of, product_of, quotient_of}
 use Rattle.bt_base.specs.declared.number.NumFault.{NumFault}
-use Rattle.formula_lex.specs.declared.token.BinaryOperator.{BinaryOperator}
-use Rattle.formula_lex.specs.declared.token.BinaryOperator.TheVariants as operators
+use Rattle.formula_trees.specs.declared.token.BinaryOperator.{BinaryOperator}
+use Rattle.formula_trees.specs.declared.token.BinaryOperator.TheVariants as operators
 use Rattle.formula_trees.specs.declared.tree.UnaryOperator.{UnaryOperator}
 use Rattle.formula_trees.specs.declared.tree.UnaryOperator.TheVariants.{Negate, Invert}
 use Rattle.formula_values.specs.declared.fault.ValueFault.{ValueFault}

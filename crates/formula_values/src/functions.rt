@@ -15,7 +15,7 @@ use crate::times::{Timestamp, timestamp_value};
 use crate::value::{Value, whole};
 use bt_base::{Fail, Moment, Num};
 use bt_times::{TimeFault, instant};
-use formula_names::Function;
+use formula_trees::Function;
 use std::alloc::Global;
 
 /// The result of a function at this moment with these arguments. `EmptyVector`, `IndexOutOfRange`, `TooLarge`, `BadTimeText` and

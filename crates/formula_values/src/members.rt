@@ -4,7 +4,7 @@ ghost use Rattle.formula_values.specs.Members.{member_value, member_of as part_s
 
 use crate::value::{Value, whole};
 use bt_times::{Civil, civil};
-use formula_names::Member;
+use formula_trees::Member;
 
 /// The value of a member: a part of what calendars and clocks in UTC show at a timestamp. It does not allocate.
 pub fn member(member: Member, operand: &Value) -> Value

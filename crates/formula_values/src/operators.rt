@@ -10,8 +10,7 @@ use crate::fault::ValueFault;
 use crate::times::{TimeInterval, interval_value, timestamp_value};
 use crate::value::{Value, whole};
 use bt_base::{Duplicate, Fail, Num};
-use formula_lex::BinaryOperator;
-use formula_trees::UnaryOperator;
+use formula_trees::{BinaryOperator, UnaryOperator};
 use std::alloc::Global;
 use std::cmp::Ordering;
 

@@ -6,10 +6,10 @@ use Rattle.bt_base.specs.declared.dealloc_option.Dealloc.{Dealloc}
 use Rattle.bt_base.specs.declared.formula_fault.FormulaFault.{FormulaFault}
 use Rattle.bt_base.specs.DeallocOptions.{option_named}
 use Rattle.bt_rows.specs.Ranges.{is_slot_count, is_target}
-use Rattle.formula_lex.specs.declared.token.Span.{Span}
-use Rattle.formula_names.specs.declared.names.Setting.{Setting}
-use Rattle.formula_names.specs.declared.names.Setting.TheVariants.{DedicatedNodes, LowPriorityNodes, Deallocation}
-use Rattle.formula_names.specs.Names.{setting_named}
+use Rattle.formula_trees.specs.declared.token.Span.{Span}
+use Rattle.formula_trees.specs.declared.names.Setting.{Setting}
+use Rattle.formula_trees.specs.declared.names.Setting.TheVariants.{DedicatedNodes, LowPriorityNodes, Deallocation}
+use Rattle.formula_trees.specs.Names.{setting_named}
 use Rattle.formula_trees.specs.Formula.{StatementTree, Sets, Drops}
 use Rattle.formula_types.specs.Compiling.{compiled}
 use Rattle.formula_types.specs.Scopes.{part}

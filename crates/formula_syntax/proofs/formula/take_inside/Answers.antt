@@ -1,5 +1,5 @@
 use Rattle.std.proofs.Common.{subst}
-use Rattle.formula_lex.specs.Spans.{span_of}
+use Rattle.formula_trees.specs.Spans.{span_of}
 use Rattle.formula_syntax.specs.Whole.{Whole}
 use Rattle.std.proofs.Common.{Option}
 use Rattle.formula_syntax.specs.Wholes.{TakesWhole, target_of}

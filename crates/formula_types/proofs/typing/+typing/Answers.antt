@@ -7,8 +7,8 @@ use denote.Ref.{Bor}
 use Rattle.bt_base.specs.Fails.{Gives, GivesAs}
 use Rattle.formula_trees.specs.declared.tree.Expr.{Expr, size-Expr}
 use Rattle.formula_trees.specs.View.{tree_of, trees_of}
-use Rattle.formula_names.specs.declared.value_types.ExprType.{ExprType}
-use Rattle.formula_names.specs.Names.{method_named}
+use Rattle.formula_trees.specs.declared.value_types.ExprType.{ExprType}
+use Rattle.formula_trees.specs.Names.{method_named}
 use Rattle.formula_types.specs.declared.fault.TypeFault.{TypeFault}
 use Rattle.formula_types.specs.Scopes.{part}
 use Rattle.formula_types.specs.Typing.{type_of, types_of, is_metric, method_at}

@@ -3,7 +3,7 @@ use Rattle.std.proofs.lemmas.List.Elements.{All-push}
 use denote.Ref.{Bor}
 use Rattle.formula_trees.specs.declared.tree.Expr.{Expr, size-Expr}
 use Rattle.formula_trees.specs.View.{tree_of}
-use Rattle.formula_names.specs.declared.value_types.ExprType.TheVariants.{Stop}
+use Rattle.formula_trees.specs.declared.value_types.ExprType.TheVariants.{Stop}
 use Rattle.formula_types.specs.Typing.{type_of}
 use Rattle.formula_types.specs.Nodes.{through}
 use Rattle.formula_types.proofs.Nodes.{type_by_first, type_alone, through_push}

@@ -1,2 +1,0 @@
-pub mod Lexings
-pub mod Literals

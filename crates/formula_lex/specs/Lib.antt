@@ -1,3 +1,0 @@
-pub mod Lexing
-pub mod Pieces
-pub mod Spans

@@ -1,7 +1,0 @@
--- The parts of a text that tokens are.
-use Rattle.formula_lex.specs.declared.token.Span.{Span}
-use Rattle.formula_lex.specs.declared.token.Token.{Token}
-
--- the part that a token is
-abbrev pub span_of : Token → Span
-span_of t = record { from = t.from; to = t.to }

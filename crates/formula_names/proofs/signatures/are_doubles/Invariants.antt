@@ -1,7 +1,0 @@
-use Rattle.std.proofs.Common.{◌≡◌, true, take}
-use Rattle.std.specs.List.{list_all}
-use Rattle.formula_names.specs.Signatures.{is_double}
-use Rattle.formula_names.proofs.signatures.are_doubles.Given as goal
-
-abbrev pub invariant-loop-item : goal.invariant-loop-item
-invariant-loop-item l = list_all is_double (take l.item-index l.items) ≡ true
