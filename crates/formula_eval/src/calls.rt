@@ -13,7 +13,10 @@ use crate::context::EvalContext;
 use crate::fault::{EvalFault, Interrupt};
 use crate::names::name_value;
 use bt_base::{Fail, Moment};
-use formula_trees::{BinaryOperator, Expr, Function, Metric, Span, UnaryOperator, function_named, member_named, method_named, metric_named};
+use formula_trees::{
+    BinaryOperator, Expr, Function, Metric, Span, UnaryOperator, function_named, member_named,
+    method_named, metric_named,
+};
 use formula_types::part;
 use formula_values::{Value, ValueFault, binary, call, is_true, member, truth, unary, whole};
 use std::alloc::Global;

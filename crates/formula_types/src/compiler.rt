@@ -13,8 +13,8 @@ use crate::fault::{FormulaFault, of_lexical, of_syntax, of_type};
 use crate::formula::Formula;
 use crate::statement::check;
 use bt_base::{Fail, NoMemory, Text};
-use formula_trees::{Statement, Token, lex};
 use formula_syntax::parse;
+use formula_trees::{Statement, Token, lex};
 use std::alloc::Global;
 
 /// The tokens of a text.

@@ -16,7 +16,11 @@ ghost use Rattle.formula_trees.specs.Tree.{Tree};
 use crate::fault::TypeFault;
 use crate::scope::{Scope, part};
 use bt_base::Fail;
-use formula_trees::{Expr, ExprType, Span, ValueType, are_doubles, binary_type, function_named, function_result, function_takes, is_timestamp, member_named, method_named, method_result, method_takes, metric_named, ternary_type, unary_type};
+use formula_trees::{
+    Expr, ExprType, Span, ValueType, are_doubles, binary_type, function_named, function_result,
+    function_takes, is_timestamp, member_named, method_named, method_result, method_takes,
+    metric_named, ternary_type, unary_type,
+};
 use std::alloc::{AllocError, Global};
 
 /// The type of an operator's result, unless its operands do not go together.
