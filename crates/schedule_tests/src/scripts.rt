@@ -2,6 +2,7 @@
 
 use crate::runs::gives;
 use batch_cli::Status;
+use std::alloc::{AllocError, Global};
 use std::test::Fail;
 
 const POOL: &str = "0 add-pool {\"id\":\"p\",\"targetDedicatedNodes\":1}\n";
@@ -142,6 +143,51 @@ fn remaining_requests_are_repeated(rt: HostRuntime) -> Result<(), Fail> {
             &[],
             Status::JournalFull,
             FULL_OUTPUT
+        )?
+    );
+    Ok(())
+}
+
+/// So many schedules that begin a day later, another one with the id of the first, and its deletion.
+fn schedules(alloc: Global, count: u64) -> Result<String, AllocError> {
+    let mut script = String::new(alloc);
+    for n in 1..=count {
+        writeln!(
+            script,
+            "0 add-schedule {{\"id\":\"s{n}\",\"schedule\":{{\"doNotRunUntil\":\"1970-01-02T00:00:00Z\"}},\
+            \"jobSpecification\":{{\"poolInfo\":{{\"poolId\":\"p\"}}}}}}"
+        )?;
+    }
+    script.push_str(
+        "0 add-schedule {\"id\":\"S1\",\"jobSpecification\":{\"poolInfo\":{\"poolId\":\"p\"}}}\n0 delete-schedule s1\n",
+    )?;
+    Ok(script)
+}
+
+/// What 257 of them show: one is too many, and a schedule that is there is refused for that first.
+fn schedules_output(alloc: Global) -> Result<String, AllocError> {
+    let mut output = String::new(alloc);
+    for n in 1..=256_u64 {
+        writeln!(output, "{n} 201")?;
+    }
+    output.push_str(
+        "257 409 TableFull schedules 256\n258 409 ScheduleExists\n259 202\ntables 0\n",
+    )?;
+    Ok(output)
+}
+
+#[test]
+fn the_257th_schedule_is_refused(rt: HostRuntime) -> Result<(), Fail> {
+    let script = schedules(rt.alloc(), 257)?;
+    let output = schedules_output(rt.alloc())?;
+    assert!(rt;
+        gives(
+            rt.alloc(),
+            &["calendar"],
+            script.as_str(),
+            &[],
+            Status::Done,
+            output.as_str()
         )?
     );
     Ok(())
