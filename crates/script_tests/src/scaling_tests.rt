@@ -3,7 +3,10 @@ ghost use Rattle.std.specs.Prelude.{◌<◌, length};
 
 use crate::run_tests::{gives, run_anew, sure};
 use crate::script_tests::is_done;
+use crate::store_tests::{content_after, run_over, store_of};
 use batch_cli::Status;
+use bt_base::{NoMemory, Text};
+use keeper_store::{Entry, MetaName, Stored};
 use std::alloc::{AllocError, Global};
 use std::test::Fail;
 
@@ -288,5 +291,62 @@ fn the_newest_2880_samples_are_kept(rt: HostRuntime) -> Result<(), Fail> {
         scale p 900000 87330000\n"
         .as_slice();
     assert!(rt; shows_in_a_day(rt.alloc(), wanted)?);
+    Ok(())
+}
+
+/// A pool that scales, and is sampled at 0.
+const SCALING: &str =
+    "0 add-pool {\"id\":\"p\",\"enableAutoScale\":true,\"autoScaleFormula\":\"stop();\",\
+    \"autoScaleEvaluationInterval\":\"PT168H\"}\n";
+
+/// A sample of its active tasks with this label, as a store has it.
+fn sample_entry(alloc: Global, label: u64) -> Result<Entry, NoMemory> {
+    let key = format!(in alloc; "p/ActiveTasks/{label}")?;
+    let text = format!(in alloc; "[\"p\",\"ActiveTasks\",{label},0]")?;
+    Ok(Entry {
+        key: Text::of_string(key)?,
+        text: Text::of_string(text)?,
+    })
+}
+
+/// Adds such samples for the half minutes of a day after the first one.
+fn push_samples(alloc: Global, stored: &mut Stored) -> Result<(), NoMemory> {
+    for half in 1..=2_879_u64 {
+        let entry = sample_entry(alloc, half * 30_000)?;
+        stored.samples.push(entry)?;
+    }
+    stored.metas = stored.metas.with(MetaName::Moment, 86_370_000);
+    Ok(())
+}
+
+/// What a store contains with that pool and 2,880 samples of its active tasks.
+fn sampled_content(alloc: Global) -> Result<Stored, AllocError> {
+    let mut stored = content_after(alloc, SCALING)?;
+    match push_samples(alloc, &mut stored) {
+        Ok(()) => Ok(stored),
+        Err(NoMemory) => {
+            drop(stored);
+            Err(AllocError)
+        }
+    }
+}
+
+/// The next half minute, and how many samples there are then.
+const NEXT_SAMPLED: &str = "86400000 tick\n86400000 evaluate-autoscale p {\"autoScaleFormula\":\
+    \"a = [$ActiveTasks.Count(), $RunningTasks.Count()]; b = $ActiveTasks.HistoryBeginTime();\"}\n";
+
+const NEXT_SAMPLED_OUTPUT: &str = "1 200\n1 U1 p 86400000\n2 200 $TargetDedicatedNodes=0;\
+    $TargetLowPriorityNodes=0;$NodeDeallocationOption=requeue;$a=[2880,2];\
+    $b=1970-01-01T00:00:30.0000000Z\ntables 86400000\npool p active steady 0 0 1 spread\n\
+    scale p 604800000 604800000\n";
+
+/// The oldest sample of a metric goes when the pool is sampled and there are 2,880 of it already.
+#[test]
+fn a_pool_keeps_the_newest_2880_samples_of_a_metric(rt: HostRuntime) -> Result<(), Fail> {
+    let alloc = rt.alloc();
+    let store = store_of(alloc, sampled_content(alloc)?, 0)?;
+    let (status, output, store) = run_over(alloc, NEXT_SAMPLED, store)?;
+    drop(store);
+    assert!(rt; status == Status::Done && output.as_slice() == NEXT_SAMPLED_OUTPUT.as_bytes());
     Ok(())
 }

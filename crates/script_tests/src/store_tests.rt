@@ -157,7 +157,7 @@ const SCALING_SHOWN: [Shown; 6] = [
 ];
 
 /// A store of this content, of which this call fails.
-fn store_of(alloc: Global, stored: Stored, call: u64) -> Result<MemoryStore, AllocError> {
+pub fn store_of(alloc: Global, stored: Stored, call: u64) -> Result<MemoryStore, AllocError> {
     match vec![in alloc; call] {
         Ok(fails) => Ok(MemoryStore::new(stored, fails)),
         Err(_) => {
@@ -168,7 +168,7 @@ fn store_of(alloc: Global, stored: Stored, call: u64) -> Result<MemoryStore, All
 }
 
 /// The status and output of a script over this store, and the store that comes back.
-fn run_over(
+pub fn run_over(
     alloc: Global,
     script: &str,
     store: MemoryStore,
@@ -186,7 +186,7 @@ fn run_over(
 }
 
 /// What a store contains after this script, of which no call fails.
-fn content_after(alloc: Global, script: &str) -> Result<Stored, AllocError> {
+pub fn content_after(alloc: Global, script: &str) -> Result<Stored, AllocError> {
     let store = store_of(alloc, Stored::empty(alloc), 0)?;
     let (_status, _output, mut store) = run_over(alloc, script, store)?;
     let content = store.read(alloc);
